@@ -1,0 +1,9 @@
+use Rattle.std.specs.Prelude.{ℕ, List}
+use Rattle.port_signal.specs.declared.row.Outside.{Outside}
+use Rattle.port_signal.specs.declared.row.Effect.{Effect}
+
+-- what a callback is handed: the process whose signal is handled, and the outside's answers and the effects so far
+pub record Context : Type 0 where
+  pub caller : ℕ
+  pub outside : List Outside
+  pub effects : List Effect

@@ -1,0 +1,32 @@
+//! A boxed driver is a driver: what a run is handed are boxes.
+ghost use Rattle.std.specs.Prelude.{◌≡◌};
+
+use crate::{Config, Driver, DriverCtx, StartRefusal};
+use port_signal::{IoVec, NoMemory, Reason};
+use std::alloc::Global;
+
+impl Driver for Box<dyn Driver + Send> {
+    ghost kind = { λ b. (Driver-box b).kind b.value };
+
+    ghost held = { λ b. (Driver-box b).held b.value };
+
+    ghost stage = { λ b. (Driver-box b).stage b.value };
+
+    ghost faults = { λ b. (Driver-box b).faults b.value };
+
+    fn name(&self) -> Reason {
+        (**self).name()
+    }
+
+    fn start(&mut self, alloc: Global, ctx: &mut DriverCtx, config: &Config) -> Result<(), StartRefusal> {
+        (**self).start(alloc, ctx, config)
+    }
+
+    fn outputv(&mut self, alloc: Global, ctx: &mut DriverCtx, payload: &IoVec) -> Result<(), NoMemory> {
+        (**self).outputv(alloc, ctx, payload)
+    }
+
+    fn stop(&mut self) {
+        (**self).stop();
+    }
+}

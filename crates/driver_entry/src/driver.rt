@@ -1,0 +1,63 @@
+ghost use Rattle.std.specs.Prelude.{◌≡◌, ◌≤◌, ℕ, length, OnOk, OnErr};
+ghost use Rattle.std.specs.List.{concat};
+ghost use Rattle.driver_entry.specs.Drivers.{Kind, Held, Outputv, kind_name};
+ghost use Rattle.driver_entry.specs.Driven.{Did, Began, Ended, KeepsRoom};
+
+use crate::{Config, DriverCtx, Life, StartRefusal};
+use port_signal::{IoVec, NoMemory, Reason};
+use std::alloc::Global;
+
+/// A driver, by its callbacks: the structure `driver_entry` of the Erlang/OTP manual. Every driver here takes commands by
+/// `outputv`.
+///
+/// A callback that finds no memory may have changed what the driver holds, and its context; its kind and its stage stay.
+pub trait Driver: Drop {
+    ghost use Rattle.driver_entry.specs.declared.life.Life.{Life};
+
+    /// Which driver it is.
+    ghost kind: { Self → Kind };
+
+    /// The plain data that it holds.
+    ghost held: { Self → Held };
+
+    /// Whether it is fresh, started or stopped.
+    ghost stage: { Self → Life };
+
+    /// How often its outside failed.
+    ghost faults: { Self → ℕ };
+
+    /// The name of its kind: `driver_name` of driver_entry.
+    fn name(&self) -> Reason
+        ensures { result ≡ kind_name (kind self.now) };
+
+    /// Begins to serve a port.
+    fn start(&mut self, alloc: Global, ctx: &mut DriverCtx, config: &Config) -> Result<(), StartRefusal>
+        requires fresh { stage self.old ≡ Life.Fresh }
+        requires outside { length ctx.old.outside ≤ 524288 }
+        requires effects { length ctx.old.effects ≤ 524288 }
+        ensures kind { kind self.new ≡ kind self.old }
+        ensures faults { faults self.old ≤ faults self.new }
+        ensures started { OnOk result (stage self.new ≡ Life.Started) }
+        ensures refused { OnErr result (stage self.new ≡ Life.Stopped) }
+        ensures room { KeepsRoom ctx.old ctx.new }
+        ensures began { OnOk result (Began (kind self.old) config.now (held self.new) ctx.old ctx.new) };
+
+    /// Takes the data of a command.
+    fn outputv(&mut self, alloc: Global, ctx: &mut DriverCtx, payload: &IoVec) -> Result<(), NoMemory>
+        requires started { stage self.old ≡ Life.Started }
+        requires outside { length ctx.old.outside ≤ 524288 }
+        requires effects { length ctx.old.effects ≤ 524288 }
+        ensures kind { kind self.new ≡ kind self.old }
+        ensures faults { faults self.old ≤ faults self.new }
+        ensures stage { stage self.new ≡ Life.Started }
+        ensures room { KeepsRoom ctx.old ctx.new }
+        ensures did { OnOk result (Did (kind self.old) (Outputv (concat payload.now)) (held self.old) (held self.new) ctx.old ctx.new) };
+
+    /// Ends the service of the port.
+    fn stop(&mut self)
+        requires started { stage self.old ≡ Life.Started }
+        ensures kind { kind self.new ≡ kind self.old }
+        ensures faults { faults self.old ≤ faults self.new }
+        ensures stage { stage self.new ≡ Life.Stopped }
+        ensures ended { Ended (kind self.old) (held self.old) (held self.new) };
+}

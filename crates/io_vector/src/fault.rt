@@ -1,0 +1,1 @@
+pub use no_memory::NoMemory;

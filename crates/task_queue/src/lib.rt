@@ -1,0 +1,5 @@
+#![tactic(auto)]
+
+mod item;
+
+pub use item::Item;
