@@ -52,14 +52,16 @@ is_end (Command payload) = false
 is_end Close = false
 is_end (Gone reason) = true
 
+-- whether the process has ended after the row, if before it that is so as is said
+abbrev pub gone_after : ℕ → Row → Bool → Bool
+gone_after process (Handled from seq task outside effects) gone = if is_end task.signal then (sender_number from == process) || gone else gone
+gone_after process (Late from seq task) gone = if is_end task.signal then (sender_number from == process) || gone else gone
+gone_after process (Mark kind) gone = gone
+
 -- a row told that this process has ended
 abbrev pub is_gone : ℕ → List Row → Bool
 is_gone process [] = false
-is_gone process (Handled from seq task outside effects ∷ older) =
-    if is_end task.signal then (sender_number from == process) || is_gone process older else is_gone process older
-is_gone process (Late from seq task ∷ older) =
-    if is_end task.signal then (sender_number from == process) || is_gone process older else is_gone process older
-is_gone process (Mark kind ∷ older) = is_gone process older
+is_gone process (row ∷ older) = gone_after process row (is_gone process older)
 
 -- the mail among these that is for the process
 abbrev pub mail_for : ℕ → List Post → List Mail

@@ -1,0 +1,4 @@
+pub mod Extending
+pub mod Posts
+pub mod Steps
+pub mod Given

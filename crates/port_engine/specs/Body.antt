@@ -1,0 +1,78 @@
+-- A port's body as its callers see it, what always holds of it, and what a turn leaves.
+use Rattle.std.specs.Prelude.{◌≡◌, ℕ, ◌<◌, ◌≤◌, List, [], ◌∷◌, ◌++◌, length, reverse, Bool, true, false, not, if◌then◌else◌, slice_index}
+use Rattle.task_queue.specs.declared.item.Item.{Item}
+use Rattle.task_queue.specs.Items.{of}
+use Rattle.port_signal.specs.declared.signal.Task.{Task}
+use Rattle.port_signal.specs.declared.row.Row.{Row}
+use Rattle.port_signal.specs.declared.row.MarkKind.TheVariants.{Closed}
+use Rattle.port_signal.specs.declared.mail.Mail.{Mail}
+use Rattle.port_signal.specs.History.{items, marks}
+use Rattle.driver_entry.specs.declared.life.Life.{Life}
+use Rattle.driver_entry.specs.declared.life.Life.TheVariants.{Started, Stopped}
+use Rattle.driver_entry.specs.declared.config.Config.{Config}
+use Rattle.driver_entry.specs.Drivers.{Kind, Held, holds}
+use Rattle.driver_entry.specs.History.{Opening, Lawful, is_open, marks_due, calls}
+use Rattle.driver_entry.specs.Mail.{is_gone, mails}
+use Rattle.port_engine.specs.Box.{Box}
+use Rattle.port_engine.specs.Boxes.{box_at}
+use Rattle.port_engine.specs.Order.{InOrder, SendersBelow}
+
+-- what was fixed when the port was opened, its rows, oldest first, the tasks that wait, the mail that wasn't taken, whether
+-- the driver was stopped, whether memory was wanting, and how often the driver's outside failed
+pub record View : Type 0 where
+  pub opening : Opening
+  pub rows : List Row
+  pub queue : List (Item Task)
+  pub mail : List Box
+  pub stopped : Bool
+  pub broken : Bool
+  pub faults : ℕ
+
+-- the history of the port, newest row first
+abbrev pub history_of : View → List Row
+history_of v = reverse v.rows
+
+-- all tasks that were given: those with a row, and those that wait
+abbrev pub given_of : View → List (Item Task)
+given_of v = items (history_of v) ++ v.queue
+
+-- what always holds of a body
+pub record Sound (port : Opening) (stage : Life) (held : Held) (past : List Row) (queue : List (Item Task)) (mail : List Box) (given : List ℕ) (closed stopped broken : Bool) : Type 0 where
+  pub lawful : Lawful port past
+  pub settled : marks_due port past ≡ []
+  pub opens : is_open port past ≡ not closed
+  pub marked : marks past ≡ (if closed then Closed ∷ [] else [])
+  pub life : stage ≡ (if stopped then Stopped else Started)
+  pub ended : closed ≡ true → stopped ≡ true
+  pub runs : broken ≡ false → stopped ≡ closed
+  pub holds : broken ≡ false → held ≡ holds port.kind port.config (calls port past)
+  pub order : broken ≡ false → InOrder (items past) queue
+  pub numbers : broken ≡ false → (n : ℕ) → n < length given → slice_index given n ≡ length (of n (items past ++ queue))
+  pub places : length given ≡ length mail
+  pub gone : (n : ℕ) → n < length mail → (box_at mail n).gone ≡ is_gone n past
+  pub owner : port.owner < length mail
+  pub senders : SendersBelow (length mail) queue
+
+-- a body that was just opened: nothing was given and no process has ended
+pub record IsOpened (number : ℕ) (kind : Kind) (config : Config) (owner processes faults : ℕ) (v : View) : Type 0 where
+  pub opening : v.opening ≡ record { number = number; kind = kind; config = config; owner = owner }
+  pub rows : v.rows ≡ []
+  pub queue : v.queue ≡ []
+  pub places : length v.mail ≡ processes
+  pub mail : (process : ℕ) → process < processes → (box_at v.mail process).waiting ≡ []
+  pub broken : v.broken ≡ false
+  pub stopped : v.stopped ≡ false
+  pub risen : faults ≤ v.faults
+
+-- what a turn leaves: the older rows stay, each task that was given has its row or waits, in the same order, and each process
+-- was sent the mail of the new rows
+pub record Turned (old new : View) : Type 0 where
+  pub opening : new.opening ≡ old.opening
+  pub faults : old.faults ≤ new.faults
+  pub broken : old.broken ≡ true → new.broken ≡ true
+  pub rows : (more : List Row) × (new.rows ≡ old.rows ++ more)
+  pub given : new.broken ≡ false → given_of new ≡ given_of old
+  pub processes : length new.mail ≡ length old.mail
+  pub mailed : new.broken ≡ false → (process : ℕ) (taken : List Mail) → process < length old.mail
+    → taken ++ (box_at old.mail process).waiting ≡ mails old.opening process (history_of old)
+    → taken ++ (box_at new.mail process).waiting ≡ mails old.opening process (history_of new)

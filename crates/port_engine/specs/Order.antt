@@ -1,0 +1,15 @@
+-- The numbers of tasks that wait.
+use Rattle.std.specs.Prelude.{ℕ, ◌<◌, ◌≡◌, List, [], ◌∷◌, ◌++◌, length}
+use Rattle.task_queue.specs.declared.item.Item.{Item}
+use Rattle.task_queue.specs.Items.{of}
+use Rattle.port_signal.specs.declared.signal.Task.{Task}
+
+-- the number of each task is its place among those of its sender, behind those before
+abbrev pub InOrder : List (Item Task) → List (Item Task) → Type 0
+InOrder before [] = Unit {0}
+InOrder before (item ∷ later) = (item.seq ≡ length (of item.sender before)) × InOrder (before ++ item ∷ []) later
+
+-- the sender of each task is one of so many processes
+abbrev pub SendersBelow : ℕ → List (Item Task) → Type 0
+SendersBelow processes [] = Unit {0}
+SendersBelow processes (item ∷ later) = (item.sender < processes) × SendersBelow processes later

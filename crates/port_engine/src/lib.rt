@@ -1,0 +1,14 @@
+//! The body of a port: its driver, its history, and the turn that takes tasks one by one.
+#![tactic(auto)]
+
+mod body;
+mod mailbox;
+mod posting;
+mod row;
+mod turn;
+
+pub use body::Body;
+pub use turn::Turn;
+
+#[cfg(test)]
+mod tests {}
