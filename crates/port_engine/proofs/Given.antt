@@ -33,7 +33,8 @@ InOrder-push before [] x o e = (e ∙ ap (λ is. length (of x.sender is)) (appen
 InOrder-push before (y ∷ queue) x o e =
     (o.0, InOrder-push (before ++ y ∷ []) queue x o.1 (e ∙ ap (λ is. length (of x.sender is)) (sym (append_assoc before (y ∷ []) queue))))
 
-SendersBelow-push : (n : ℕ) (queue : List (Item Task)) (x : Item Task) → SendersBelow n queue → x.sender < n → SendersBelow n (queue ++ x ∷ [])
+-- the senders of tasks with one more
+pub SendersBelow-push : (n : ℕ) (queue : List (Item Task)) (x : Item Task) → SendersBelow n queue → x.sender < n → SendersBelow n (queue ++ x ∷ [])
 SendersBelow-push n [] x s h = (h, tt)
 SendersBelow-push n (y ∷ queue) x s h = (s.0, SendersBelow-push n queue x s.1 h)
 
@@ -62,5 +63,6 @@ Sound-give port stage held past queue next_queue mail given closed stopped broke
   places = length-set given x.sender (x.seq + 1) ∙ s.places;
   gone = s.gone;
   owner = s.owner;
-  senders = SendersBelow-push (length mail) queue x s.senders h;
+  senders = s.senders;
+  waiting = SendersBelow-push (length mail) queue x s.waiting h;
 })

@@ -19,6 +19,7 @@ use Rattle.driver_entry.specs.Mail.{Post, row_posts, mail_for, mails, is_gone, g
 use Rattle.port_engine.specs.Box.{Box}
 use Rattle.port_engine.specs.Boxes.{box_at, Sends}
 use Rattle.port_engine.specs.Order.{InOrder, SendersBelow}
+use Rattle.port_engine.proofs.Given.{SendersBelow-push}
 use Rattle.port_engine.specs.Made.{Extends, with_mark}
 use Rattle.port_engine.specs.Body.{View, Sound, Turned, history_of, given_of}
 
@@ -63,7 +64,8 @@ Sound-row port stage next_stage held next_held past item queue mail next_mail gi
       places = s.places ∙ sym sent.len;
       gone = λ n h. sent.gone n (rw (← sent.len) h) ∙ ap (gone_after n row) (s.gone n (rw (← sent.len) h));
       owner = rw sent.len s.owner;
-      senders = rw sent.len s.senders.1;
+      senders = rw (sent.len, e.task) (SendersBelow-push (length mail) (items past) item s.senders s.waiting.0);
+      waiting = rw sent.len s.waiting.1;
     }
 Sound-row port stage next_stage held next_held past item queue mail next_mail given closed stopped broken false posted row posts s b e once st sent =
     record {
@@ -80,7 +82,8 @@ Sound-row port stage next_stage held next_held past item queue mail next_mail gi
       places = s.places ∙ sym sent.len;
       gone = λ n h. sent.gone n (rw (← sent.len) h) ∙ ap (gone_after n row) (s.gone n (rw (← sent.len) h));
       owner = rw sent.len s.owner;
-      senders = rw sent.len s.senders.1;
+      senders = rw (sent.len, e.task) (SendersBelow-push (length mail) (items past) item s.senders s.waiting.0);
+      waiting = rw sent.len s.waiting.1;
     }
 
 -- the invariant after a step, from what its calls ensure

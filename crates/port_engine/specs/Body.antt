@@ -51,7 +51,8 @@ pub record Sound (port : Opening) (stage : Life) (held : Held) (past : List Row)
   pub places : length given ≡ length mail
   pub gone : (n : ℕ) → n < length mail → (box_at mail n).gone ≡ is_gone n past
   pub owner : port.owner < length mail
-  pub senders : SendersBelow (length mail) queue
+  pub senders : SendersBelow (length mail) (items past)
+  pub waiting : SendersBelow (length mail) queue
 
 -- a body that was just opened: nothing was given and no process has ended
 pub record IsOpened (number : ℕ) (kind : Kind) (config : Config) (owner processes faults : ℕ) (v : View) : Type 0 where

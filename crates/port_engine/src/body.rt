@@ -1,12 +1,13 @@
 ghost use Rattle.std.specs.Prelude.{◌≡◌, ◌<◌, ◌≤◌, ◌+◌, ℕ, List, [], ◌∷◌, ◌++◌, length, reverse, true, false, not, if◌then◌else◌, ◌↔◌, IsNone, IfNone, IfSome, IfOk, IfErr, OnOk, OnErr, ◌≢◌, ◌⊎◌, replicate, slice_set, vec_len, vec_capacity};
 ghost use Rattle.std.specs.Vec.{vec_capacity as capacity_of};
 ghost use Rattle.task_queue.specs.Items.{of};
-ghost use Rattle.port_signal.specs.History.{item, marks, stat_of, sender_number};
+ghost use Rattle.port_signal.specs.History.{item, items, marks, stat_of, sender_number};
 ghost use Rattle.driver_entry.specs.Drivers.{holds};
 ghost use Rattle.driver_entry.specs.History.{Opening, Lawful, IsFinished, is_open, calls};
 ghost use Rattle.driver_entry.specs.Mail.{row_posts};
 ghost use Rattle.port_engine.specs.Boxes.{Sends, SenderBelow, box_at};
 ghost use Rattle.port_engine.specs.Made.{with_mark};
+ghost use Rattle.port_engine.specs.Order.{SendersBelow};
 ghost use Rattle.port_engine.specs.Body.{IsOpened, Turned, given_of, history_of};
 ghost use Rattle.port_signal.specs.declared.row.Row.{Row as RowValue};
 
@@ -208,6 +209,7 @@ impl<D: Driver> Body<D> {
         ensures faults { D.faults result.driver ≡ self.faults }
         ensures stage { D.stage result.driver ≡ Life.Stopped }
         ensures lawful { Lawful self.opening (history_of self) }
+        ensures senders { SendersBelow (length self.mail) (items (history_of self)) }
         ensures finished { self.broken ≡ false → IsFinished self.opening (history_of self) }
         ensures holds { self.broken ≡ false → D.held result.driver ≡ holds self.opening.kind self.opening.config (calls self.opening (history_of self)) }
     {
