@@ -1,0 +1,3 @@
+pub mod IoVec
+pub mod PrefixFault
+pub mod Segments

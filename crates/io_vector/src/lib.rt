@@ -9,10 +9,12 @@
 mod fault;
 mod flag;
 mod piece;
+#[cfg(test)]
+mod tests;
 mod vector;
 
-pub use fault::NoMemory;
-
+pub use fault::{Past, PrefixFault};
 pub use flag::Flag;
+pub use no_memory::NoMemory;
 pub use piece::Piece;
 pub use vector::IoVec;

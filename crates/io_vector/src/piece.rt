@@ -54,9 +54,7 @@ impl Piece {
     pub fn share(&self) -> Result<Piece, NoMemory>
         ensures { IfOk result (λ piece. piece ≡ self.now) }
     {
-        Ok(Piece {
-            bytes: self.bytes.clone()?,
-        })
+        Ok(self.clone()?)
     }
 
     /// Another owner of the bytes from place `start` to before place `end`, of which none is copied.

@@ -1,7 +1,7 @@
 ghost use Rattle.std.specs.Prelude.{◌≡◌, ◌<◌, ◌≤◌, ◌+◌, ℕ, List, [], ◌∷◌, ◌++◌, length, reverse, true, false, not, if◌then◌else◌, ◌↔◌, IsNone, IfNone, IfSome, IfOk, IfErr, OnOk, OnErr, ◌≢◌, ◌⊎◌, replicate, slice_set, vec_len, vec_capacity};
 ghost use Rattle.std.specs.Vec.{vec_capacity as capacity_of};
 ghost use Rattle.task_queue.specs.Items.{of};
-ghost use Rattle.port_signal.specs.History.{item, items, marks, stat_of, sender_number};
+ghost use Rattle.port_signal.specs.History.{is_closed, item, items, marks, stat_of, sender_number};
 ghost use Rattle.driver_entry.specs.Drivers.{holds};
 ghost use Rattle.driver_entry.specs.History.{Opening, Lawful, IsFinished, is_open, calls};
 ghost use Rattle.driver_entry.specs.Mail.{row_posts};
@@ -155,7 +155,8 @@ impl<D: Driver> Body<D> {
 
     /// The word that tells how the port stands: four times the number of its marks, plus 2 after the closed mark.
     pub fn stat(&self) -> u64
-        ensures { result ≡ stat_of (marks (history_of self.now)) }
+        ensures value { result ≡ stat_of (marks (history_of self.now)) }
+        ensures closed { is_closed result ≡ not (is_open self.now.opening (history_of self.now)) }
     {
         if self.closed { 6 } else { 0 }
     }
@@ -181,6 +182,8 @@ impl<D: Driver> Body<D> {
     pub fn finished(&self) -> bool
         ensures value { result ≡ self.now.stopped }
         ensures closed { self.now.broken ≡ false → result ≡ not (is_open self.now.opening (history_of self.now)) }
+        ensures lawful { Lawful self.now.opening (history_of self.now) }
+        ensures marks { marks (history_of self.now) ≡ (if is_open self.now.opening (history_of self.now) then [] else MarkKind.Closed ∷ []) }
     {
         self.stopped
     }

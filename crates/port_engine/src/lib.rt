@@ -7,7 +7,7 @@ mod posting;
 mod row;
 mod turn;
 
-pub use body::Body;
+pub use body::{Body, BodyEnd, BodyParts};
 pub use turn::Turn;
 
 #[cfg(test)]

@@ -1,5 +1,5 @@
 -- What a history says that needs no driver. A history is the list of a port's rows, read newest row first.
-use Rattle.std.specs.Prelude.{◌≡◌, ◌==◌, ℕ, ◌+◌, ◌*◌, ◌/◌, ◌≤◌, List, [], ◌∷◌, ◌++◌, length, take, reverse, Bool}
+use Rattle.std.specs.Prelude.{◌≡◌, ◌==◌, ℕ, ◌+◌, ◌*◌, ◌/◌, ◌%◌, ◌≤◌, List, [], ◌∷◌, ◌++◌, length, take, reverse, Bool}
 use Rattle.task_queue.specs.declared.item.Item.{Item}
 use Rattle.port_signal.specs.declared.signal.Sender.{Sender}
 use Rattle.port_signal.specs.declared.signal.Sender.TheVariants.{Process}
@@ -47,3 +47,7 @@ stat_of marks = 4 * length marks + bits_of (reverse marks)
 -- the STAT word is one that these marks led through
 abbrev pub AgreesWith : List MarkKind → ℕ → Type 0
 AgreesWith marks stat = (stat / 4 ≤ length marks) × (stat ≡ stat_of (take (stat / 4) marks))
+
+-- the STAT word is that of a closed port
+abbrev pub is_closed : ℕ → Bool
+is_closed stat = stat / 2 % 2 == 1

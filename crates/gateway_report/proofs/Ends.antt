@@ -1,0 +1,70 @@
+-- The reason for which a port ends: it asks for the owner alone, and the first closing row decides.
+use Rattle.std.proofs.Common.{◌≡◌, ℕ, ◌+◌, ◌<◌, List, [], ◌∷◌, ◌++◌, Bool, true, false, Option, None, Some, length, take, drop, reverse, get_or, refl, ap, sym, ◌∙◌}
+use Rattle.std.specs.Prelude.{is_some, is_none, IsSome, unwrap_or, ◌==◌}
+use Rattle.std.proofs.lemmas.List.{take_more, take-append-drop, reverse-append}
+use Rattle.port_signal.specs.declared.signal.Sender.{Sender}
+use Rattle.port_signal.specs.declared.signal.Signal.{Signal}
+use Rattle.port_signal.specs.declared.signal.Signal.TheVariants.{Command, Close, Gone}
+use Rattle.port_signal.specs.declared.row.Row.{Row}
+use Rattle.port_signal.specs.declared.row.Row.TheVariants.{Handled, Late, Mark}
+use Rattle.driver_entry.specs.Drivers.{Kind, Echo}
+use Rattle.driver_entry.specs.History.{Opening, closing_reason, end_reason, is_open}
+use Rattle.gateway_script.specs.declared.report.PortReport.{PortReport}
+use Rattle.gateway_report.specs.End.{opening_of, HasEnded, end_of, row_end}
+
+closing_reason-owner : (a b : Opening) (newer older : List Row) (from : Sender) (signal : Signal) → a.owner ≡ b.owner → closing_reason a newer from signal ≡ closing_reason b older from signal
+closing_reason-owner a b newer older from (Command payload) e = refl
+closing_reason-owner a b newer older from Close e = refl
+closing_reason-owner a b newer older from (Gone reason) e = rw e refl
+
+-- the reason is the same for every opening with this owner
+pub end_reason-owner : (a b : Opening) (history : List Row) → a.owner ≡ b.owner → end_reason a history ≡ end_reason b history
+end_reason-owner a b [] e = refl
+end_reason-owner a b (Handled from seq task outside effects ∷ older) e =
+    rw (end_reason-owner a b older e, closing_reason-owner a b older older from task.signal e) refl
+end_reason-owner a b (Late from seq task ∷ older) e = end_reason-owner a b older e
+end_reason-owner a b (Mark kind ∷ older) e = end_reason-owner a b older e
+
+is_some-closed : (reason : Option (List ℕ)) → is_none reason ≡ false → is_some reason ≡ true
+is_some-closed None e = absurd cc
+is_some-closed (Some text) e = refl
+
+-- a port that is closed under one opening with its owner has ended
+pub HasEnded-closed : (opening : Opening) (port : PortReport) → opening.owner ≡ port.owner → is_open opening (reverse port.journal.rows) ≡ false → HasEnded port
+HasEnded-closed opening port owner closed =
+    λ number kind.
+    rw (end_reason-owner (opening_of number kind port) opening (reverse port.journal.rows) (sym owner))
+    (is_some-closed (end_reason opening (reverse port.journal.rows)) closed)
+
+-- the end that a report tells is the reason under each opening with the port's owner
+pub end_of-reason : (opening : Opening) (port : PortReport) (reason : List ℕ) → opening.owner ≡ port.owner → end_reason opening (reverse port.journal.rows) ≡ Some reason → end_of port ≡ reason
+end_of-reason opening port reason owner e =
+    rw (end_reason-owner (opening_of 0 Echo port) opening (reverse port.journal.rows) (sym owner), e) refl
+
+-- rows after the closing row don't change the reason
+end_reason-later : (port : Opening) (newer older : List Row) (reason : List ℕ) → end_reason port older ≡ Some reason → end_reason port (newer ++ older) ≡ Some reason
+end_reason-later port [] older reason e = e
+end_reason-later port (Handled from seq task outside effects ∷ newer) older reason e = rw (end_reason-later port newer older reason e) refl
+end_reason-later port (Late from seq task ∷ newer) older reason e = end_reason-later port newer older reason e
+end_reason-later port (Mark kind ∷ newer) older reason e = end_reason-later port newer older reason e
+
+-- a row that closes an open port is the closing row
+end_reason-closing : (port : PortReport) (row : Row) (older : List Row) (reason : List ℕ) → end_reason (opening_of 0 Echo port) older ≡ None → row_end port row ≡ Some reason
+    → end_reason (opening_of 0 Echo port) (row ∷ older) ≡ Some reason
+end_reason-closing port (Handled from seq task outside effects) older reason open_before e =
+    rw open_before (closing_reason-owner (opening_of 0 Echo port) (opening_of 0 Echo port) older [] from task.signal refl ∙ e)
+end_reason-closing port (Late from seq task) older reason open_before e = absurd cc
+end_reason-closing port (Mark kind) older reason open_before e = absurd cc
+
+-- the first row that closes the port decides
+pub end_of-first : (port : PortReport) (rows : List Row) (i : ℕ) (row : Row) (reason : List ℕ) → rows ≡ port.journal.rows → i < length rows → row ≡ get_or rows i row
+    → end_reason (opening_of 0 Echo port) (reverse (take i rows)) ≡ None → row_end port row ≡ Some reason → end_of port ≡ reason
+end_of-first port rows i row reason is_rows h is open_before closes =
+    let front : take (i + 1) rows ≡ take i rows ++ row ∷ [] = take_more rows i row h ∙ ap (λ r. take i rows ++ r ∷ []) (sym is) in
+    let newest : reverse (take (i + 1) rows) ≡ row ∷ reverse (take i rows) = rw front (reverse-append (take i rows) (row ∷ [])) in
+    let all : reverse rows ≡ reverse (drop (i + 1) rows) ++ reverse (take (i + 1) rows) =
+    ap reverse (sym (take-append-drop (i + 1) rows)) ∙ reverse-append (take (i + 1) rows) (drop (i + 1) rows) in
+    let closed : end_reason (opening_of 0 Echo port) (reverse (take (i + 1) rows)) ≡ Some reason =
+    rw newest (end_reason-closing port row (reverse (take i rows)) reason open_before closes) in
+    end_of-reason (opening_of 0 Echo port) port reason refl
+    (rw (← is_rows, all) (end_reason-later (opening_of 0 Echo port) (reverse (drop (i + 1) rows)) (reverse (take (i + 1) rows)) reason closed))

@@ -1,0 +1,51 @@
+-- The statuses and the texts of the causes with which a run ends.
+use Rattle.std.specs.Prelude.{ℕ, List, [], ◌∷◌, ◌++◌, codes}
+use Rattle.std.specs.Fmt.{decimal}
+use Rattle.gateway_script.specs.declared.fault.ScriptFault.{ScriptFault}
+use Rattle.gateway_script.specs.declared.fault.ScriptFault.TheVariants.{BadLine, NoMemory as NoMemoryForScript}
+use Rattle.gateway_report.specs.declared.cause.Cause.{Cause}
+use Rattle.gateway_report.specs.declared.cause.Cause.TheVariants.{Done, Usage, Script, ReadFault, WriteFault, NoDriver, NoMemory, Limit}
+
+-- the status with which the program ends
+abbrev pub status_of : Cause → ℕ
+status_of Done = 0
+status_of (Usage at) = 1
+status_of (Script fault) = 2
+status_of (ReadFault line) = 3
+status_of WriteFault = 4
+status_of (NoDriver line handed) = 5
+status_of NoMemory = 8
+status_of (Limit line) = 10
+
+-- the fault is one of the script, and not want of memory
+abbrev pub IsOfScript : ScriptFault → Type 0
+IsOfScript (BadLine line) = Unit {0}
+IsOfScript NoMemoryForScript = ⊥
+
+-- a cause that tells a fault of a script tells one of the script, and not want of memory
+abbrev pub HasText : Cause → Type 0
+HasText Done = Unit {0}
+HasText (Usage at) = Unit {0}
+HasText (Script fault) = IsOfScript fault
+HasText (ReadFault line) = Unit {0}
+HasText WriteFault = Unit {0}
+HasText (NoDriver line handed) = Unit {0}
+HasText NoMemory = Unit {0}
+HasText (Limit line) = Unit {0}
+
+-- the line of a fault of a script, and no byte for want of memory
+unfoldable pub fault_line_of : ScriptFault → List ℕ
+fault_line_of (BadLine line) = codes "gateway: script line " ++ decimal line ++ codes ": bad line" ++ 10 ∷ []
+fault_line_of NoMemoryForScript = []
+
+-- the text of a cause: one line, and none where the run is done
+unfoldable pub cause_text_of : Cause → List ℕ
+cause_text_of Done = []
+cause_text_of (Usage at) = codes "gateway: usage at word " ++ decimal at ++ 10 ∷ []
+cause_text_of (Script fault) = fault_line_of fault
+cause_text_of (ReadFault line) = codes "gateway: read fault at line " ++ decimal line ++ 10 ∷ []
+cause_text_of WriteFault = codes "gateway: write fault" ++ 10 ∷ []
+cause_text_of (NoDriver line handed) =
+    codes "gateway: no driver for line " ++ decimal line ++ codes ", handed " ++ decimal handed ++ 10 ∷ []
+cause_text_of NoMemory = codes "gateway: no memory" ++ 10 ∷ []
+cause_text_of (Limit line) = codes "gateway: limit at line " ++ decimal line ++ 10 ∷ []

@@ -1,0 +1,5 @@
+pub mod Count
+pub mod End
+pub mod Saved
+pub mod Report
+pub mod Cause

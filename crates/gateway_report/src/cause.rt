@@ -1,0 +1,77 @@
+ghost use Rattle.std.specs.Prelude.{◌≡◌, IfOk, string_bytes};
+ghost use Rattle.gateway_report.specs.Cause.{status_of, IsOfScript, HasText, fault_line_of, cause_text_of};
+
+use gateway_script::ScriptFault;
+use no_memory::NoMemory;
+use std::alloc::Global;
+
+/// Why a run ended. Lines of the script count from 1, and 0 stands for the script as a whole.
+#[derive(Clone, Copy, Debug, PartialEq, Eq)]
+pub enum Cause {
+    /// The run was made, and its report was written.
+    Done,
+    /// The command line isn't served. `at` is its first offending word, from 1, or the place after its last word.
+    Usage { at: u32 },
+    /// The text is not a script.
+    Script { fault: ScriptFault },
+    /// The script, or what this line names, was not read.
+    ReadFault { line: u32 },
+    /// A text was not written.
+    WriteFault,
+    /// No unused driver has the name that this line gives. `handed` is how many drivers of that name were handed in.
+    NoDriver { line: u32, handed: u64 },
+    NoMemory,
+    /// The script, or what this line names, is larger than is allowed.
+    Limit { line: u32 },
+}
+
+impl Cause {
+    /// The status with which the program ends.
+    pub fn status(&self) -> u8
+        ensures { result ≡ status_of self.now }
+    {
+        match self {
+            Cause::Done => 0,
+            Cause::Usage { .. } => 1,
+            Cause::Script { .. } => 2,
+            Cause::ReadFault { .. } => 3,
+            Cause::WriteFault => 4,
+            Cause::NoDriver { .. } => 5,
+            Cause::NoMemory => 8,
+            Cause::Limit { .. } => 10,
+        }
+    }
+}
+
+/// What the program says of a cause: one line, ended with byte 10, and nothing where the run is done.
+pub fn cause_text(alloc: Global, cause: &Cause) -> Result<Vec<u8>, NoMemory>
+    requires { HasText cause.now }
+    ensures { IfOk result (λ text. text.items ≡ cause_text_of cause.now) }
+{
+    let text = match cause {
+        Cause::Done => String::new(alloc),
+        Cause::Usage { at } => format!(in alloc; "gateway: usage at word {at}\n")?,
+        Cause::Script { fault } => fault_line(alloc, fault)?,
+        Cause::ReadFault { line } => format!(in alloc; "gateway: read fault at line {line}\n")?,
+        Cause::WriteFault => format!(in alloc; "gateway: write fault\n")?,
+        Cause::NoDriver { line, handed } => {
+            format!(in alloc; "gateway: no driver for line {line}, handed {handed}\n")?
+        }
+        Cause::NoMemory => format!(in alloc; "gateway: no memory\n")?,
+        Cause::Limit { line } => format!(in alloc; "gateway: limit at line {line}\n")?,
+    };
+    Ok(text.into_bytes())
+}
+
+/// The line of a fault of the script.
+fn fault_line(alloc: Global, fault: &ScriptFault) -> Result<String, NoMemory>
+    requires { IsOfScript fault.now }
+    ensures { IfOk result (λ line. string_bytes line ≡ fault_line_of fault.now) }
+{
+    match fault {
+        ScriptFault::BadLine { line } => Ok(format!(in alloc;
+            "gateway: script line {line}: bad line\n"
+        )?),
+        ScriptFault::NoMemory => unreachable!(),
+    }
+}

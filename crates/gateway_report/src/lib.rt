@@ -1,0 +1,20 @@
+//! The report of a run, the causes with which a run ends, and the texts of both.
+//!
+//! It is for telling what a run did: the histories of its ports and what came to its processes are counted here and written
+//! line by line. It isn't for running anything, and it doesn't judge whether a history is lawful.
+#![tactic(auto)]
+
+mod cause;
+mod count;
+mod digest;
+mod end;
+mod report;
+mod text;
+
+pub use cause::{Cause, cause_text};
+pub use gateway_script::{PortReport, ScriptFault};
+pub use report::{ProcReport, Report};
+pub use text::report_text;
+
+#[cfg(test)]
+mod tests;

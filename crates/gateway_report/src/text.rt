@@ -1,0 +1,106 @@
+ghost use Rattle.std.specs.Prelude.{◌≡◌, ◌≤◌, ◌++◌, All, IfOk, OnOk, length, string_bytes};
+ghost use Rattle.std.specs.List.{flat_map, enumerate_from};
+ghost use Rattle.gateway_report.specs.End.{HasEnded};
+ghost use Rattle.gateway_report.specs.Report.{port_line, process_line, text_of};
+
+use crate::count::{
+    commands_of, data_messages, dropped_commands, handled_bytes, handled_commands, late_commands,
+    suspended_commands,
+};
+use crate::digest::data_digest;
+use crate::end::end_of;
+use crate::report::{ProcReport, Report};
+use gateway_script::PortReport;
+use no_memory::NoMemory;
+use std::alloc::Global;
+
+/// The text of a report, each line ended with byte 10: a first line, a line for each port and a line for each process.
+///
+/// For each process it goes once over all rows, and for each port over the mail of each process.
+pub fn report_text(alloc: Global, report: &Report) -> Result<Vec<u8>, NoMemory>
+    requires { All HasEnded report.now.ports }
+    ensures { IfOk result (λ text. text.items ≡ text_of report.now) }
+{
+    let ports = report.ports.as_slice();
+    let processes = report.processes.as_slice();
+    let mut text = String::new(alloc);
+    writeln!(
+        text,
+        "report processes={} ports={}",
+        processes.len(),
+        ports.len()
+    )?;
+    write_ports(&mut text, ports)?;
+    write_processes(alloc, &mut text, ports, processes)?;
+    Ok(text.into_bytes())
+}
+
+fn write_ports(text: &mut String, ports: &[PortReport]) -> Result<(), NoMemory>
+    requires { All HasEnded ports.now }
+    ensures { OnOk result (string_bytes text.new ≡ string_bytes text.old ++ flat_map port_line ports.now) }
+{
+    for port in ports {
+        write_port(text, port)?;
+    }
+    Ok(())
+}
+
+fn write_port(text: &mut String, port: &PortReport) -> Result<(), NoMemory>
+    requires { HasEnded port.now }
+    ensures { OnOk result (string_bytes text.new ≡ string_bytes text.old ++ port_line port.now) }
+{
+    let rows = port.journal.rows.as_slice();
+    let name = port.name.as_str();
+    let driver = port.driver.as_str();
+    let commands = handled_commands(rows);
+    let late = late_commands(rows);
+    let bytes = handled_bytes(rows)?;
+    let end = end_of(port);
+    writeln!(
+        text,
+        "port {name} driver={driver} commands={commands} late={late} bytes={bytes} end={end}"
+    )?;
+    Ok(())
+}
+
+fn write_processes(
+    alloc: Global,
+    text: &mut String,
+    ports: &[PortReport],
+    processes: &[ProcReport],
+) -> Result<(), NoMemory>
+    requires ports { length ports.now ≤ 1048576 }
+    requires processes { length processes.now ≤ 1048576 }
+    ensures { OnOk result (string_bytes text.new ≡ string_bytes text.old ++ flat_map (λ p. process_line ports.now p.0 p.1) (enumerate_from 0 processes.now)) }
+{
+    for (place, process) in processes.iter().enumerate() {
+        write_process(alloc, text, ports, place as u32, process)?;
+    }
+    Ok(())
+}
+
+fn write_process(
+    alloc: Global,
+    text: &mut String,
+    ports: &[PortReport],
+    place: u32,
+    process: &ProcReport,
+) -> Result<(), NoMemory>
+    requires { length ports.now ≤ 1048576 }
+    ensures { OnOk result (string_bytes text.new ≡ string_bytes text.old ++ process_line ports.now place process.now) }
+{
+    let receipts = process.receipts.as_slice();
+    let mails = process.mails.as_slice();
+    let name = process.name.as_str();
+    let commands = commands_of(place, ports)?;
+    let dropped = dropped_commands(receipts);
+    let suspended = suspended_commands(receipts);
+    let data = data_messages(mails);
+    let digest = data_digest(ports.len() as u32, mails);
+    let sha256 = hex::encode(alloc, digest.as_slice())?;
+    writeln!(
+        text,
+        "process {name} commands={commands} dropped={dropped} suspended={suspended} data={data} sha256={sha256}"
+    )?;
+    Ok(())
+}

@@ -1,0 +1,45 @@
+ghost use Rattle.std.specs.Prelude.{◌≡◌};
+ghost use Rattle.gateway_script.specs.LineFault.{fault_at};
+
+use crate::ScriptFault;
+use no_memory::NoMemory;
+use std::alloc::AllocFailed;
+
+/// Why a line isn't read.
+#[derive(Clone, Copy, Debug)]
+pub(crate) enum LineFault {
+    Bad,
+    NoMemory,
+}
+
+impl LineFault {
+    /// The fault, as the script's at a line of this number.
+    pub(crate) fn at(self, line: u32) -> ScriptFault
+        ensures { result ≡ fault_at line self }
+    {
+        match self {
+            LineFault::Bad => ScriptFault::BadLine { line },
+            LineFault::NoMemory => ScriptFault::NoMemory,
+        }
+    }
+}
+
+impl From<NoMemory> for LineFault {
+    ghost use Rattle.gateway_script.specs.declared.line_fault.LineFault.TheVariants as fault;
+
+    ghost from_gives = { λ _ f. f ≡ fault.NoMemory };
+
+    fn from(_: NoMemory) -> LineFault {
+        LineFault::NoMemory
+    }
+}
+
+impl<T: Drop> From<AllocFailed<T>> for LineFault {
+    ghost use Rattle.gateway_script.specs.declared.line_fault.LineFault.TheVariants as fault;
+
+    ghost from_gives = { λ _ f. f ≡ fault.NoMemory };
+
+    fn from(_: AllocFailed<T>) -> LineFault {
+        LineFault::NoMemory
+    }
+}

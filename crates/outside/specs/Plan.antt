@@ -1,0 +1,25 @@
+-- The calls of one kind on an object in memory.
+use Rattle.std.specs.Prelude.{ℕ, ◌+◌, ◌-◌, ◌^◌, min, Bool, ◌==◌, if◌then◌else◌, List}
+use Rattle.std.specs.List.{list_any}
+
+-- how many calls were made, the numbers of those that are to fail, from 0, and how many failed
+pub record Plan : Type 0 where
+  pub calls : ℕ
+  pub failing : List ℕ
+  pub faults : ℕ
+
+-- one more, up to the greatest `u64`
+abbrev pub counted : ℕ → ℕ
+counted n = min (n + 1) (2 ^ 64 - 1)
+
+-- whether the next call is to fail
+abbrev pub fails : Plan → Bool
+fails plan = list_any (λ number. number == plan.calls) plan.failing
+
+-- the plan once the next call was made
+abbrev pub after_call : Plan → Plan
+after_call plan = record {
+  calls = counted plan.calls;
+  failing = plan.failing;
+  faults = if fails plan then counted plan.faults else plan.faults;
+}

@@ -1,0 +1,36 @@
+//! What a program meets outside itself: files, its output, the readiness of events, and a gate round
+//! each turn of a port. Each is a trait with two kinds of object, one in memory for tests, whose
+//! calls can be made to fail, and a real one.
+//!
+//! A trait counts its faults, and a call answers `Failed` only where the count rose in that call. So
+//! a caller that blames the outside can be held to it. What an object holds is told where it can be:
+//! the objects in memory tell it, the real ones tell nothing.
+//!
+//! This crate isn't a file system: it has no directories, no positions and no partial writes. It
+//! starts no program and no thread, and waits for nothing but the system's own calls.
+#![tactic(auto)]
+
+mod call_plan;
+mod files;
+mod gate;
+mod mem_files;
+mod mem_poll;
+mod mem_sink;
+mod poll_set;
+mod real_files;
+mod real_sink;
+mod sink;
+
+pub use files::{FileFault, Files};
+pub use gate::{Gate, OpenGate};
+pub use mem_files::MemFiles;
+pub use mem_poll::MemPoll;
+pub use mem_sink::MemSink;
+pub use no_memory::NoMemory;
+pub use poll_set::{PollFault, PollSet};
+pub use real_files::RealFiles;
+pub use real_sink::RealSink;
+pub use sink::{Sink, SinkFault};
+
+#[cfg(test)]
+mod tests;

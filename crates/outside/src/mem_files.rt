@@ -1,0 +1,178 @@
+ghost use Rattle.std.specs.Prelude.{◌≡◌, ◌+◌, ◌-◌, ◌^◌, ◌<◌, ◌≤◌, ◌↔◌, [], ◌∷◌, ◌++◌, Some, IsTrue, IsErrOf, OnOk, OnErr, IfOk, MatchResult, position};
+ghost use Rattle.std.specs.Option.{option_copied};
+ghost use Rattle.std.specs.Str.{bytes_eq};
+ghost use Rattle.outside.specs.Causes.{ReadOk, ReadErr, WriteOk, WriteErr};
+ghost use Rattle.outside.specs.Disk.{contents, Rewrites};
+ghost use Rattle.outside.specs.Plan.{fails, after_call};
+
+use crate::call_plan::CallPlan;
+use crate::{FileFault, Files, NoMemory};
+use std::alloc::Global;
+use std::marker::Model;
+
+/// A file in memory.
+#[derive(Debug, Drop)]
+struct NamedFile {
+    name: String,
+    bytes: Vec<u8>,
+}
+
+impl Model for NamedFile {
+    ghost use Rattle.std.specs.Prelude.{string_bytes};
+    ghost use Rattle.outside.specs.Disk.{File};
+
+    ghost Value = { File };
+
+    ghost view = { λ f. record { name = string_bytes f.name; bytes = f.bytes.items } };
+}
+
+impl NamedFile {
+    fn new(alloc: Global, name: &str, bytes: &[u8]) -> Result<Self, NoMemory>
+        ensures { IfOk result (λ file. file ≡ record { name = name.now; bytes = bytes.now }) }
+    {
+        Ok(NamedFile {
+            name: String::from_str(alloc, name)?,
+            bytes: Vec::from_slice(alloc, bytes)?,
+        })
+    }
+
+    fn is_named(&self, name: &str) -> bool
+        ensures { result ≡ bytes_eq self.now.name name.now }
+    {
+        self.name.as_str() == name
+    }
+}
+
+/// Files in memory, with reads and writes that can be made to fail. It tells what it holds.
+#[derive(Debug, Drop)]
+pub struct MemFiles {
+    files: Vec<NamedFile>,
+    reads: CallPlan,
+    writes: CallPlan,
+}
+
+impl Model for MemFiles {
+    ghost use Rattle.outside.specs.Disk.{Disk};
+
+    ghost Value = { Disk };
+
+    ghost view = { λ m. record { files = m.files.items; reads = m.reads; writes = m.writes } };
+}
+
+impl MemFiles {
+    /// No files. No read or write fails.
+    pub fn new(alloc: Global) -> Self
+        ensures { result ≡ record {
+          files = [];
+          reads = record { calls = 0; failing = []; faults = 0 };
+          writes = record { calls = 0; failing = []; faults = 0 };
+        } }
+    {
+        MemFiles {
+            files: Vec::new(alloc),
+            reads: CallPlan::new(alloc),
+            writes: CallPlan::new(alloc),
+        }
+    }
+
+    fn place_of(&self, name: &str) -> Option<usize>
+        ensures { result ≡ position (λ file. bytes_eq file.name name.now) self.now.files }
+    {
+        self.files.iter().position(|file| file.is_named(name))
+    }
+
+    /// Puts a file there before use, which counts as no write.
+    pub fn hold(&mut self, name: &str, bytes: &[u8]) -> Result<(), NoMemory>
+        ensures ok { OnOk result (Rewrites self.old.files self.new.files name.now bytes.now) }
+        ensures err { OnErr result (self.new.files ≡ self.old.files) }
+        ensures plans { (self.new.reads ≡ self.old.reads) × (self.new.writes ≡ self.old.writes) }
+    {
+        let file = NamedFile::new(*self.files.allocator(), name, bytes)?;
+        match self.place_of(name) {
+            Some(place) => self.files[place] = file,
+            None => self.files.push(file).map_err(|_| NoMemory)?,
+        }
+        Ok(())
+    }
+
+    /// Makes the read of this number fail. Reads are counted from 0.
+    pub fn fail_read(&mut self, number: u64) -> Result<(), NoMemory>
+        ensures ok { OnOk result (self.new ≡ record self.old { reads = record self.old.reads { failing = self.old.reads.failing ++ number ∷ [] } }) }
+        ensures err { OnErr result (self.new ≡ self.old) }
+    {
+        self.reads.fail(number)
+    }
+
+    /// Makes the write of this number fail. Writes are counted from 0.
+    pub fn fail_write(&mut self, number: u64) -> Result<(), NoMemory>
+        ensures ok { OnOk result (self.new ≡ record self.old { writes = record self.old.writes { failing = self.old.writes.failing ++ number ∷ [] } }) }
+        ensures err { OnErr result (self.new ≡ self.old) }
+    {
+        self.writes.fail(number)
+    }
+
+    /// The bytes held under a name. It counts as no read.
+    pub fn held(&self, name: &str) -> Option<&[u8]>
+        ensures { option_copied result ≡ contents self.now.files name.now }
+    {
+        let file = self.files.iter().find(|file| file.is_named(name))?;
+        Some(file.bytes.as_slice())
+    }
+}
+
+impl Files for MemFiles {
+    ghost reads = { λ m. m.reads.faults };
+
+    ghost writes = { λ m. m.writes.faults };
+
+    ghost told = { λ m. Some (contents m.files) };
+
+    fn read(&mut self, alloc: Global, name: &str, max: u64) -> Result<Vec<u8>, FileFault>
+        ensures read { MatchResult result
+            (λ bytes. ReadOk self.old.reads.faults self.new.reads.faults (Some (contents self.old.files)) name.now max bytes.items)
+            (λ fault. ReadErr self.old.reads.faults self.new.reads.faults (Some (contents self.old.files)) name.now max fault) }
+        ensures rises { self.old.reads.faults ≤ self.new.reads.faults }
+        ensures within { self.new.reads.faults < 2 ^ 64 }
+        ensures writes { self.new.writes.faults ≡ self.old.writes.faults }
+        ensures told { Some (contents self.new.files) ≡ Some (contents self.old.files) }
+
+        // A read fails exactly where it is to fail, and changes nothing but its count.
+        ensures planned { IsErrOf result FileFault.Failed ↔ IsTrue (fails self.old.reads) }
+        ensures after { self.new ≡ record self.old { reads = after_call self.old.reads } }
+    {
+        if self.reads.next_fails() {
+            return Err(FileFault::Failed);
+        }
+        match self.held(name) {
+            None => Err(FileFault::Missing),
+            Some(bytes) if bytes.len() as u64 > max => Err(FileFault::Over),
+            Some(bytes) => match Vec::from_slice(alloc, bytes) {
+                Ok(copy) => Ok(copy),
+                Err(_) => Err(FileFault::NoMemory),
+            },
+        }
+    }
+
+    /// A write that is to fail changes no file.
+    fn write(&mut self, name: &str, bytes: &[u8]) -> Result<(), FileFault>
+        ensures write { MatchResult result
+            (λ _. WriteOk self.old.writes.faults self.new.writes.faults (Some (contents self.old.files)) (Some (contents self.new.files)) name.now bytes.now)
+            (λ fault. WriteErr self.old.writes.faults self.new.writes.faults (Some (contents self.old.files)) (Some (contents self.new.files)) name.now fault) }
+        ensures rises { self.old.writes.faults ≤ self.new.writes.faults }
+        ensures within { self.new.writes.faults < 2 ^ 64 }
+        ensures reads { self.new.reads.faults ≡ self.old.reads.faults }
+
+        // A write fails exactly where it is to fail.
+        ensures planned { IsErrOf result FileFault.Failed ↔ IsTrue (fails self.old.writes) }
+        ensures after { (self.new.reads ≡ self.old.reads) × (self.new.writes ≡ after_call self.old.writes) }
+        ensures err { OnErr result (self.new.files ≡ self.old.files) }
+    {
+        if self.writes.next_fails() {
+            return Err(FileFault::Failed);
+        }
+        match self.hold(name, bytes) {
+            Ok(()) => Ok(()),
+            Err(NoMemory) => Err(FileFault::NoMemory),
+        }
+    }
+}

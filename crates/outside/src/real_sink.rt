@@ -1,0 +1,48 @@
+ghost use Rattle.std.specs.Prelude.{◌≡◌, ◌<◌, ◌^◌, None, OnOk};
+ghost use Rattle.std.specs.Io.KnownBytes.{Appends};
+
+use crate::{Sink, SinkFault};
+use std::io;
+use std::io::Write;
+
+/// The standard output of the machine. It tells nothing of what was written.
+///
+/// A put that answers `Ok` has handed all its bytes to the system: none waits in a buffer. So a closed
+/// pipe and a full device are `Failed`.
+#[derive(Debug, Drop)]
+pub struct RealSink<R> {
+    rt: R,
+    faults: u64,
+    ghost faults_fit: { faults < 2 ^ 64 },
+}
+
+impl<R: Print> RealSink<R> {
+    /// The output that `rt` reaches.
+    pub fn new(rt: R) -> Self
+        ensures { ⟦<RealSink<R> as Sink>⟧.faults result ≡ 0 }
+    {
+        RealSink { rt, faults: 0 }
+    }
+}
+
+/// Writes all the bytes, and leaves none in a buffer.
+pub(crate) fn write_out<W: Write>(output: &mut W, bytes: &[u8]) -> io::Result<()>
+    ensures { OnOk result (Appends (W.contents output.old) (W.contents output.new) bytes.now) }
+{
+    output.write_all(bytes)?;
+    output.flush()
+}
+
+impl<R: Print> Sink for RealSink<R> {
+    ghost faults = { λ s. s.faults };
+
+    ghost written = { λ _. None };
+
+    fn put(&mut self, bytes: &[u8]) -> Result<(), SinkFault> {
+        if write_out(&mut io::writer(&self.rt), bytes).is_err() {
+            self.faults = self.faults.saturating_add(1);
+            return Err(SinkFault::Failed);
+        }
+        Ok(())
+    }
+}
