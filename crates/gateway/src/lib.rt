@@ -2,7 +2,11 @@
 #![tactic(auto)]
 
 mod calls;
+mod hosted;
+mod hosting;
 mod port_run;
+mod reporting;
 mod words;
 
+pub use hosted::Hosted;
 pub use words::script_name;

@@ -1,13 +1,13 @@
 -- The reason for which a port ends: it asks for the owner alone, and the first closing row decides.
-use Rattle.std.proofs.Common.{◌≡◌, ℕ, ◌+◌, ◌<◌, List, [], ◌∷◌, ◌++◌, Bool, true, false, Option, None, Some, length, take, drop, reverse, get_or, refl, ap, sym, ◌∙◌}
-use Rattle.std.specs.Prelude.{is_some, is_none, IsSome, unwrap_or, ◌==◌}
+use Rattle.std.proofs.Common.{◌≡◌, ℕ, ◌+◌, ◌<◌, List, [], ◌∷◌, ◌++◌, true, false, Option, None, Some, length, take, drop, reverse, get_or, refl, ap, sym, ◌∙◌}
+use Rattle.std.specs.Prelude.{is_some, is_none}
 use Rattle.std.proofs.lemmas.List.{take_more, take-append-drop, reverse-append}
 use Rattle.port_signal.specs.declared.signal.Sender.{Sender}
 use Rattle.port_signal.specs.declared.signal.Signal.{Signal}
 use Rattle.port_signal.specs.declared.signal.Signal.TheVariants.{Command, Close, Gone}
 use Rattle.port_signal.specs.declared.row.Row.{Row}
 use Rattle.port_signal.specs.declared.row.Row.TheVariants.{Handled, Late, Mark}
-use Rattle.driver_entry.specs.Drivers.{Kind, Echo}
+use Rattle.driver_entry.specs.Drivers.{Echo}
 use Rattle.driver_entry.specs.History.{Opening, closing_reason, end_reason, is_open}
 use Rattle.gateway_script.specs.declared.report.PortReport.{PortReport}
 use Rattle.gateway_report.specs.End.{opening_of, HasEnded, end_of, row_end}

@@ -1,5 +1,5 @@
 -- The reason for which a reported port ended.
-use Rattle.std.specs.Prelude.{◌≡◌, ℕ, List, [], Option, None, reverse, IsSome, unwrap_or}
+use Rattle.std.specs.Prelude.{ℕ, List, [], Option, None, reverse, IsSome, unwrap_or}
 use Rattle.port_signal.specs.declared.row.Row.{Row}
 use Rattle.port_signal.specs.declared.row.Row.TheVariants.{Handled, Late, Mark}
 use Rattle.driver_entry.specs.Drivers.{Kind, Echo}

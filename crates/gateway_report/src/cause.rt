@@ -20,6 +20,7 @@ pub enum Cause {
     WriteFault,
     /// No unused driver has the name that this line gives. `handed` is how many drivers of that name were handed in.
     NoDriver { line: u32, handed: u64 },
+    /// No memory was found.
     NoMemory,
     /// The script, or what this line names, is larger than is allowed.
     Limit { line: u32 },

@@ -20,13 +20,13 @@ pub fn late_commands(rows: &[Row]) -> usize
     rows.iter().filter(|row| is_late_command(row)).count()
 }
 
-/// How many bytes the handled commands have together. A sum that 64 bits don't hold is answered as want of memory.
+/// How many bytes the handled commands have together.
 pub fn handled_bytes(rows: &[Row]) -> Result<u64, NoMemory>
     ensures { IfOk result (λ bytes. bytes ≡ handled_bytes rows.now) }
 {
     let mut bytes = 0;
     for row in rows {
-        bytes = sum(bytes, driver_bytes(row)?)?;
+        bytes = checked_sum(bytes, driver_bytes(row)?)?;
     }
     Ok(bytes)
 }
@@ -42,7 +42,7 @@ pub fn commands_of(process: u32, ports: &[PortReport]) -> Result<u64, NoMemory>
             .iter()
             .filter(|row| is_command_of(process, row))
             .count();
-        commands = sum(commands, count as u64)?;
+        commands = checked_sum(commands, count as u64)?;
     }
     Ok(commands)
 }
@@ -74,7 +74,8 @@ pub fn data_messages(mails: &[Mail]) -> usize
     mails.iter().filter(|mail| is_data(mail)).count()
 }
 
-fn sum(a: u64, b: u64) -> Result<u64, NoMemory>
+/// The sum. One that 64 bits don't hold is answered as want of memory.
+fn checked_sum(a: u64, b: u64) -> Result<u64, NoMemory>
     ensures { IfOk result (λ sum. sum ≡ a + b) }
 {
     a.checked_add(b).ok_or(NoMemory)
@@ -139,7 +140,7 @@ fn payload_bytes(payload: &IoVec) -> Result<u64, NoMemory>
 {
     let mut bytes = 0;
     for piece in payload.as_slice() {
-        bytes = sum(bytes, piece.len() as u64)?;
+        bytes = checked_sum(bytes, piece.len() as u64)?;
     }
     Ok(bytes)
 }

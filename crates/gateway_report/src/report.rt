@@ -1,11 +1,13 @@
 use gateway_script::PortReport;
 use port_signal::{Items, Mails, Reason, Receipts};
 
-/// A process as it is reported: its calls, and what came to it.
+/// A process as it is reported.
 #[derive(Drop)]
 pub struct ProcReport {
     pub name: Reason,
+    /// What its calls answered, in their order.
     pub receipts: Receipts,
+    /// What came to it, in the order in which it came.
     pub mails: Mails,
 }
 

@@ -1,5 +1,6 @@
 ghost use Rattle.std.specs.Prelude.{◌≡◌, ◌≤◌, ◌++◌, All, IfOk, OnOk, length, string_bytes};
 ghost use Rattle.std.specs.List.{flat_map, enumerate_from};
+ghost use Rattle.port_signal.specs.declared.items.TheConstants.{MAX_ITEMS};
 ghost use Rattle.gateway_report.specs.End.{HasEnded};
 ghost use Rattle.gateway_report.specs.Report.{port_line, process_line, text_of};
 
@@ -14,9 +15,11 @@ use gateway_script::PortReport;
 use no_memory::NoMemory;
 use std::alloc::Global;
 
-/// The text of a report, each line ended with byte 10: a first line, a line for each port and a line for each process.
+/// The text of a report: a line for the whole, a line for each port and a line for each process, each ended with byte 10.
 ///
-/// For each process it goes once over all rows, and for each port over the mail of each process.
+/// The digest of a process's line is the SHA-256 of FIPS 180-4, in lowercase hex, of what saves of its data would write.
+/// A sum of bytes or commands above 2^64 - 1 is answered as want of memory. For each process all rows are gone through once,
+/// and for each process and port the process's mail. No data is copied.
 pub fn report_text(alloc: Global, report: &Report) -> Result<Vec<u8>, NoMemory>
     requires { All HasEnded report.now.ports }
     ensures { IfOk result (λ text. text.items ≡ text_of report.now) }
@@ -69,8 +72,8 @@ fn write_processes(
     ports: &[PortReport],
     processes: &[ProcReport],
 ) -> Result<(), NoMemory>
-    requires ports { length ports.now ≤ 1048576 }
-    requires processes { length processes.now ≤ 1048576 }
+    requires ports { length ports.now ≤ MAX_ITEMS }
+    requires processes { length processes.now ≤ MAX_ITEMS }
     ensures { OnOk result (string_bytes text.new ≡ string_bytes text.old ++ flat_map (λ p. process_line ports.now p.0 p.1) (enumerate_from 0 processes.now)) }
 {
     for (place, process) in processes.iter().enumerate() {
@@ -86,7 +89,7 @@ fn write_process(
     place: u32,
     process: &ProcReport,
 ) -> Result<(), NoMemory>
-    requires { length ports.now ≤ 1048576 }
+    requires { length ports.now ≤ MAX_ITEMS }
     ensures { OnOk result (string_bytes text.new ≡ string_bytes text.old ++ process_line ports.now place process.now) }
 {
     let receipts = process.receipts.as_slice();

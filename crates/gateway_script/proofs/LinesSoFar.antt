@@ -1,6 +1,6 @@
 -- The plan of a text as its lines are read from the first.
-use Rattle.std.proofs.Common.{◌≡◌, ℕ, ◌+◌, ◌-◌, ◌<◌, ◌≤◌, List, [], ◌∷◌, ◌++◌, length, get_or, take, drop, Bool, true, false, not, Option, Some, None, Result, Ok, Err, cond, refl, sym, ap, ◌∙◌, arith, zero, suc, append_assoc}
-use Rattle.std.specs.List.{find, filter_map, enumerate_from}
+use Rattle.std.proofs.Common.{◌≡◌, ℕ, ◌+◌, ◌-◌, ◌<◌, ◌≤◌, List, [], ◌∷◌, ◌++◌, length, get_or, take, drop, Bool, true, false, not, Option, Some, None, Ok, Err, cond, refl, sym, ap, ◌∙◌, arith, zero, suc, append_assoc}
+use Rattle.std.specs.List.{find, enumerate_from}
 use Rattle.std.proofs.lemmas.List.FromFn.{length-enumerate_from, get_or-enumerate_from}
 use Rattle.std.specs.Option.{option_map_or}
 use Rattle.std.proofs.lemmas.List.{take_more, take_all, take-append-drop}
@@ -8,7 +8,6 @@ use Rattle.std.proofs.lemmas.List.Elements.{filter_map-append}
 use Rattle.gateway_script.specs.Plan.{Plan}
 use Rattle.gateway_script.specs.Lines.{Line, numbered_from, lines}
 use Rattle.gateway_script.specs.Script.{script, plan_of, is_bad, may_stand_below, all_said, process_said, port_said, step_said}
-use Rattle.gateway_script.specs.Forms.{Saying}
 use Rattle.gateway_script.specs.LineFault.{IfBad, fault_at}
 use Rattle.gateway_script.specs.Sayings.{GoesOnBy}
 use Rattle.gateway_script.specs.ScriptFault.{IsFaultOf}

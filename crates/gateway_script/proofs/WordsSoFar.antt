@@ -3,7 +3,7 @@ use Rattle.std.proofs.Common.{◌≡◌, ℕ, ◌+◌, ◌-◌, ◌<◌, ◌≤�
 use Rattle.std.specs.List.{onto_first, slice_range}
 use Rattle.std.proofs.lemmas.List.{drop_more, take_more, get_or-drop, length-drop, drop_all}
 use Rattle.std.proofs.lemmas.List.Elements.{filter-append}
-use Rattle.gateway_script.specs.Words.{parts, is_gap, in_text_behind, words}
+use Rattle.gateway_script.specs.Words.{parts, is_gap, in_text_behind}
 
 -- the parts with these bytes put before the first
 abbrev pub onto : List ℕ → List (List ℕ) → List (List ℕ)

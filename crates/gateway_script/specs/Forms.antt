@@ -1,5 +1,5 @@
 -- The forms of a line, and what a line of each form says.
-use Rattle.std.specs.Prelude.{ℕ, ◌==◌, List, [], ◌∷◌, Bool, ◌&&◌, ◌||◌, not, Option, Some, None, option_and_then, if◌then◌else◌, nat_eq, nat_le, codes}
+use Rattle.std.specs.Prelude.{ℕ, List, [], ◌∷◌, Bool, ◌&&◌, ◌||◌, not, Option, Some, None, option_and_then, if◌then◌else◌, nat_eq, nat_le, codes}
 use Rattle.std.specs.List.{list_all, starts_with, ends_with}
 use Rattle.std.specs.Str.{bytes_eq}
 use Rattle.gateway_script.specs.Words.{words, name_of, text_of}

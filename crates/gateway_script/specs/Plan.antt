@@ -22,10 +22,10 @@ abbrev pub HasSize : Act → Type 0
 HasSize (Command port payload) = length payload ≤ 262143
 HasSize (Close port) = Unit {0}
 
--- what holds of every script: there are at most 32 processes and ports, what it names is declared, and commands have their size
+-- what holds of every script: there is at most one process and one port, what it names is declared, and commands have their size
 pub record IsPlan (plan : Plan) : Type 0 where
-  pub few_processes : length plan.processes ≤ 32
-  pub few_ports : length plan.ports ≤ 32
+  pub few_processes : length plan.processes ≤ 1
+  pub few_ports : length plan.ports ≤ 1
   pub owners : All (λ p. p.owner < length plan.processes) plan.ports
   pub senders : All (λ s. s.process < length plan.processes) plan.steps
   pub named : All (λ s. port_of s.act < length plan.ports) plan.steps

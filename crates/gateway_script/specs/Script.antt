@@ -1,5 +1,5 @@
 -- What a script says, as a whole.
-use Rattle.std.specs.Prelude.{ℕ, ◌-◌, ◌==◌, List, [], ◌∷◌, length, take, Bool, true, false, ◌&&◌, not, Option, Some, None, option_and_then, Result, Ok, Err}
+use Rattle.std.specs.Prelude.{ℕ, ◌-◌, ◌==◌, List, length, take, Bool, true, false, ◌&&◌, not, Option, Some, None, option_and_then, Result, Ok, Err}
 use Rattle.std.specs.Option.{option_map_or}
 use Rattle.std.specs.List.{filter_map, find, list_any}
 use Rattle.std.specs.Str.{bytes_eq}
@@ -40,9 +40,11 @@ plan_of lines = record {
   steps = all_said step_said lines;
 }
 
+-- whether a process of this name is declared
 abbrev pub is_process : Plan → List ℕ → Bool
 is_process plan name = list_any (λ p. bytes_eq p.name name) plan.processes
 
+-- whether a port of this name is declared
 abbrev pub is_port : Plan → List ℕ → Bool
 is_port plan name = list_any (λ p. bytes_eq p.name name) plan.ports
 

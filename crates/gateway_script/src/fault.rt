@@ -7,6 +7,7 @@ use no_memory::NoMemory;
 pub enum ScriptFault {
     /// The first line that isn't of the form of a script.
     BadLine { line: u32 },
+    /// No memory was found, or the text has 4,294,967,296 lines or more.
     NoMemory,
 }
 

@@ -10,7 +10,20 @@ use crate::lines::number_of;
 use crate::{Script, ScriptFault};
 use std::alloc::Global;
 
-/// The script that the bytes spell.
+/// The script that the bytes spell, or else the first line, from 1, that isn't of the form.
+///
+/// A line ends with byte 10, which the last one may lack, and has bytes 32 to 126. Empty lines and lines that begin with `#`
+/// say nothing. In every other line one or more spaces stand between two words, and none before the first or behind the
+/// last. The lines that say something are, in this order and each optional:
+///
+/// - `process NAME`
+/// - `port NAME PROCESS DRIVER`
+/// - any number of steps, `NAME command PORT TEXT` or `NAME close PORT`
+///
+/// A NAME is a letter a to z, followed by up to 15 letters a to z, digits or `_`. DRIVER is a NAME, of a known kind or not.
+/// The other names of a line but the one that it declares are declared above it, a name is declared once, and `process`,
+/// `port`, `journal` and `save` can't be declared. A TEXT is at most 262,143 bytes between two double quotes, with no double
+/// quote and no backslash among them.
 pub fn read_script(alloc: Global, bytes: &[u8]) -> Result<Script, ScriptFault>
     ensures ok { IfOk result (λ s. script bytes.now ≡ Ok s) }
     ensures fault { IfErr result (λ f. IsFaultOf (script bytes.now) f) }

@@ -1,5 +1,5 @@
 -- The calls of one kind on an object in memory.
-use Rattle.std.specs.Prelude.{ℕ, ◌+◌, ◌-◌, ◌^◌, min, Bool, ◌==◌, if◌then◌else◌, List}
+use Rattle.std.specs.Prelude.{ℕ, ◌+◌, ◌-◌, ◌^◌, min, Bool, ◌==◌, if◌then◌else◌, List, [], ◌∷◌, ◌++◌}
 use Rattle.std.specs.List.{list_any}
 
 -- how many calls were made, the numbers of those that are to fail, from 0, and how many failed
@@ -7,6 +7,14 @@ pub record Plan : Type 0 where
   pub calls : ℕ
   pub failing : List ℕ
   pub faults : ℕ
+
+-- no call was made, and none is to fail
+abbrev pub no_calls : Plan
+no_calls = record { calls = 0; failing = []; faults = 0 }
+
+-- the plan with one more call that is to fail
+abbrev pub with_fault : Plan → ℕ → Plan
+with_fault plan number = record { calls = plan.calls; failing = plan.failing ++ number ∷ []; faults = plan.faults }
 
 -- one more, up to the greatest `u64`
 abbrev pub counted : ℕ → ℕ

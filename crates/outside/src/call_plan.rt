@@ -1,6 +1,6 @@
-ghost use Rattle.std.specs.Prelude.{◌≡◌, ◌+◌, ◌-◌, ◌^◌, ◌<◌, ◌≤◌, [], ◌∷◌, ◌++◌, OnOk, OnErr, MatchBool};
+ghost use Rattle.std.specs.Prelude.{◌≡◌, ◌^◌, ◌<◌, ◌≤◌, OnOk, OnErr, MatchBool};
 ghost use Rattle.outside.specs.Causes.{Rose};
-ghost use Rattle.outside.specs.Plan.{counted, fails, after_call};
+ghost use Rattle.outside.specs.Plan.{counted, fails, after_call, no_calls, with_fault};
 
 use crate::NoMemory;
 use std::alloc::Global;
@@ -27,7 +27,7 @@ impl Model for CallPlan {
 
 impl CallPlan {
     pub(crate) fn new(alloc: Global) -> Self
-        ensures { result ≡ record { calls = 0; failing = []; faults = 0 } }
+        ensures { result ≡ no_calls }
     {
         CallPlan {
             calls: 0,
@@ -38,7 +38,7 @@ impl CallPlan {
 
     /// Plans a fault for the call of this number, from 0.
     pub(crate) fn fail(&mut self, number: u64) -> Result<(), NoMemory>
-        ensures ok { OnOk result (self.new ≡ record self.old { failing = self.old.failing ++ number ∷ [] }) }
+        ensures ok { OnOk result (self.new ≡ with_fault self.old number) }
         ensures err { OnErr result (self.new ≡ self.old) }
     {
         match self.failing.push(number) {

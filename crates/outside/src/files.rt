@@ -1,4 +1,4 @@
-ghost use Rattle.std.specs.Prelude.{◌≡◌, ℕ, ◌+◌, ◌-◌, ◌^◌, ◌<◌, ◌≤◌, List, Option, MatchResult};
+ghost use Rattle.std.specs.Prelude.{◌≡◌, ℕ, ◌^◌, ◌<◌, ◌≤◌, List, Option, MatchResult};
 ghost use Rattle.outside.specs.Causes.{ReadOk, ReadErr, WriteOk, WriteErr};
 
 use std::alloc::{AllocError, Global};

@@ -1,9 +1,9 @@
-ghost use Rattle.std.specs.Prelude.{◌≡◌, ◌+◌, ◌-◌, ◌^◌, ◌<◌, ◌≤◌, ◌↔◌, [], ◌∷◌, ◌++◌, Some, IsTrue, IsErrOf, OnOk, OnErr, IfOk, MatchResult, position};
+ghost use Rattle.std.specs.Prelude.{◌≡◌, ◌^◌, ◌<◌, ◌≤◌, ◌↔◌, [], Some, IsTrue, IsErrOf, OnOk, OnErr, IfOk, MatchResult, position};
 ghost use Rattle.std.specs.Option.{option_copied};
 ghost use Rattle.std.specs.Str.{bytes_eq};
 ghost use Rattle.outside.specs.Causes.{ReadOk, ReadErr, WriteOk, WriteErr};
 ghost use Rattle.outside.specs.Disk.{contents, Rewrites};
-ghost use Rattle.outside.specs.Plan.{fails, after_call};
+ghost use Rattle.outside.specs.Plan.{fails, after_call, no_calls, with_fault};
 
 use crate::call_plan::CallPlan;
 use crate::{FileFault, Files, NoMemory};
@@ -64,8 +64,8 @@ impl MemFiles {
     pub fn new(alloc: Global) -> Self
         ensures { result ≡ record {
           files = [];
-          reads = record { calls = 0; failing = []; faults = 0 };
-          writes = record { calls = 0; failing = []; faults = 0 };
+          reads = no_calls;
+          writes = no_calls;
         } }
     {
         MemFiles {
@@ -97,7 +97,7 @@ impl MemFiles {
 
     /// Makes the read of this number fail. Reads are counted from 0.
     pub fn fail_read(&mut self, number: u64) -> Result<(), NoMemory>
-        ensures ok { OnOk result (self.new ≡ record self.old { reads = record self.old.reads { failing = self.old.reads.failing ++ number ∷ [] } }) }
+        ensures ok { OnOk result (self.new ≡ record self.old { reads = with_fault self.old.reads number }) }
         ensures err { OnErr result (self.new ≡ self.old) }
     {
         self.reads.fail(number)
@@ -105,7 +105,7 @@ impl MemFiles {
 
     /// Makes the write of this number fail. Writes are counted from 0.
     pub fn fail_write(&mut self, number: u64) -> Result<(), NoMemory>
-        ensures ok { OnOk result (self.new ≡ record self.old { writes = record self.old.writes { failing = self.old.writes.failing ++ number ∷ [] } }) }
+        ensures ok { OnOk result (self.new ≡ record self.old { writes = with_fault self.old.writes number }) }
         ensures err { OnErr result (self.new ≡ self.old) }
     {
         self.writes.fail(number)

@@ -1,6 +1,6 @@
-ghost use Rattle.std.specs.Prelude.{◌≡◌, ◌+◌, ◌-◌, ◌^◌, ◌<◌, ◌≤◌, ◌↔◌, [], ◌∷◌, ◌++◌, Some, IsTrue, OnOk, OnErr, IfOk, IsErrOf, MatchResult};
+ghost use Rattle.std.specs.Prelude.{◌≡◌, ◌^◌, ◌<◌, ◌≤◌, ◌↔◌, [], ◌∷◌, ◌++◌, Some, IsTrue, OnOk, OnErr, IfOk, IsErrOf, MatchResult};
 ghost use Rattle.outside.specs.Causes.{WaitOk, WaitErr};
-ghost use Rattle.outside.specs.Plan.{fails, after_call};
+ghost use Rattle.outside.specs.Plan.{fails, after_call, no_calls, with_fault};
 ghost use Rattle.outside.specs.Sublist.{IsSublist};
 ghost use Rattle.outside.specs.Rounds.{found, ready_of, rounds_left};
 
@@ -69,7 +69,7 @@ impl MemPoll {
         ensures { result ≡ record {
           rounds = [];
           answered = [];
-          waits = record { calls = 0; failing = []; faults = 0 };
+          waits = no_calls;
         } }
     {
         MemPoll {
@@ -90,7 +90,7 @@ impl MemPoll {
 
     /// Makes the wait of this number fail. Waits are counted from 0.
     pub fn fail_wait(&mut self, number: u64) -> Result<(), NoMemory>
-        ensures ok { OnOk result (self.new ≡ record self.old { waits = record self.old.waits { failing = self.old.waits.failing ++ number ∷ [] } }) }
+        ensures ok { OnOk result (self.new ≡ record self.old { waits = with_fault self.old.waits number }) }
         ensures err { OnErr result (self.new ≡ self.old) }
     {
         self.waits.fail(number)

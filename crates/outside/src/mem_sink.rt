@@ -1,6 +1,6 @@
-ghost use Rattle.std.specs.Prelude.{◌≡◌, ◌+◌, ◌-◌, ◌^◌, ◌<◌, ◌≤◌, ◌⊎◌, [], ◌∷◌, ◌++◌, Some, IsTrue, OnOk, OnErr, IsErr, MatchResult, take};
+ghost use Rattle.std.specs.Prelude.{◌≡◌, ◌^◌, ◌<◌, ◌≤◌, ◌⊎◌, [], ◌++◌, Some, IsTrue, OnOk, OnErr, IsErr, MatchResult, take};
 ghost use Rattle.outside.specs.Causes.{PutOk, PutErr};
-ghost use Rattle.outside.specs.Plan.{fails, after_call};
+ghost use Rattle.outside.specs.Plan.{counted, fails, after_call, no_calls, with_fault};
 
 use crate::call_plan::CallPlan;
 use crate::{NoMemory, Sink, SinkFault};
@@ -26,7 +26,7 @@ impl Model for MemSink {
 impl MemSink {
     /// An empty sink, none of whose puts fails. A put that is made to fail takes nothing.
     pub fn new(alloc: Global) -> Self
-        ensures { result ≡ record { written = []; part = 0; puts = record { calls = 0; failing = []; faults = 0 } } }
+        ensures { result ≡ record { written = []; part = 0; puts = no_calls } }
     {
         MemSink {
             written: Vec::new(alloc),
@@ -37,7 +37,7 @@ impl MemSink {
 
     /// Makes the put of this number fail. Puts are counted from 0.
     pub fn fail_put(&mut self, number: u64) -> Result<(), NoMemory>
-        ensures ok { OnOk result (self.new ≡ record self.old { puts = record self.old.puts { failing = self.old.puts.failing ++ number ∷ [] } }) }
+        ensures ok { OnOk result (self.new ≡ record self.old { puts = with_fault self.old.puts number }) }
         ensures err { OnErr result (self.new ≡ self.old) }
     {
         self.puts.fail(number)
@@ -93,6 +93,10 @@ impl Sink for MemSink {
         ensures planned { IsTrue (fails self.old.puts) → IsErr result }
         ensures part { IsTrue (fails self.old.puts) → (self.new.written ≡ self.old.written ++ take self.old.part bytes.now) ⊎ (self.new.written ≡ self.old.written) }
         ensures ok { OnOk result (self.new.puts ≡ after_call self.old.puts) }
+
+        // The plan stays, and each call counts.
+        ensures calls { self.new.puts.calls ≡ counted self.old.puts.calls }
+        ensures stays { (self.new.puts.failing ≡ self.old.puts.failing) × (self.new.part ≡ self.old.part) }
     {
         if self.puts.next_fails() {
             self.append_part(bytes);

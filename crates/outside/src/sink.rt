@@ -1,4 +1,4 @@
-ghost use Rattle.std.specs.Prelude.{◌≡◌, ℕ, ◌+◌, ◌-◌, ◌^◌, ◌<◌, ◌≤◌, List, Option, MatchResult};
+ghost use Rattle.std.specs.Prelude.{ℕ, ◌^◌, ◌<◌, ◌≤◌, List, Option, MatchResult};
 ghost use Rattle.outside.specs.Causes.{PutOk, PutErr};
 
 /// Why bytes weren't put out.

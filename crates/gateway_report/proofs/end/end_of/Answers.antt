@@ -1,4 +1,4 @@
-use Rattle.std.proofs.Common.{◌≡◌, sym}
+use Rattle.std.proofs.Common.{sym}
 use Rattle.gateway_report.proofs.Ends.{end_of-first}
 use Rattle.gateway_report.proofs.end.end_of.Goals as goal
 

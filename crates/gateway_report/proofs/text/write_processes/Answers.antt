@@ -1,4 +1,4 @@
-use Rattle.std.proofs.Common.{append_assoc, sym, ◌∙◌}
+use Rattle.std.proofs.Common.{append_assoc}
 use Rattle.gateway_report.specs.Report.{process_line}
 use Rattle.gateway_report.proofs.Lists.{flat_map-enumerate_more}
 use Rattle.gateway_report.proofs.text.write_processes.Goals as goal

@@ -1,0 +1,84 @@
+-- Why a run ends as it does, and what it wrote.
+use Rattle.std.specs.Prelude.{◌≡◌, ℕ, ◌<◌, ◌≤◌, ◌⊎◌, List, ◌++◌, length, take, count_by, Bool, Option, Some, None, Result, Ok, Err, IfSome, IfOk, IsSome, slice_index_or}
+use Rattle.std.specs.Option.{option_map}
+use Rattle.std.specs.Str.{bytes_eq}
+use Rattle.outside.specs.Causes.{Told, Rose}
+use Rattle.gateway_script.specs.declared.decl.PortDecl.{PortDecl}
+use Rattle.gateway_script.specs.declared.fault.ScriptFault.{ScriptFault}
+use Rattle.gateway_script.specs.declared.fault.ScriptFault.TheVariants.{BadLine, NoMemory as NoMemoryForScript}
+use Rattle.gateway_script.specs.Plan.{Plan}
+use Rattle.gateway_script.specs.Script.{script}
+use Rattle.gateway_report.specs.declared.cause.Cause.{Cause}
+use Rattle.gateway_report.specs.declared.cause.Cause.TheVariants.{Done, Usage, Script, ReadFault, WriteFault, NoDriver, NoMemory, Limit}
+use Rattle.gateway_report.specs.declared.report.Report.{Report}
+use Rattle.gateway_report.specs.Report.{text_of}
+
+-- the words name a script, and where the files tell what they hold, this is so of what they hold under its name
+abbrev pub OfScript : Result (List ℕ) ℕ → Told → (Option (List ℕ) → Type 0) → Type 0
+OfScript (Ok name) told P = IfSome told (λ files. P (files name))
+OfScript (Err at) told P = ⊥
+
+-- the words name a script that the files tell, and this is what it says
+pub record Says (words : Result (List ℕ) ℕ) (told : Told) (plan : Plan) : Type 0 where
+  pub name : List ℕ
+  pub files : List ℕ → Option (List ℕ)
+  pub bytes : List ℕ
+  pub named : words ≡ Ok name
+  pub tells : told ≡ Some files
+  pub held : files name ≡ Some bytes
+  pub says : script bytes ≡ Ok plan
+
+-- no driver is left for a port on this line: as many have its name as ports above it, which have taken them
+pub record LacksDriver (count : List ℕ → ℕ) (plan : Plan) (line handed : ℕ) : Type 0 where
+  pub at : ℕ
+  pub within : at < length plan.ports
+  pub stands : (d : PortDecl) → (slice_index_or plan.ports at d).line ≡ line
+  pub counted : (d : PortDecl) → handed ≡ count (slice_index_or plan.ports at d).driver
+  pub taken : (d : PortDecl) → handed ≤ count_by (λ p. bytes_eq p.driver (slice_index_or plan.ports at d).driver) (take at plan.ports)
+
+-- the counts of faults before and after a run
+pub record Counts : Type 0 where
+  pub reads : ℕ
+  pub writes : ℕ
+  pub puts : ℕ
+
+-- each cause comes only where this holds
+abbrev pub CauseComes : Result (List ℕ) ℕ → Told → (List ℕ → ℕ) → Counts → Counts → Cause → Type 0
+CauseComes words told count before after Done = after ≡ before
+CauseComes words told count before after (Usage at) = words ≡ Err at
+CauseComes words told count before after (Script (BadLine line)) = OfScript words told (λ held. IfSome held (λ bytes. script bytes ≡ Err line))
+CauseComes words told count before after (Script NoMemoryForScript) = ⊥
+CauseComes words told count before after (ReadFault line) = (line ≡ 0) × (Rose before.reads after.reads ⊎ (IsSome told × OfScript words told (λ held. held ≡ None)))
+CauseComes words told count before after WriteFault = Rose before.puts after.puts
+CauseComes words told count before after (NoDriver line handed) =
+    OfScript words told (λ held. IfSome held (λ bytes. IfOk (script bytes) (λ plan. LacksDriver count plan line handed)))
+CauseComes words told count before after NoMemory = Unit {0}
+CauseComes words told count before after (Limit line) = (line ≡ 0) × OfScript words told (λ held. IfSome held (λ bytes. 1048576 < length bytes))
+
+-- a report is there where the run was made, also where it wasn't written
+abbrev pub IsReported : Cause → Option Report → Type 0
+IsReported Done report = IsSome report
+IsReported (Usage at) report = report ≡ None
+IsReported (Script fault) report = report ≡ None
+IsReported (ReadFault line) report = report ≡ None
+IsReported WriteFault report = IsSome report
+IsReported (NoDriver line handed) report = report ≡ None
+IsReported NoMemory report = report ≡ None
+IsReported (Limit line) report = report ≡ None
+
+-- the sink got a part of this text, from its front
+abbrev pub WrotePart : Option (List ℕ) → Option (List ℕ) → List ℕ → Type 0
+WrotePart None new text = new ≡ None
+WrotePart (Some old) new text = (part : List ℕ) × (rest : List ℕ) × (text ≡ part ++ rest) × (new ≡ Some (old ++ part))
+
+-- what was written: the report's text, a part of it where the sink failed, and nothing where there is no report
+abbrev pub Wrote : Option (List ℕ) → Option (List ℕ) → Cause → Option Report → Type 0
+Wrote old new cause None = new ≡ old
+Wrote old new Done (Some report) = new ≡ option_map (λ written. written ++ text_of report) old
+Wrote old new WriteFault (Some report) = WrotePart old new (text_of report)
+Wrote old new (Usage at) (Some report) = ⊥
+Wrote old new (Script fault) (Some report) = ⊥
+Wrote old new (ReadFault line) (Some report) = ⊥
+Wrote old new (NoDriver line handed) (Some report) = ⊥
+Wrote old new NoMemory (Some report) = ⊥
+Wrote old new (Limit line) (Some report) = ⊥
