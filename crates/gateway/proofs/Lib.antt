@@ -1,2 +1,4 @@
 pub mod Made
 pub mod Ending
+pub mod Reports
+pub mod One

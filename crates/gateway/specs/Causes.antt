@@ -82,3 +82,14 @@ Wrote old new (ReadFault line) (Some report) = ⊥
 Wrote old new (NoDriver line handed) (Some report) = ⊥
 Wrote old new NoMemory (Some report) = ⊥
 Wrote old new (Limit line) (Some report) = ⊥
+
+-- why no report of a script could be made: a driver is missing, or memory is wanting
+abbrev pub MakeFails : (List ℕ → ℕ) → Plan → Cause → Type 0
+MakeFails count plan Done = ⊥
+MakeFails count plan (Usage at) = ⊥
+MakeFails count plan (Script fault) = ⊥
+MakeFails count plan (ReadFault line) = ⊥
+MakeFails count plan WriteFault = ⊥
+MakeFails count plan (NoDriver line handed) = LacksDriver count plan line handed
+MakeFails count plan NoMemory = Unit {0}
+MakeFails count plan (Limit line) = ⊥

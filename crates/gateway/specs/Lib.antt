@@ -5,3 +5,4 @@ pub mod Port
 pub mod Hosts
 pub mod Headline
 pub mod Causes
+pub mod Idle

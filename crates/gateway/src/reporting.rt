@@ -1,1 +1,70 @@
+ghost use Rattle.std.specs.Prelude.{◌≡◌, ◌≤◌, ◌<◌, [], ◌∷◌, length, map, All, IfOk, IfErr};
+ghost use Rattle.gateway_report.specs.End.{HasEnded};
+ghost use Rattle.gateway.specs.Hosts.{AllCameBack, IsUnused, named_count};
+ghost use Rattle.gateway.specs.Headline.{Headline};
+ghost use Rattle.gateway.specs.Causes.{MakeFails};
+ghost use Rattle.gateway.specs.Idle.{idle};
 
+use crate::Hosted;
+use crate::hosting::{find_driver, serve_port};
+use crate::port_run::Told;
+use driver_entry::Driver;
+use gateway_report::{Cause, PortReport, ProcReport, Report};
+use gateway_script::{PortDecl, ProcessDecl, Script};
+use port_signal::{Items, Mails, NoMemory, Receipts};
+use std::alloc::Global;
+
+/// What is reported of processes that have no port.
+fn report_without_ports(alloc: Global, processes: &[ProcessDecl]) -> Result<Report, NoMemory>
+    requires { length processes.now ≤ 1 }
+    ensures { IfOk result (λ r. r ≡ record { ports = []; processes = map idle processes.now }) }
+{
+    let mut told = Vec::new(alloc);
+    for process in processes {
+        told.push(ProcReport {
+            name: process.name.same(),
+            receipts: Receipts::new(alloc),
+            mails: Mails::new(alloc),
+        })?;
+    }
+    Ok(Report {
+        ports: Items::new(alloc),
+        processes: Items::of_vec(told),
+    })
+}
+
+/// What is reported of one port and the one process.
+fn report_of_port(
+    alloc: Global,
+    port: &PortDecl,
+    process: &ProcessDecl,
+    told: Told,
+) -> Result<Report, NoMemory>
+    ensures { IfOk result (λ r. r ≡ record {
+        ports = record { name = port.now.name; driver = port.now.driver; owner = port.now.owner; config = port.now.config; journal = told.journal } ∷ [];
+        processes = record { name = process.now.name; receipts = told.receipts.items; mails = told.mails.items } ∷ [] }) }
+{
+    let Told {
+        journal,
+        receipts,
+        mails,
+    } = told;
+    let mut ports = Vec::new(alloc);
+    ports.push(PortReport {
+        name: port.name.same(),
+        driver: port.driver.same(),
+        owner: port.owner,
+        config: port.config,
+        journal,
+    })?;
+    let mut processes = Vec::new(alloc);
+    processes.push(ProcReport {
+        name: process.name.same(),
+        receipts: Receipts::of_vec(receipts),
+        mails: Mails::of_vec(mails),
+    })?;
+    Ok(Report {
+        ports: Items::of_vec(ports),
+        processes: Items::of_vec(processes),
+    })
+}
