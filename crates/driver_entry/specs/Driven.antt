@@ -20,7 +20,7 @@ pub record Did (kind : Kind) (callback : Callback) (old_held new_held : Held) (o
   pub answers : List Outside
   pub recorded : new.outside ≡ old.outside ++ answers
   pub follows : (config : Config) (earlier : List Call) → old_held ≡ holds kind config earlier
-    → Follows kind config earlier (call_of callback old.caller answers) new_held old new
+      → Follows kind config earlier (call_of callback old.caller answers) new_held old new
 
 -- what `start` did
 pub record Began (kind : Kind) (config : Config) (held : Held) (old new : Context) : Type 0 where
@@ -31,7 +31,7 @@ pub record Began (kind : Kind) (config : Config) (held : Held) (old new : Contex
 -- what `stop` left: it asks nothing of the outside, and has no effect
 pub record Ended (kind : Kind) (old_held new_held : Held) : Type 0 where
   pub follows : (config : Config) (earlier : List Call) (caller : ℕ) → old_held ≡ holds kind config earlier
-    → (new_held ≡ holds kind config (call_of Stop caller [] ∷ earlier)) × (effects_of kind config (call_of Stop caller [] ∷ earlier) ≡ [])
+      → (new_held ≡ holds kind config (call_of Stop caller [] ∷ earlier)) × (effects_of kind config (call_of Stop caller [] ∷ earlier) ≡ [])
       × IsAnswered kind config (call_of Stop caller [] ∷ earlier)
 
 -- a callback keeps the caller, and adds at most 131,072 entries to each list

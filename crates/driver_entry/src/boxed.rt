@@ -18,11 +18,21 @@ impl Driver for Box<dyn Driver + Send> {
         (**self).name()
     }
 
-    fn start(&mut self, alloc: Global, ctx: &mut DriverCtx, config: &Config) -> Result<(), StartRefusal> {
+    fn start(
+        &mut self,
+        alloc: Global,
+        ctx: &mut DriverCtx,
+        config: &Config,
+    ) -> Result<(), StartRefusal> {
         (**self).start(alloc, ctx, config)
     }
 
-    fn outputv(&mut self, alloc: Global, ctx: &mut DriverCtx, payload: &IoVec) -> Result<(), NoMemory> {
+    fn outputv(
+        &mut self,
+        alloc: Global,
+        ctx: &mut DriverCtx,
+        payload: &IoVec,
+    ) -> Result<(), NoMemory> {
         (**self).outputv(alloc, ctx, payload)
     }
 

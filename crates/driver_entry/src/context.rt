@@ -63,10 +63,7 @@ impl DriverCtx {
         ensures err { OnErr result (self.new ≡ self.old) }
     {
         let bytes = bytes.share()?;
-        self.effects.push(Effect::Message {
-            flag,
-            bytes,
-        })?;
+        self.effects.push(Effect::Message { flag, bytes })?;
         Ok(())
     }
 }

@@ -31,7 +31,12 @@ pub trait Driver: Drop {
         ensures { result ≡ kind_name (kind self.now) };
 
     /// Begins to serve a port.
-    fn start(&mut self, alloc: Global, ctx: &mut DriverCtx, config: &Config) -> Result<(), StartRefusal>
+    fn start(
+        &mut self,
+        alloc: Global,
+        ctx: &mut DriverCtx,
+        config: &Config,
+    ) -> Result<(), StartRefusal>
         requires fresh { stage self.old ≡ Life.Fresh }
         requires outside { length ctx.old.outside ≤ 524288 }
         requires effects { length ctx.old.effects ≤ 524288 }
@@ -43,7 +48,12 @@ pub trait Driver: Drop {
         ensures began { OnOk result (Began (kind self.old) config.now (held self.new) ctx.old ctx.new) };
 
     /// Takes the data of a command.
-    fn outputv(&mut self, alloc: Global, ctx: &mut DriverCtx, payload: &IoVec) -> Result<(), NoMemory>
+    fn outputv(
+        &mut self,
+        alloc: Global,
+        ctx: &mut DriverCtx,
+        payload: &IoVec,
+    ) -> Result<(), NoMemory>
         requires started { stage self.old ≡ Life.Started }
         requires outside { length ctx.old.outside ≤ 524288 }
         requires effects { length ctx.old.effects ≤ 524288 }

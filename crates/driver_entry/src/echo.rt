@@ -26,9 +26,7 @@ impl Echo {
     pub fn new() -> Echo
         ensures { result ≡ Life.Fresh }
     {
-        Echo {
-            life: Life::Fresh,
-        }
+        Echo { life: Life::Fresh }
     }
 }
 
@@ -48,12 +46,22 @@ impl Driver for Echo {
         }
     }
 
-    fn start(&mut self, _alloc: Global, _ctx: &mut DriverCtx, _config: &Config) -> Result<(), StartRefusal> {
+    fn start(
+        &mut self,
+        _alloc: Global,
+        _ctx: &mut DriverCtx,
+        _config: &Config,
+    ) -> Result<(), StartRefusal> {
         self.life = Life::Started;
         Ok(())
     }
 
-    fn outputv(&mut self, _alloc: Global, ctx: &mut DriverCtx, payload: &IoVec) -> Result<(), NoMemory> {
+    fn outputv(
+        &mut self,
+        _alloc: Global,
+        ctx: &mut DriverCtx,
+        payload: &IoVec,
+    ) -> Result<(), NoMemory> {
         let data = joined(payload)?;
         ctx.send(Flag::Plain, &data)
     }

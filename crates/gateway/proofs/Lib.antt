@@ -2,3 +2,4 @@ pub mod Made
 pub mod Ending
 pub mod Reports
 pub mod One
+pub mod Backs

@@ -73,14 +73,14 @@ steps-all (step ∷ steps) h =
     keeps-step (eqb step.process 0) step steps (filter (λ s. eqb s.process 0) steps) (below-one step.process (h 0 step (omega arith)))
       (steps-all steps (λ i d l. h (suc i) d (omega arith)))
 
-split : (b : Bool) {C : Type 0} → (b ≡ true → C) → (b ≡ false → C) → C
+pub split : (b : Bool) {C : Type 0} → (b ≡ true → C) → (b ≡ false → C) → C
 split true f g = f refl
 split false f g = g refl
 
-same-from : (m n : ℕ) → eqb m n ≡ true → m ≡ n
+pub same-from : (m n : ℕ) → eqb m n ≡ true → m ≡ n
 same-from m n e = grind (arith, nat_tests)
 
-apart-from : (m n : ℕ) → eqb m n ≡ false → m ≡ n → ⊥
+pub apart-from : (m n : ℕ) → eqb m n ≡ false → m ≡ n → ⊥
 apart-from m n e f = grind (arith, nat_tests)
 
 none≢some : (port : Option ℕ) (n : ℕ) → port ≡ None → port ≡ Some n → ⊥

@@ -1,5 +1,5 @@
 -- Why a run ends as it does, and what it wrote.
-use Rattle.std.specs.Prelude.{◌≡◌, ℕ, ◌<◌, ◌≤◌, ◌⊎◌, List, ◌++◌, length, take, count_by, Bool, Option, Some, None, Result, Ok, Err, IfSome, IfOk, IsSome, slice_index_or}
+use Rattle.std.specs.Prelude.{◌≡◌, ℕ, ◌<◌, ◌≤◌, ◌⊎◌, List, ◌++◌, length, take, count_by, Bool, Option, Some, None, Result, Ok, Err, IfSome, IfOk, IsSome, IsSomeAnd, slice_index_or}
 use Rattle.std.specs.Option.{option_map}
 use Rattle.std.specs.Str.{bytes_eq}
 use Rattle.outside.specs.Causes.{Told, Rose}
@@ -93,3 +93,19 @@ MakeFails count plan WriteFault = ⊥
 MakeFails count plan (NoDriver line handed) = LacksDriver count plan line handed
 MakeFails count plan NoMemory = Unit {0}
 MakeFails count plan (Limit line) = ⊥
+
+-- what was read is a script of at most 1,048,576 bytes that says this
+abbrev pub LoadOk : Told → ℕ → ℕ → List ℕ → Plan → Type 0
+LoadOk told before after name plan = (after ≡ before) × IfSome told (λ files. IfSome (files name) (λ bytes. script bytes ≡ Ok plan) × IsSome (files name))
+
+-- why no script was read
+abbrev pub LoadErr : Told → ℕ → ℕ → List ℕ → Cause → Type 0
+LoadErr told before after name Done = ⊥
+LoadErr told before after name (Usage at) = ⊥
+LoadErr told before after name (Script (BadLine line)) = IfSome told (λ files. IfSome (files name) (λ bytes. script bytes ≡ Err line) × IsSome (files name))
+LoadErr told before after name (Script NoMemoryForScript) = ⊥
+LoadErr told before after name (ReadFault line) = (line ≡ 0) × (Rose before after ⊎ IsSomeAnd told (λ files. files name ≡ None))
+LoadErr told before after name WriteFault = ⊥
+LoadErr told before after name (NoDriver line handed) = ⊥
+LoadErr told before after name NoMemory = Unit {0}
+LoadErr told before after name (Limit line) = (line ≡ 0) × IfSome told (λ files. IfSome (files name) (λ bytes. 1048576 < length bytes) × IsSome (files name))

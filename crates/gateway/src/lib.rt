@@ -6,6 +6,7 @@ mod hosted;
 mod hosting;
 mod port_run;
 mod reporting;
+mod top;
 mod words;
 
 pub use hosted::Hosted;

@@ -68,3 +68,44 @@ fn report_of_port(
         processes: Items::of_vec(processes),
     })
 }
+
+/// Makes the runs of a script: finds the driver of its port, has it serve, and reports. Each driver comes back to its place.
+pub fn make_report<D: Driver>(
+    alloc: Global,
+    script: &Script,
+    hosts: &mut Vec<Hosted<D>>,
+) -> Result<Report, Cause>
+    requires { All (IsUnused D.stage) hosts.old.items }
+    ensures back { AllCameBack D.kind D.stage D.faults hosts.old.items hosts.new.items }
+    ensures headline { IfOk result (λ report. Headline D.kind D.held script.now hosts.new.items report) }
+    ensures ended { IfOk result (λ report. All HasEnded report.ports) }
+    ensures cause { IfErr result (MakeFails (λ name. named_count D.kind name hosts.old.items) script.now) }
+{
+    match script.ports() {
+        [] => {
+            let Ok(report) = report_without_ports(alloc, script.processes()) else {
+                return Err(Cause::NoMemory);
+            };
+            Ok(report)
+        }
+        [port] => {
+            let [process] = script.processes() else {
+                unreachable!();
+            };
+            let Some(at) = find_driver(hosts.as_slice(), &port.driver) else {
+                return Err(Cause::NoDriver {
+                    line: port.line,
+                    handed: 0,
+                });
+            };
+            let Ok(told) = serve_port(alloc, &mut hosts[at], port.config, script.steps()) else {
+                return Err(Cause::NoMemory);
+            };
+            let Ok(report) = report_of_port(alloc, port, process, told) else {
+                return Err(Cause::NoMemory);
+            };
+            Ok(report)
+        }
+        _ => unreachable!(),
+    }
+}

@@ -42,7 +42,8 @@ Extends-handled port older sender seq task done before between after (Some reaso
     record {
       lawful = (
         record { order = order; lifetime = opened; marks = due },
-        record { effects = rw e (f.1 ∙ (sym (append-nil _) ∙ ap (λ xs. effects_after port.kind port.config (calls port older) (signal_calls (Process sender) done.outside task.signal) ++ xs) (sym w.1))); answered = rw e (w.2, f.2) });
+        record { effects = rw e (f.1 ∙ (sym (append-nil _) ∙ ap (λ xs. effects_after port.kind port.config (calls port older) (signal_calls (Process sender) done.outside task.signal) ++ xs) (sym w.1))); answered = rw e (w.2, f.2) },
+      );
       task = refl;
       marks = refl;
       opens = none-after (end_reason port older) (closing_reason port older (Process sender) task.signal) opened ∙ ap is_none e;
@@ -63,4 +64,4 @@ pub handled-extends : (port : Opening) (older : List Row) (sender seq : ℕ) (ta
     → Extends port older (item (Process sender) seq task) (Handled (Process sender) seq task outside effects) closes after
 handled-extends port older sender seq task kind next_kind before between after fresh done outside effects closes starts called kinds went reason o f k opened due order held =
     rw (reason, o, f) (
-      Extends-handled port older sender seq task done before between after _ refl (rw k (rw starts at called)) (rw (k, ← kinds, ← reason) went) opened due order held)
+    Extends-handled port older sender seq task done before between after _ refl (rw k (rw starts at called)) (rw (k, ← kinds, ← reason) went) opened due order held)

@@ -58,7 +58,7 @@ Sound-give port stage held past queue next_queue mail given closed stopped broke
   holds = s.holds;
   order = λ _. InOrder-push (items past) queue x (s.order b) (q ∙ s.numbers b x.sender (rw s.places h));
   numbers = λ _ n l.
-    counted given x.sender x.seq n (items past ++ queue) x refl (rw s.places h) q (s.numbers b n (rw (length-set given x.sender (x.seq + 1)) at l))
+      counted given x.sender x.seq n (items past ++ queue) x refl (rw s.places h) q (s.numbers b n (rw (length-set given x.sender (x.seq + 1)) at l))
       ∙ ap (λ is. length (of n is)) (append_assoc (items past) queue (x ∷ []));
   places = length-set given x.sender (x.seq + 1) ∙ s.places;
   gone = s.gone;

@@ -36,7 +36,7 @@ Adds-trans old mid new posts more a b = record {
   len = b.len ∙ a.len;
   gone = λ process. b.gone process ∙ a.gone process;
   waiting = λ process h.
-    b.waiting process (rw a.len h) ∙ (rw (a.waiting process h, a.gone process) (append_assoc (box_at old process).waiting (cond (box_at old process).gone [] (mail_for process posts)) (cond (box_at old process).gone [] (mail_for process more)) ∙ ap (λ xs. (box_at old process).waiting ++ xs) (unless-append (box_at old process).gone process posts more)));
+      b.waiting process (rw a.len h) ∙ (rw (a.waiting process h, a.gone process) (append_assoc (box_at old process).waiting (cond (box_at old process).gone [] (mail_for process posts)) (cond (box_at old process).gone [] (mail_for process more)) ∙ ap (λ xs. (box_at old process).waiting ++ xs) (unless-append (box_at old process).gone process posts more)));
 }
 
 -- what one more element adds

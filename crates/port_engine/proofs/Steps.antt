@@ -95,8 +95,8 @@ pub Sound-step : (port : Opening) (stage next_stage : Life) (held next_held : He
     → Sound port next_stage next_held (reverse next_rows) next_queue next_mail given (closed || closes) (stopped || closes) (not posted)
 Sound-step port stage next_stage held next_held rows next_rows item queue next_queue mail next_mail given closed stopped broken closes posted row posts s b q e once st r sent =
     rw (r, reverse-with_mark closes rows row)
-      (Sound-row port stage next_stage held next_held (reverse rows) item next_queue mail next_mail given closed stopped broken closes posted row posts
-        (rw q at s) b e once st sent)
+    (Sound-row port stage next_stage held next_held (reverse rows) item next_queue mail next_mail given closed stopped broken closes posted row posts
+    (rw q at s) b e once st sent)
 
 unless : Bool → ℕ → List Post → List Mail
 unless gone process posts = cond gone [] (mail_for process posts)
@@ -125,8 +125,8 @@ mailed-row : (port : Opening) (process : ℕ) (past : List Row) (row : Row) (tak
     → taken ++ waiting ≡ mails port process past → taken ++ next_waiting ≡ mails port process (row ∷ past)
 mailed-row port process past row taken waiting next_waiting gone g w e =
     rw (w, g) (sym (append_assoc taken waiting (cond (is_gone process (row ∷ past)) [] (mail_for process (row_posts port past row))))
-      ∙ (ap (λ ms. ms ++ cond (is_gone process (row ∷ past)) [] (mail_for process (row_posts port past row))) e
-        ∙ sym (mails-row (is_gone process (row ∷ past)) (mails port process past) (mail_for process (row_posts port past row)))))
+    ∙ (ap (λ ms. ms ++ cond (is_gone process (row ∷ past)) [] (mail_for process (row_posts port past row))) e
+    ∙ sym (mails-row (is_gone process (row ∷ past)) (mails port process past) (mail_for process (row_posts port past row)))))
 
 -- what a turn promises, after a step that took a task
 pub Turned-step : (old new : View) (item : Item Task) (row : Row) (closes posted : Bool)
@@ -143,7 +143,7 @@ Turned-step old new item row closes posted o f b nb q r t sent gone = record {
   given = λ _. rw (r, reverse-with_mark closes old.rows row, items-marked closes row (reverse old.rows)) (moved (history_of old) row item new.queue t ∙ ap (λ is. items (history_of old) ++ is) (sym q));
   processes = sent.len;
   mailed = λ n process taken h e.
-    rw (r, reverse-with_mark closes old.rows row, mails-marked closes old.opening process row (reverse old.rows))
+      rw (r, reverse-with_mark closes old.rows row, mails-marked closes old.opening process row (reverse old.rows))
       (mailed-row old.opening process (history_of old) row taken _ _ _ (gone process h) (sent.waiting (posted-true posted (sym nb ∙ n)) process h) e);
 } where
   posted-true : (posted : Bool) → not posted ≡ false → posted ≡ true
@@ -178,5 +178,5 @@ Turned-trans old mid new a b = record {
   given = λ n. b.given n ∙ a.given (still mid.broken new.broken b.broken n);
   processes = b.processes ∙ a.processes;
   mailed = λ n process taken h e.
-    rw a.opening at (b.mailed n process taken (rw a.processes h) (rw a.opening (a.mailed (still mid.broken new.broken b.broken n) process taken h e)));
+      rw a.opening at (b.mailed n process taken (rw a.processes h) (rw a.opening (a.mailed (still mid.broken new.broken b.broken n) process taken h e)));
 }

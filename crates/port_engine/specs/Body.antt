@@ -75,5 +75,5 @@ pub record Turned (old new : View) : Type 0 where
   pub given : new.broken ≡ false → given_of new ≡ given_of old
   pub processes : length new.mail ≡ length old.mail
   pub mailed : new.broken ≡ false → (process : ℕ) (taken : List Mail) → process < length old.mail
-    → taken ++ (box_at old.mail process).waiting ≡ mails old.opening process (history_of old)
-    → taken ++ (box_at new.mail process).waiting ≡ mails old.opening process (history_of new)
+      → taken ++ (box_at old.mail process).waiting ≡ mails old.opening process (history_of old)
+      → taken ++ (box_at new.mail process).waiting ≡ mails old.opening process (history_of new)

@@ -20,7 +20,7 @@ pub record Adds (old new : List Box) (posts : List Post) : Type 0 where
   pub len : length new ≡ length old
   pub gone : (process : ℕ) → (box_at new process).gone ≡ (box_at old process).gone
   pub waiting : (process : ℕ) → process < length old → (box_at new process).waiting
-    ≡ (box_at old process).waiting ++ (if (box_at old process).gone then [] else mail_for process posts)
+      ≡ (box_at old process).waiting ++ (if (box_at old process).gone then [] else mail_for process posts)
 
 -- the sender of a row's task is one of so many processes
 abbrev pub SenderBelow : ℕ → Row → Type 0
@@ -38,4 +38,4 @@ pub record Sends (posted : Bool) (old new : List Box) (row : Row) (posts : List 
   pub len : length new ≡ length old
   pub gone : (process : ℕ) → process < length old → (box_at new process).gone ≡ gone_after process row (box_at old process).gone
   pub waiting : posted ≡ true → (process : ℕ) → process < length old → (box_at new process).waiting
-    ≡ (box_at old process).waiting ++ (if gone_after process row (box_at old process).gone then [] else mail_for process posts)
+      ≡ (box_at old process).waiting ++ (if gone_after process row (box_at old process).gone then [] else mail_for process posts)

@@ -17,9 +17,9 @@ use Rattle.driver_entry.specs.History.{Opening, LawfulRow, is_open, marks_due, c
 -- the driver got the call of a signal, if it has one, and the context has what it did
 pub record Called (kind : Kind) (from : Sender) (signal : Signal) (old_held new_held : Held) (done : Context) : Type 0 where
   pub follows : (config : Config) (earlier : List Call) → old_held ≡ holds kind config earlier
-    → (new_held ≡ holds kind config (signal_calls from done.outside signal ++ earlier))
-    × (done.effects ≡ effects_after kind config earlier (signal_calls from done.outside signal))
-    × AllAnswered kind config earlier (signal_calls from done.outside signal)
+      → (new_held ≡ holds kind config (signal_calls from done.outside signal ++ earlier))
+      × (done.effects ≡ effects_after kind config earlier (signal_calls from done.outside signal))
+      × AllAnswered kind config earlier (signal_calls from done.outside signal)
 
 -- the driver was stopped, or nothing was done
 abbrev pub WentOn : Kind → Bool → Held → Held → Type 0

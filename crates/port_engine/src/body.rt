@@ -61,8 +61,14 @@ impl<D: Driver> Model for Body<D> {
     ghost Value = { View };
 
     ghost view = { λ b. record {
-        opening = record { number = b.number; kind = D.kind b.driver; config = b.config; owner = b.owner };
-        rows = b.rows.items; queue = b.queue.items; mail = b.mail.items; stopped = b.stopped; broken = b.broken; faults = D.faults b.driver } };
+      opening = record { number = b.number; kind = D.kind b.driver; config = b.config; owner = b.owner };
+      rows = b.rows.items;
+      queue = b.queue.items;
+      mail = b.mail.items;
+      stopped = b.stopped;
+      broken = b.broken;
+      faults = D.faults b.driver;
+    } };
 
     ghost invariant = { λ b. Sound (record { number = b.number; kind = D.kind b.driver; config = b.config; owner = b.owner })
         (D.stage b.driver) (D.held b.driver) (reverse b.rows.items) b.queue.items b.mail.items b.given.items b.closed b.stopped b.broken };
@@ -87,10 +93,7 @@ impl<D: Driver> Body<D> {
         ensures faults { IfErr result (λ refused. D.faults parts.driver ≤ D.faults refused.0.driver) }
         ensures stage { IfErr result (λ refused. (D.stage refused.0.driver ≡ Life.Fresh) ⊎ (D.stage refused.0.driver ≡ Life.Stopped)) }
     {
-        let BodyParts {
-            mut driver,
-            config,
-        } = parts;
+        let BodyParts { mut driver, config } = parts;
         let Ok((mail, given)) = mailboxes(alloc, processes as usize) else {
             return Err((BodyParts { driver, config }, StartRefusal::NoMemory));
         };
@@ -245,7 +248,13 @@ impl<D: Driver> Body<D> {
         };
         self.closed |= made.closes;
         self.stopped |= made.closes;
-        let sent = append_row(&mut self.rows, &mut self.mail, self.number, self.owner, made);
+        let sent = append_row(
+            &mut self.rows,
+            &mut self.mail,
+            self.number,
+            self.owner,
+            made,
+        );
         self.broken = !sent;
         if sent { Turn::More } else { Turn::NoMemory }
     }

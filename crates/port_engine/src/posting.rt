@@ -103,12 +103,7 @@ fn post_late(
 }
 
 /// Puts what a row sends, in its order.
-fn post_row(
-    boxes: &mut [Mailbox],
-    number: u32,
-    owner: u32,
-    row: &Row,
-) -> Result<(), NoMemory>
+fn post_row(boxes: &mut [Mailbox], number: u32, owner: u32, row: &Row) -> Result<(), NoMemory>
     requires owner { owner < length boxes.old }
     requires from { SenderBelow (length boxes.old) row.now }
     ensures gone { KeepsGone boxes.old boxes.new }

@@ -23,8 +23,8 @@ IsAscii-fault_from at [] e = λ i. omega arith
 IsAscii-fault_from at (byte ∷ bytes) e =
     let p = passed (ltb at 16 && may_stand at byte) at (fault_from (at + 1) bytes) e in
     λ i. elim i as (λ i. Rattle.std.specs.List.slice_index (byte ∷ bytes) i < 128) [
-      zero ↦ may_stand-ascii at byte (both (ltb at 16) _ p.0)
-    | suc i ↦ IsAscii-fault_from (at + 1) bytes p.1 i
+      | zero ↦ may_stand-ascii at byte (both (ltb at 16) _ p.0)
+      | suc i ↦ IsAscii-fault_from (at + 1) bytes p.1 i
     ]
 
 pub IsUtf8-name_fault : (text : List ℕ) → name_fault text ≡ None → IsUtf8 text

@@ -39,9 +39,7 @@ impl<T> Items<T> {
         requires { vec_len items ≤ MAX_ITEMS }
         ensures { result ≡ items.items }
     {
-        Items {
-            items,
-        }
+        Items { items }
     }
 
     /// The entries, moved back.
@@ -89,9 +87,7 @@ impl<T> Log<T> {
     pub fn of_vec(items: Vec<T>) -> Log<T>
         ensures { result ≡ items.items }
     {
-        Log {
-            items,
-        }
+        Log { items }
     }
 
     /// The entries, moved back.

@@ -22,4 +22,3 @@ pub use receipt::{Outcome, Receipt, Receipts};
 pub use row::{Effect, Journal, MarkKind, Outside, Row, Rows};
 pub use signal::{Sender, Signal, Task};
 pub use spelling::reason;
-

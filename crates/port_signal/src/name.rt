@@ -43,16 +43,12 @@ impl Reason {
         ensures fault { IfErr result (λ f. name_fault bytes.now ≡ Some (place_of f)) }
     {
         if bytes.is_empty() {
-            return Err(ReasonFault::NotAName {
-                at: 0,
-            });
+            return Err(ReasonFault::NotAName { at: 0 });
         }
         let mut name = [0; MAX_NAME];
         for (at, byte) in bytes.iter().enumerate() {
             if !may_stand_at(at, *byte) {
-                return Err(ReasonFault::NotAName {
-                    at: at as u64,
-                });
+                return Err(ReasonFault::NotAName { at: at as u64 });
             }
             name[at] = *byte;
         }

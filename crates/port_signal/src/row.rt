@@ -43,7 +43,11 @@ pub enum Row {
         effects: Items<Effect>,
     },
     /// A task came when the port was no longer open. No driver was called.
-    Late { from: Sender, seq: u64, task: Task },
+    Late {
+        from: Sender,
+        seq: u64,
+        task: Task,
+    },
     Mark(MarkKind),
 }
 

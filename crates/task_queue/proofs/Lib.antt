@@ -1,0 +1,5 @@
+pub mod Items
+pub mod Hands
+pub mod Keeps
+pub mod Told
+pub mod Sent
