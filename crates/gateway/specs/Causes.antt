@@ -44,7 +44,7 @@ pub record Counts : Type 0 where
 
 -- each cause comes only where this holds
 abbrev pub CauseComes : Result (List ℕ) ℕ → Told → (List ℕ → ℕ) → Counts → Counts → Cause → Type 0
-CauseComes words told count before after Done = after ≡ before
+CauseComes words told count before after Done = (after.reads ≡ before.reads) × (after.writes ≡ before.writes) × (after.puts ≡ before.puts)
 CauseComes words told count before after (Usage at) = words ≡ Err at
 CauseComes words told count before after (Script (BadLine line)) = OfScript words told (λ held. IfSome held (λ bytes. script bytes ≡ Err line))
 CauseComes words told count before after (Script NoMemoryForScript) = ⊥
@@ -109,3 +109,14 @@ LoadErr told before after name WriteFault = ⊥
 LoadErr told before after name (NoDriver line handed) = ⊥
 LoadErr told before after name NoMemory = Unit {0}
 LoadErr told before after name (Limit line) = (line ≡ 0) × IfSome told (λ files. IfSome (files name) (λ bytes. 1048576 < length bytes) × IsSome (files name))
+
+-- how the report was written
+abbrev pub WriteComes : ℕ → ℕ → Cause → Type 0
+WriteComes before after Done = after ≡ before
+WriteComes before after (Usage at) = ⊥
+WriteComes before after (Script fault) = ⊥
+WriteComes before after (ReadFault line) = ⊥
+WriteComes before after WriteFault = Rose before after
+WriteComes before after (NoDriver line handed) = ⊥
+WriteComes before after NoMemory = Unit {0}
+WriteComes before after (Limit line) = ⊥

@@ -6,11 +6,11 @@ ghost use Rattle.task_queue.specs.Lane.{sender_hand, taker_hand};
 
 use crate::fits::Fits;
 use crate::item::Item;
-use no_memory::NoMemory;
 use crate::protocol::{Hand, Keyed, Opens, Rule};
 use crate::send_end::SendEnd;
 use crate::take_end::TakeEnd;
 use crossbeam_queue::{RuledSegQueue, SegPass};
+use no_memory::NoMemory;
 use std::alloc::{AllocError, Global};
 use std::marker::Brand;
 use std::snapshot::Snapshot;

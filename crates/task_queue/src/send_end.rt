@@ -6,8 +6,8 @@ ghost use Rattle.task_queue.specs.Lane.{sender_hand};
 use crate::channel::{Pass, Shared};
 use crate::fits::Fits;
 use crate::item::Item;
-use no_memory::NoMemory;
 use crate::protocol::{Puts, Splits};
+use no_memory::NoMemory;
 use std::marker::Model;
 use std::sync::{Arc, Wait};
 
