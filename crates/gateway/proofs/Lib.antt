@@ -3,3 +3,4 @@ pub mod Ending
 pub mod Reports
 pub mod One
 pub mod Backs
+pub mod Whole

@@ -9,5 +9,8 @@ mod reporting;
 mod top;
 mod words;
 
+
 pub use hosted::Hosted;
+pub use gateway_report::{Cause, PortReport, ProcReport, Report, cause_text, report_text};
+pub use top::{Ended, gateway};
 pub use words::script_name;

@@ -8,7 +8,7 @@ ghost use Rattle.gateway_report.specs.Report.{text_of};
 ghost use Rattle.gateway.specs.Words.{asked};
 ghost use Rattle.gateway.specs.Hosts.{AllCameBack, IsUnused, named_count};
 ghost use Rattle.gateway.specs.Headline.{Headline};
-ghost use Rattle.gateway.specs.Causes.{CauseComes, IsReported, LoadErr, LoadOk, Says, WriteComes, Wrote};
+ghost use Rattle.gateway.specs.Causes.{CauseComes, Completes, IsReported, LoadErr, LoadOk, Says, WriteComes, Wrote};
 
 use crate::Hosted;
 use crate::reporting::make_report;
@@ -16,7 +16,7 @@ use crate::script_name;
 use driver_entry::Driver;
 use gateway_report::{Cause, Report, report_text};
 use gateway_script::{Script, ScriptFault, read_script};
-use outside::{FileFault, Files, Sink};
+use outside::{FileFault, Files, Gate, PollSet, Sink};
 use std::alloc::Global;
 
 /// The most bytes of a script.
@@ -115,4 +115,83 @@ fn run_words<D: Driver, F: Files, K: Sink>(
         Ok(report) => write_report(alloc, out, report),
         Err(cause) => Outcome::without_report(cause),
     }
+}
+
+/// How a run ended: the status and its cause, the report where the run was made, the drivers that were handed in, in their order, and
+/// the poll set.
+pub struct Ended<P, D = Box<dyn Driver + Send>> {
+    pub status: u8,
+    pub cause: Cause,
+    pub report: Option<Report>,
+    pub drivers: Vec<Hosted<D>>,
+    pub poll: Option<P>,
+}
+
+/// The run over drivers of any one type.
+fn run_hosted<D: Driver, F: Files, K: Sink, P>(
+    alloc: Global,
+    words: &[String],
+    files: &mut F,
+    out: &mut K,
+    drivers: Vec<Hosted<D>>,
+    poll: P,
+) -> Ended<P, D>
+    requires { All (IsUnused D.stage) drivers.items }
+    ensures status { result.status ≡ status_of result.cause }
+    ensures cause { CauseComes (asked (map (λ w. string_bytes w) words.now)) (F.told files.old) (λ name. named_count D.kind name drivers.items)
+        (record { reads = F.reads files.old; writes = F.writes files.old; puts = K.faults out.old })
+        (record { reads = F.reads files.new; writes = F.writes files.new; puts = K.faults out.new }) result.cause }
+    ensures complete { Completes (asked (map (λ w. string_bytes w) words.now)) (F.told files.old) (λ name. named_count D.kind name drivers.items)
+        (record { reads = F.reads files.old; writes = F.writes files.old; puts = K.faults out.old })
+        (record { reads = F.reads files.new; writes = F.writes files.new; puts = K.faults out.new }) result.cause }
+    ensures reported { IsReported result.cause result.report }
+    ensures wrote { Wrote (K.written out.old) (K.written out.new) result.cause result.report }
+    ensures back { AllCameBack D.kind D.stage D.faults drivers.items result.drivers.items }
+    ensures headline { IfSome result.report (λ report. (plan : Plan) → Says (asked (map (λ w. string_bytes w) words.now)) (F.told files.old) plan
+        → Headline D.kind D.held plan result.drivers.items report) }
+    ensures poll { result.poll ≡ Some poll }
+{
+    let mut drivers = drivers;
+    let Outcome { cause, report } = run_words(alloc, words, files, out, &mut drivers);
+    Ended {
+        status: cause.status(),
+        cause,
+        report,
+        drivers,
+        poll: Some(poll),
+    }
+}
+
+/// Runs what the words ask for: `run SCRIPT`. They exclude the program's own name.
+///
+/// The script is read from `files` and has at most 1,048,576 bytes; the report is written to `out`. Each driver serves at most one port,
+/// the first one that has its name. Neither the poll set nor the gate is used: the run is made by this thread alone.
+///
+/// Whatever the status, each driver comes back in its place, fresh or stopped.
+pub fn gateway<F: Files, K: Sink, P: PollSet + Send, G: Gate + Sync, R: Sync>(
+    _rt: &R,
+    alloc: Global,
+    words: &[String],
+    files: &mut F,
+    out: &mut K,
+    drivers: Vec<Hosted>,
+    poll: P,
+    _gate: &G,
+) -> Ended<P>
+    requires { All (IsUnused (λ b. stage b)) drivers.items }
+    ensures status { result.status ≡ status_of result.cause }
+    ensures cause { CauseComes (asked (map (λ w. string_bytes w) words.now)) (F.told files.old) (λ name. named_count (λ b. kind b) name drivers.items)
+        (record { reads = F.reads files.old; writes = F.writes files.old; puts = K.faults out.old })
+        (record { reads = F.reads files.new; writes = F.writes files.new; puts = K.faults out.new }) result.cause }
+    ensures complete { Completes (asked (map (λ w. string_bytes w) words.now)) (F.told files.old) (λ name. named_count (λ b. kind b) name drivers.items)
+        (record { reads = F.reads files.old; writes = F.writes files.old; puts = K.faults out.old })
+        (record { reads = F.reads files.new; writes = F.writes files.new; puts = K.faults out.new }) result.cause }
+    ensures reported { IsReported result.cause result.report }
+    ensures wrote { Wrote (K.written out.old) (K.written out.new) result.cause result.report }
+    ensures back { AllCameBack (λ b. kind b) (λ b. stage b) (λ b. (Driver-box b).faults b.value) drivers.items result.drivers.items }
+    ensures headline { IfSome result.report (λ report. (plan : Plan) → Says (asked (map (λ w. string_bytes w) words.now)) (F.told files.old) plan
+        → Headline (λ b. kind b) (λ b. held b) plan result.drivers.items report) }
+    ensures poll { result.poll ≡ Some poll }
+{
+    run_hosted(alloc, words, files, out, drivers, poll)
 }
