@@ -1,7 +1,7 @@
 //! A boxed driver is a driver: what a run is handed are boxes.
 ghost use Rattle.std.specs.Prelude.{◌≡◌};
 
-use crate::{Config, Driver, DriverCtx, StartRefusal};
+use crate::{Config, Driver, DriverCtx, Life, StartRefusal};
 use port_signal::{IoVec, NoMemory, Reason};
 use std::alloc::Global;
 
@@ -13,6 +13,10 @@ impl Driver for Box<dyn Driver + Send> {
     ghost stage = { λ b. (Driver-box b).stage b.value };
 
     ghost faults = { λ b. (Driver-box b).faults b.value };
+
+    fn life(&self) -> Life {
+        (**self).life()
+    }
 
     fn name(&self) -> Reason {
         (**self).name()

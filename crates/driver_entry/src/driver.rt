@@ -30,6 +30,10 @@ pub trait Driver: Drop {
     fn name(&self) -> Reason
         ensures { result ≡ kind_name (kind self.now) };
 
+    /// Whether it is fresh, started or stopped.
+    fn life(&self) -> Life
+        ensures { result ≡ stage self.now };
+
     /// Begins to serve a port.
     fn start(
         &mut self,

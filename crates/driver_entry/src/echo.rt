@@ -46,6 +46,10 @@ impl Driver for Echo {
         }
     }
 
+    fn life(&self) -> Life {
+        self.life
+    }
+
     fn start(
         &mut self,
         _alloc: Global,

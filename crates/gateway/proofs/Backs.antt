@@ -55,9 +55,9 @@ module _ {D : Type 0} where
   back-set kind stage faults hosts at old host unused within was back = record {
     len = length-set hosts at host;
     hosts = λ k d l. split (eqb k at)
-      (λ same. let e = same-from k at same in
+        (λ same. let e = same-from k at same in
         rw e (rw (get_or-set_same hosts at host d within, get_or_default hosts at d old within ∙ sym was) back))
-      (λ apart. rw (get_or-set_other hosts at k host d (apart-from k at apart)) (same-back kind stage faults (slice_index_or hosts k d) (unused k d l)));
+        (λ apart. rw (get_or-set_other hosts at k host d (apart-from k at apart)) (same-back kind stage faults (slice_index_or hosts k d) (unused k d l)));
   }
 
   -- the kind of the driver that served is the one that was asked for
@@ -70,7 +70,7 @@ module _ {D : Type 0} where
       let e : is_named kind decl.driver old ≡ true = ap (is_named kind decl.driver) was ∙ named old in
       let n : bytes_eq (kind_name (kind back.before)) decl.driver ≡ true = ap (λ d. option_map_or (λ d. bytes_eq (kind_name (kind d)) decl.driver) d false) (sym back.handed) ∙ e in
       ap (λ d. kind_name (kind d)) (sym same) ∙ (ap kind_name back.same_kind ∙ (bytes_eq-Decides (kind_name (kind back.before)) decl.driver).0 n)
-      where
+    where
       some-same : (a b : D) → Some a ≡ Some b → a ≡ b
       some-same a b e = cc
 
@@ -90,7 +90,7 @@ module _ {D : Type 0} where
           mail = λ i d l. absurd (omega arith);
         });
       })
-      where
+    where
       no-steps : (steps : List Step) (n : ℕ) → n < 1 → All (λ s. port_of s.act < n) steps → steps ≡ []
       no-steps [] n h a = refl
       no-steps (step ∷ steps) n h a = let l : port_of step.act < n = a 0 step (omega arith) in absurd (omega arith)

@@ -53,9 +53,9 @@ of-one n xs x =
 one-ends : (b : Bool) (x : Item Task) → tells_end (map (λ i. i.value) (cond b (x ∷ []) [])) ≡ true → (b ≡ true) × (is_end x.value.signal ≡ true)
 one-ends true x e = (refl, or-false (is_end x.value.signal) e)
   where
-  or-false : (p : Bool) → (p || false) ≡ true → p ≡ true
-  or-false true h = refl
-  or-false false h = h
+    or-false : (p : Bool) → (p || false) ≡ true → p ≡ true
+    or-false true h = refl
+    or-false false h = h
 one-ends false x e = absurd cc
 
 -- the end of its owner closes an open port
@@ -79,11 +79,11 @@ ended-by-owner : (port : Opening) (history : List Row) → Lawful port history �
 ended-by-owner port [] l e = absurd cc
 ended-by-owner port (Handled from seq task outside effects ∷ older) l e =
     either (tells_end (of port.owner (items older))) (tells_end (map (λ i. i.value) (cond (eqb (sender_number from) port.owner) (item from seq task ∷ []) [])))
-      (sym (list_any-append (λ t. is_end t.signal) (of port.owner (items older)) (map (λ i. i.value) (cond (eqb (sender_number from) port.owner) (item from seq task ∷ []) [])))
-        ∙ (ap tells_end (sym (of-one port.owner (items older) (item from seq task))) ∙ e))
-      (λ before. closed-stays (end_reason port older) (closing_reason port older from task.signal) (ended-by-owner port older l.1 before))
-      (λ now. let o = one-ends (eqb (sender_number from) port.owner) (item from seq task) now in
-        closes-now (end_reason port older) (closing_reason port older from task.signal) (end-closes port older from task.signal o.0 o.1))
+    (sym (list_any-append (λ t. is_end t.signal) (of port.owner (items older)) (map (λ i. i.value) (cond (eqb (sender_number from) port.owner) (item from seq task ∷ []) [])))
+    ∙ (ap tells_end (sym (of-one port.owner (items older) (item from seq task))) ∙ e))
+    (λ before. closed-stays (end_reason port older) (closing_reason port older from task.signal) (ended-by-owner port older l.1 before))
+    (λ now. let o = one-ends (eqb (sender_number from) port.owner) (item from seq task) now in
+    closes-now (end_reason port older) (closing_reason port older from task.signal) (end-closes port older from task.signal o.0 o.1))
 ended-by-owner port (Late from seq task ∷ older) l e = l.0.lifetime
 ended-by-owner port (Mark kind ∷ older) l e = ended-by-owner port older l.1 e
 
@@ -107,22 +107,22 @@ exited port process asks body [] m l o k = absurd m.receipts
 exited port process asks body (receipt ∷ receipts) m l o k =
     let a = m.receipts.0 in
     split (is_closed a.stat)
-      (λ c. split (is_open port (history_of body))
-        (λ opened. absurd (not-closed (marks (history_of body)) (a.stat / 4) a.stat (k ∙ ap (λ b. cond b [] (ClosedMark ∷ [])) opened) a.agrees.1 c))
-        (λ closed. closed))
-      (λ c. ended-by-owner port (history_of body) l (
-        let put = a.put c in
-        let tasks : of process (items (history_of body)) ≡ accepted port.number asks receipts ++ (exit_ask port.number).task ∷ [] =
-          ap (of process) (sym (ap (λ q. items (history_of body) ++ q) m.idle ∙ append-nil (items (history_of body))))
-          ∙ (m.tasks ∙ ap (λ ts. accepted port.number asks receipts ++ ts)
-            (ap (λ b. cond (eqb receipt.port port.number && is_accepted b) ((exit_ask port.number).task ∷ []) []) put.0
-              ∙ put-task (eqb receipt.port port.number) (exit_ask port.number).task (rw a.port (same-number port.number)))) in
-        ap tells_end (ap (λ n. of n (items (history_of body))) o ∙ tasks)
-          ∙ (list_any-append (λ t. is_end t.signal) (accepted port.number asks receipts) ((exit_ask port.number).task ∷ []) ∙ or-true (tells_end (accepted port.number asks receipts)))))
+    (λ c. split (is_open port (history_of body))
+    (λ opened. absurd (not-closed (marks (history_of body)) (a.stat / 4) a.stat (k ∙ ap (λ b. cond b [] (ClosedMark ∷ [])) opened) a.agrees.1 c))
+    (λ closed. closed))
+    (λ c. ended-by-owner port (history_of body) l (
+    let put = a.put c in
+    let tasks : of process (items (history_of body)) ≡ accepted port.number asks receipts ++ (exit_ask port.number).task ∷ [] =
+    ap (of process) (sym (ap (λ q. items (history_of body) ++ q) m.idle ∙ append-nil (items (history_of body))))
+    ∙ (m.tasks ∙ ap (λ ts. accepted port.number asks receipts ++ ts)
+    (ap (λ b. cond (eqb receipt.port port.number && is_accepted b) ((exit_ask port.number).task ∷ []) []) put.0
+    ∙ put-task (eqb receipt.port port.number) (exit_ask port.number).task (rw a.port (same-number port.number)))) in
+    ap tells_end (ap (λ n. of n (items (history_of body))) o ∙ tasks)
+    ∙ (list_any-append (λ t. is_end t.signal) (accepted port.number asks receipts) ((exit_ask port.number).task ∷ []) ∙ or-true (tells_end (accepted port.number asks receipts)))))
   where
-  or-true : (b : Bool) → (b || true) ≡ true
-  or-true true = refl
-  or-true false = refl
+    or-true : (b : Bool) → (b || true) ≡ true
+    or-true true = refl
+    or-true false = refl
 
 -- what a process has made of an idle port is kept by the report of the two
 pub kept : (port : Opening) (process : ℕ) (asks : List Ask) (body : View) (receipts : List Receipt) (history : List Row) (came : List Mail)

@@ -56,7 +56,8 @@ AreReceipts-more : (ms more : List MarkKind) (asks : List Ask) (receipts : List 
 AreReceipts-more ms more [] [] a = tt
 AreReceipts-more ms more [] (receipt ∷ receipts) a = a
 AreReceipts-more ms more (ask ∷ asks) [] a = a
-AreReceipts-more ms more (ask ∷ asks) (receipt ∷ receipts) a = (record {
+AreReceipts-more ms more (ask ∷ asks) (receipt ∷ receipts) a = (
+  record {
     line = a.0.line;
     port = a.0.port;
     stat = a.0.stat;
@@ -65,7 +66,9 @@ AreReceipts-more ms more (ask ∷ asks) (receipt ∷ receipts) a = (record {
     rises = a.0.rises;
     closed = a.0.closed;
     put = a.0.put;
-  }, AreReceipts-more ms more asks receipts a.1)
+  },
+  AreReceipts-more ms more asks receipts a.1,
+)
 
 -- receipts show no more marks than there are
 all-shown : (ms : List MarkKind) (port : ℕ) (asks : List Ask) (receipts : List Receipt) → AreReceipts (λ _. ms) asks receipts → ShowAtMost port (length ms) receipts
@@ -103,23 +106,26 @@ puts false task e = absurd cc
 pub HasMade-refused : (port : Opening) (process : ℕ) (asks : List Ask) (body : View) (receipts : List Receipt) (line number stat : ℕ) (task : Task)
     → HasMade port process asks body receipts → port.number ≡ number → stat ≡ stat_of (marks (history_of body)) → is_closed stat ≡ true
     → HasMade port process (record { line = line; port = number; task = task } ∷ asks) body
-        (record { line = line; port = number; seq = None; stat = Some stat; outcome = Closed } ∷ receipts)
+    (record { line = line; port = number; seq = None; stat = Some stat; outcome = Closed } ∷ receipts)
 HasMade-refused port process asks body receipts line number stat task m n w c = record {
   opening = m.opening;
   place = m.place;
   idle = m.idle;
   memory = m.memory;
   tasks = m.tasks ∙ (sym (append-nil (accepted port.number asks receipts)) ∙ ap (λ ts. accepted port.number asks receipts ++ ts) (refuses (eqb number port.number) task));
-  receipts = (record {
-    line = refl;
-    port = refl;
-    stat = stat;
-    found = refl;
-    agrees = rw w (stat-agrees (marks (history_of body)));
-    rises = rw (w, shows-all (marks (history_of body))) (all-shown (marks (history_of body)) number asks receipts m.receipts);
-    closed = λ _. (refl, refl);
-    put = λ o. absurd (apart (sym c ∙ o));
-  }, m.receipts);
+  receipts = (
+    record {
+      line = refl;
+      port = refl;
+      stat = stat;
+      found = refl;
+      agrees = rw w (stat-agrees (marks (history_of body)));
+      rises = rw (w, shows-all (marks (history_of body))) (all-shown (marks (history_of body)) number asks receipts m.receipts);
+      closed = λ _. (refl, refl);
+      put = λ o. absurd (apart (sym c ∙ o));
+    },
+    m.receipts,
+  );
   mail = m.mail;
 }
 
@@ -129,12 +135,12 @@ pub HasMade-put : (port : Opening) (process : ℕ) (asks : List Ask) (body after
     → seq ≡ length (of process (given_of body))
     → Turned (record body { queue = body.queue ++ item (Process process) seq task ∷ [] }) after → after.queue ≡ [] → after.broken ≡ false
     → HasMade port process (record { line = line; port = number; task = task } ∷ asks) after
-        (record { line = line; port = number; seq = Some seq; stat = Some stat; outcome = Accepted } ∷ receipts)
+    (record { line = line; port = number; seq = Some seq; stat = Some stat; outcome = Accepted } ∷ receipts)
 HasMade-put port process asks body after receipts line number stat seq task m n w c s t i b =
     let before = marks (history_of body) in
     let more = marks (reverse t.rows.0) in
     let grown : marks (history_of after) ≡ before ++ more =
-        ap (λ rs. marks (reverse rs)) t.rows.1 ∙ (ap marks (reverse-append body.rows t.rows.0) ∙ marks-append (reverse t.rows.0) (history_of body)) in
+    ap (λ rs. marks (reverse rs)) t.rows.1 ∙ (ap marks (reverse-append body.rows t.rows.0) ∙ marks-append (reverse t.rows.0) (history_of body)) in
     let own_number : eqb number port.number ≡ true = rw n (same-number number) in
     record {
       opening = t.opening ∙ m.opening;
@@ -142,18 +148,21 @@ HasMade-put port process asks body after receipts line number stat seq task m n 
       idle = i;
       memory = b;
       tasks =
-        ap (of process) (t.given b ∙ sym (append_assoc (items (history_of body)) body.queue (item (Process process) seq task ∷ [])))
-        ∙ (of-push process (given_of body) seq task
-        ∙ (ap (λ ts. ts ++ task ∷ []) m.tasks ∙ ap (λ ts. accepted port.number asks receipts ++ ts) (puts (eqb number port.number) task own_number)));
-      receipts = (record {
-        line = refl;
-        port = refl;
-        stat = stat;
-        found = refl;
-        agrees = rw grown (agrees-more before more stat (rw w (stat-agrees before)));
-        rises = rw (w, shows-all before) (all-shown before number asks receipts m.receipts);
-        closed = λ e. absurd (apart (sym e ∙ c));
-        put = λ _. (refl, ap Some (s ∙ (ap length m.tasks ∙ ap (λ k. length (accepted k asks receipts)) n)));
-      }, subst (λ ms. AreReceipts (λ _. ms) asks receipts) (sym grown) (AreReceipts-more before more asks receipts m.receipts));
+          ap (of process) (t.given b ∙ sym (append_assoc (items (history_of body)) body.queue (item (Process process) seq task ∷ [])))
+          ∙ (of-push process (given_of body) seq task
+          ∙ (ap (λ ts. ts ++ task ∷ []) m.tasks ∙ ap (λ ts. accepted port.number asks receipts ++ ts) (puts (eqb number port.number) task own_number)));
+      receipts = (
+        record {
+          line = refl;
+          port = refl;
+          stat = stat;
+          found = refl;
+          agrees = rw grown (agrees-more before more stat (rw w (stat-agrees before)));
+          rises = rw (w, shows-all before) (all-shown before number asks receipts m.receipts);
+          closed = λ e. absurd (apart (sym e ∙ c));
+          put = λ _. (refl, ap Some (s ∙ (ap length m.tasks ∙ ap (λ k. length (accepted k asks receipts)) n)));
+        },
+        subst (λ ms. AreReceipts (λ _. ms) asks receipts) (sym grown) (AreReceipts-more before more asks receipts m.receipts),
+      );
       mail = t.mailed b process [] m.place (m.mail ∙ ap (λ o. mails o process (history_of body)) (sym m.opening)) ∙ ap (λ o. mails o process (history_of after)) m.opening;
     }

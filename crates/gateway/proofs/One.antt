@@ -48,7 +48,8 @@ AreReceipts-at : (before after : ℕ → List MarkKind) (number : ℕ) (calls : 
 AreReceipts-at before after number [] [] f e a = tt
 AreReceipts-at before after number [] (receipt ∷ got) f e a = a
 AreReceipts-at before after number (ask ∷ calls) [] f e a = a
-AreReceipts-at before after number (ask ∷ calls) (receipt ∷ got) f e a = (record {
+AreReceipts-at before after number (ask ∷ calls) (receipt ∷ got) f e a = (
+  record {
     line = a.0.line;
     port = a.0.port;
     stat = a.0.stat;
@@ -57,7 +58,9 @@ AreReceipts-at before after number (ask ∷ calls) (receipt ∷ got) f e a = (re
     rises = a.0.rises;
     closed = a.0.closed;
     put = a.0.put;
-  }, AreReceipts-at before after number calls got f.1 e a.1)
+  },
+  AreReceipts-at before after number calls got f.1 e a.1,
+)
 
 keeps-step : (b : Bool) (step : Step) (steps kept : List Step) → b ≡ true → kept ≡ steps → cond b (step ∷ kept) kept ≡ step ∷ steps
 keeps-step true step steps kept e k = ap (λ ss. step ∷ ss) k
@@ -71,7 +74,7 @@ steps-all : (steps : List Step) → All (λ s. s.process < 1) steps → filter (
 steps-all [] h = refl
 steps-all (step ∷ steps) h =
     keeps-step (eqb step.process 0) step steps (filter (λ s. eqb s.process 0) steps) (below-one step.process (h 0 step (omega arith)))
-      (steps-all steps (λ i d l. h (suc i) d (omega arith)))
+    (steps-all steps (λ i d l. h (suc i) d (omega arith)))
 
 pub split : (b : Bool) {C : Type 0} → (b ≡ true → C) → (b ≡ false → C) → C
 split true f g = f refl
@@ -94,16 +97,16 @@ module _ {D : Type 0} where
       → at < length hosts → All (λ h. h.port ≡ None) hosts → (keeps : HostKeeps kind held decl.config steps host rows got came)
       → kind_name (kind keeps.driver) ≡ decl.driver → decl.owner ≡ 0 → All (λ s. s.process < 1) steps
       → Serves kind held (record { processes = proc ∷ []; ports = decl ∷ []; steps = steps }) (slice_set hosts at host) 0 decl
-          (record { name = decl.name; driver = decl.driver; owner = decl.owner; config = decl.config; journal = record { rows = rows } })
-          (record { name = proc.name; receipts = got; mails = came } ∷ [])
+      (record { name = decl.name; driver = decl.driver; owner = decl.owner; config = decl.config; journal = record { rows = rows } })
+      (record { name = proc.name; receipts = got; mails = came } ∷ [])
   Serves-one kind held proc decl steps hosts at host rows got came within unused keeps named owner processes = record {
     at = at;
     driver = keeps.driver;
     within = rw (length-set hosts at host) within;
     host = λ d. get_or-set_same hosts at host d within ∙ keeps.served;
     alone = λ other d l e. split (eqb other at)
-      (λ same. same-from other at same)
-      (λ apart. absurd (none≢some (slice_index_or (slice_set hosts at host) other d).port 0
+        (λ same. same-from other at same)
+        (λ apart. absurd (none≢some (slice_index_or (slice_set hosts at host) other d).port 0
         (ap (λ h. h.port) (get_or-set_other hosts at other host d (apart-from other at apart)) ∙ unused other d (rw (length-set hosts at host) at l)) e));
     holds = record {
       name = refl;
@@ -114,16 +117,16 @@ module _ {D : Type 0} where
       keeps = rw owner keeps.port_keeps;
     };
     pairs = λ process d l.
-      elim process as (λ process. process < 1 → PairHolds (record { processes = proc ∷ []; ports = decl ∷ []; steps = steps }) process 0 (kind keeps.driver)
+        elim process as (λ process. process < 1 → PairHolds (record { processes = proc ∷ []; ports = decl ∷ []; steps = steps }) process 0 (kind keeps.driver)
         (record { name = decl.name; driver = decl.driver; owner = decl.owner; config = decl.config; journal = record { rows = rows } })
         (slice_index_or (record { name = proc.name; receipts = got; mails = came } ∷ []) process d)) [
-        zero ↦ λ _. record {
-          tasks = rw (steps-all steps processes) keeps.pair_keeps.tasks;
-          mail = rw owner (ap (mail_from 0) keeps.pair_keeps.mail
-            ∙ (mail_from-all 0 _ (mails-from (record { number = 0; kind = kind keeps.driver; config = decl.config; owner = 0 }) 0 (reverse rows))));
-        }
-      | suc process ↦ λ l. absurd (omega arith)
-      ] l;
+          | zero ↦ λ _. record {
+            tasks = rw (steps-all steps processes) keeps.pair_keeps.tasks;
+            mail = rw owner (ap (mail_from 0) keeps.pair_keeps.mail
+                ∙ (mail_from-all 0 _ (mails-from (record { number = 0; kind = kind keeps.driver; config = decl.config; owner = 0 }) 0 (reverse rows))));
+          }
+          | suc process ↦ λ l. absurd (omega arith)
+        ] l;
   }
 
   -- the report of the one port and the one process
@@ -132,31 +135,32 @@ module _ {D : Type 0} where
       → at < length hosts → All (λ h. h.port ≡ None) hosts → (keeps : HostKeeps kind held decl.config steps host rows got came)
       → kind_name (kind keeps.driver) ≡ decl.driver → decl.owner ≡ 0 → All (λ s. s.process < 1) steps → All (λ s. port_of s.act ≡ 0) steps
       → Headline kind held (record { processes = proc ∷ []; ports = decl ∷ []; steps = steps }) (slice_set hosts at host) (record {
-          ports = record { name = decl.name; driver = decl.driver; owner = decl.owner; config = decl.config; journal = record { rows = rows } } ∷ [];
-          processes = record { name = proc.name; receipts = got; mails = came } ∷ [] })
+        ports = record { name = decl.name; driver = decl.driver; owner = decl.owner; config = decl.config; journal = record { rows = rows } } ∷ [];
+        processes = record { name = proc.name; receipts = got; mails = came } ∷ [];
+      })
   Headline-one kind held proc decl steps hosts at host rows got came within unused keeps named owner processes ports = record {
     ports = refl;
     processes = refl;
     served = λ k d p l.
-      elim k as (λ k. k < 1 → Serves kind held (record { processes = proc ∷ []; ports = decl ∷ []; steps = steps }) (slice_set hosts at host) k (slice_index_or (decl ∷ []) k d)
+        elim k as (λ k. k < 1 → Serves kind held (record { processes = proc ∷ []; ports = decl ∷ []; steps = steps }) (slice_set hosts at host) k (slice_index_or (decl ∷ []) k d)
         (slice_index_or (record { name = decl.name; driver = decl.driver; owner = decl.owner; config = decl.config; journal = record { rows = rows } } ∷ []) k p)
         (record { name = proc.name; receipts = got; mails = came } ∷ [])) [
-        zero ↦ λ _. Serves-one kind held proc decl steps hosts at host rows got came within unused keeps named owner processes
-      | suc k ↦ λ l. absurd (omega arith)
-      ] l;
+          | zero ↦ λ _. Serves-one kind held proc decl steps hosts at host rows got came within unused keeps named owner processes
+          | suc k ↦ λ l. absurd (omega arith)
+        ] l;
     told = λ s d q l.
-      elim s as (λ s. s < 1 → ProcessHolds (record { processes = proc ∷ []; ports = decl ∷ []; steps = steps }) (slice_index_or (proc ∷ []) s d) s
+        elim s as (λ s. s < 1 → ProcessHolds (record { processes = proc ∷ []; ports = decl ∷ []; steps = steps }) (slice_index_or (proc ∷ []) s d) s
         (record { name = decl.name; driver = decl.driver; owner = decl.owner; config = decl.config; journal = record { rows = rows } } ∷ [])
         (slice_index_or (record { name = proc.name; receipts = got; mails = came } ∷ []) s q)) [
-        zero ↦ λ _. record {
-          name = refl;
-          receipts = λ p. rw (steps-all steps processes) (AreReceipts-at (λ _. marks (reverse rows))
-            (λ k. marks (history_of (slice_index_or (record { name = decl.name; driver = decl.driver; owner = decl.owner; config = decl.config; journal = record { rows = rows } } ∷ []) k p)))
-            0 (reverse (asks_by steps 1)) (reverse got)
-            (AsksFor-reverse 0 (asks_by steps 1) (AsksFor-append 0 (map ask_of steps) (exit_ask 0 ∷ []) (AsksFor-steps 0 steps ports) (refl, tt)))
-            refl keeps.pair_keeps.receipts);
-          mail = All-below 0 1 came (rw keeps.pair_keeps.mail (mails-from (record { number = 0; kind = kind keeps.driver; config = decl.config; owner = 0 }) 0 (reverse rows))) (omega arith);
-        }
-      | suc s ↦ λ l. absurd (omega arith)
-      ] l;
+          | zero ↦ λ _. record {
+            name = refl;
+            receipts = λ p. rw (steps-all steps processes) (AreReceipts-at (λ _. marks (reverse rows))
+                (λ k. marks (history_of (slice_index_or (record { name = decl.name; driver = decl.driver; owner = decl.owner; config = decl.config; journal = record { rows = rows } } ∷ []) k p)))
+                0 (reverse (asks_by steps 1)) (reverse got)
+                (AsksFor-reverse 0 (asks_by steps 1) (AsksFor-append 0 (map ask_of steps) (exit_ask 0 ∷ []) (AsksFor-steps 0 steps ports) (refl, tt)))
+                refl keeps.pair_keeps.receipts);
+            mail = All-below 0 1 came (rw keeps.pair_keeps.mail (mails-from (record { number = 0; kind = kind keeps.driver; config = decl.config; owner = 0 }) 0 (reverse rows))) (omega arith);
+          }
+          | suc s ↦ λ l. absurd (omega arith)
+        ] l;
   }

@@ -76,7 +76,7 @@ pub mails-from : (port : Opening) (process : ℕ) (history : List Row) → CameF
 mails-from port process [] = tt
 mails-from port process (row ∷ older) =
     mails-or port.number (is_gone process (row ∷ older)) (mails port process older) (mail_for process (row_posts port older row))
-      (mails-from port process older) (mail_for-from port.number process (row_posts port older row) (row-from port older row))
+    (mails-from port process older) (mail_for-from port.number process (row_posts port older row) (row-from port older row))
 
 keeps-one : (b : Bool) (mail : Mail) (came kept : List Mail) → b ≡ true → kept ≡ came → cond b (mail ∷ kept) kept ≡ mail ∷ came
 keeps-one true mail came kept e k = ap (λ ms. mail ∷ ms) k
@@ -91,6 +91,6 @@ pub All-below : (number ports : ℕ) (came : List Mail) → CameFrom number came
 All-below number ports [] f h = λ i d l. absurd (omega arith)
 All-below number ports (mail ∷ came) f h = λ i d l.
     elim i as (λ i. i < length (mail ∷ came) → sender_of (slice_index_or (mail ∷ came) i d) < ports) [
-      zero ↦ λ _. rw f.0 h
-    | suc i ↦ λ l. All-below number ports came f.1 h i d (omega arith)
+      | zero ↦ λ _. rw f.0 h
+      | suc i ↦ λ l. All-below number ports came f.1 h i d (omega arith)
     ] l

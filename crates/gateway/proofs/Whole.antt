@@ -39,7 +39,7 @@ no-lack count plan line handed has l d =
     let b = l.counted d in
     let c = l.taken d in
     less a (rw b at c)
-    where
+  where
     less : {m n : ℕ} → m < n → n ≤ m → ⊥
     less a c = omega arith
 
@@ -55,11 +55,11 @@ completes words told count before after (ReadFault line) c plan s fits has n = a
 completes words told count before after WriteFault c plan s fits has n = absurd (n.puts c)
 completes words told count before after (NoDriver line handed) c plan s fits has n =
     let l = if-ok (λ plan. LacksDriver count plan line handed) (script s.bytes) plan s.says
-      (of-says words told (λ held. IfSome held (λ bytes. IfOk (script bytes) (λ plan. LacksDriver count plan line handed))) s.name s.files s.bytes s.named s.tells s.held c) in
+    (of-says words told (λ held. IfSome held (λ bytes. IfOk (script bytes) (λ plan. LacksDriver count plan line handed))) s.name s.files s.bytes s.named s.tells s.held c) in
     absurd (no-lack count plan line handed has l (some-port plan.ports (positive l.within)))
 completes words told count before after NoMemory c plan s fits has n = inr refl
 completes words told count before after (Limit line) c plan s fits has n =
     absurd (above (of-says words told (λ held. IfSome held (λ bytes. 1048576 < length bytes)) s.name s.files s.bytes s.named s.tells s.held c.1) fits)
-    where
+  where
     above : {m : ℕ} → 1048576 < m → m ≤ 1048576 → ⊥
     above a b = omega arith

@@ -129,10 +129,10 @@ pub record NoFault (before after : Counts) : Type 0 where
 -- for each port there are more drivers of its name than ports above it that take them
 abbrev pub HasDrivers : (List ℕ → ℕ) → Plan → Type 0
 HasDrivers count plan = (at : ℕ) (d : PortDecl) → at < length plan.ports
-  → count_by (λ p. bytes_eq p.driver (slice_index_or plan.ports at d).driver) (take at plan.ports) < count (slice_index_or plan.ports at d).driver
+    → count_by (λ p. bytes_eq p.driver (slice_index_or plan.ports at d).driver) (take at plan.ports) < count (slice_index_or plan.ports at d).driver
 
 -- where the words name a script that the files tell, which is valid and within its limit, a driver is there for each of its ports, and no
 -- count of faults rose, the run was made, or memory was wanting
 abbrev pub Completes : Result (List ℕ) ℕ → Told → (List ℕ → ℕ) → Counts → Counts → Cause → Type 0
 Completes words told count before after cause = (plan : Plan) (says : Says words told plan) → length says.bytes ≤ 1048576 → HasDrivers count plan → NoFault before after
-  → (cause ≡ Done) ⊎ (cause ≡ NoMemory)
+    → (cause ≡ Done) ⊎ (cause ≡ NoMemory)

@@ -72,6 +72,6 @@ module _ {D : Type 0} where
     pub ports : length report.ports ≡ length plan.ports
     pub processes : length report.processes ≡ length plan.processes
     pub served : (k : ℕ) (decl : PortDecl) (d : PortReport) → k < length plan.ports
-      → Serves kind held plan hosts k (slice_index_or plan.ports k decl) (slice_index_or report.ports k d) report.processes
+        → Serves kind held plan hosts k (slice_index_or plan.ports k decl) (slice_index_or report.ports k d) report.processes
     pub told : (s : ℕ) (decl : ProcessDecl) (d : ProcReport) → s < length plan.processes
-      → ProcessHolds plan (slice_index_or plan.processes s decl) s report.ports (slice_index_or report.processes s d)
+        → ProcessHolds plan (slice_index_or plan.processes s decl) s report.ports (slice_index_or report.processes s d)

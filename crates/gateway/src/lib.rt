@@ -4,13 +4,14 @@
 mod calls;
 mod hosted;
 mod hosting;
+mod making;
 mod port_run;
 mod reporting;
 mod top;
 mod words;
 
-
-pub use hosted::Hosted;
 pub use gateway_report::{Cause, PortReport, ProcReport, Report, cause_text, report_text};
+pub use hosted::Hosted;
+pub use making::host_drivers;
 pub use top::{Ended, gateway};
 pub use words::script_name;

@@ -68,13 +68,24 @@ fn make_steps<D: Driver>(
 {
     for step in steps {
         let sent = signal(alloc, &step.act)?;
-        make_call(body, receipts, process, step.line, port_named(&step.act), sent)?;
+        make_call(
+            body,
+            receipts,
+            process,
+            step.line,
+            port_named(&step.act),
+            sent,
+        )?;
     }
     Ok(())
 }
 
 /// Takes all mail that waits for a process.
-fn take_mails<D: Driver>(alloc: Global, body: &mut Body<D>, process: u32) -> Result<Vec<Mail>, NoMemory>
+fn take_mails<D: Driver>(
+    alloc: Global,
+    body: &mut Body<D>,
+    process: u32,
+) -> Result<Vec<Mail>, NoMemory>
     requires { process < length body.old.mail }
     ensures all { IfOk result (λ mails. mails.items ≡ (box_at body.old.mail process).waiting) }
     ensures same { body.new ≡ record body.old { mail = body.new.mail } }
@@ -110,7 +121,14 @@ fn serve<D: Driver>(
 {
     let mut receipts = Vec::new(alloc);
     make_steps(alloc, body, &mut receipts, process, steps)?;
-    make_call(body, &mut receipts, process, 0, port, Signal::Gone(normal()))?;
+    make_call(
+        body,
+        &mut receipts,
+        process,
+        0,
+        port,
+        Signal::Gone(normal()),
+    )?;
     if !body.finished() {
         unreachable!();
     }

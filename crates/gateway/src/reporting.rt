@@ -41,8 +41,9 @@ fn report_of_port(
     told: Told,
 ) -> Result<Report, NoMemory>
     ensures { IfOk result (λ r. r ≡ record {
-        ports = record { name = port.now.name; driver = port.now.driver; owner = port.now.owner; config = port.now.config; journal = told.journal } ∷ [];
-        processes = record { name = process.now.name; receipts = told.receipts.items; mails = told.mails.items } ∷ [] }) }
+      ports = record { name = port.now.name; driver = port.now.driver; owner = port.now.owner; config = port.now.config; journal = told.journal } ∷ [];
+      processes = record { name = process.now.name; receipts = told.receipts.items; mails = told.mails.items } ∷ [];
+    }) }
 {
     let Told {
         journal,

@@ -10,9 +10,8 @@ ghost use Rattle.gateway.specs.Hosts.{AllCameBack, IsUnused, named_count};
 ghost use Rattle.gateway.specs.Headline.{Headline};
 ghost use Rattle.gateway.specs.Causes.{CauseComes, Completes, IsReported, LoadErr, LoadOk, Says, WriteComes, Wrote};
 
-use crate::Hosted;
 use crate::reporting::make_report;
-use crate::script_name;
+use crate::{Hosted, script_name};
 use driver_entry::Driver;
 use gateway_report::{Cause, Report, report_text};
 use gateway_script::{Script, ScriptFault, read_script};
@@ -31,7 +30,9 @@ fn load<F: Files>(alloc: Global, files: &mut F, name: &str) -> Result<Script, Ca
 {
     let bytes = match files.read(alloc, name, MAX_SCRIPT) {
         Ok(bytes) => bytes,
-        Err(FileFault::Failed) | Err(FileFault::Missing) => return Err(Cause::ReadFault { line: 0 }),
+        Err(FileFault::Failed) | Err(FileFault::Missing) => return Err(Cause::ReadFault {
+            line: 0,
+        }),
         Err(FileFault::Over) => return Err(Cause::Limit { line: 0 }),
         Err(FileFault::NoMemory) => return Err(Cause::NoMemory),
     };
@@ -119,6 +120,7 @@ fn run_words<D: Driver, F: Files, K: Sink>(
 
 /// How a run ended: the status and its cause, the report where the run was made, the drivers that were handed in, in their order, and
 /// the poll set.
+#[derive(Drop)]
 pub struct Ended<P, D = Box<dyn Driver + Send>> {
     pub status: u8,
     pub cause: Cause,

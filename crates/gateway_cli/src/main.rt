@@ -1,20 +1,21 @@
 //! The program `gateway`: it runs a script of processes and ports, and prints the report.
 #![tactic(auto)]
 
-ghost use Rattle.std.specs.Prelude.{All};
-ghost use Rattle.gateway.specs.Hosts.{IsUnused};
-
 use driver_entry::{Driver, Echo};
-use gateway::{Cause, Ended, Hosted, cause_text, gateway};
+use gateway::{Cause, Ended, cause_text, gateway, host_drivers};
 use gateway_script::ScriptFault;
 use no_memory::NoMemory;
 use outside::{MemPoll, OpenGate, RealFiles, RealSink};
 use std::alloc::Global;
 use std::env::{Env, FillError};
 use std::process::ExitCode;
+use std::rt::Files;
 
 /// How many drivers of each kind there are: as many as a script may have ports.
 const DRIVERS: usize = 32;
+
+/// The status of a run for which no memory was found.
+const NO_MEMORY: u8 = 8;
 
 /// The longest word of a command line, in bytes.
 const MAX_WORD: usize = 131_072;
@@ -37,19 +38,54 @@ fn words<R: Env>(rt: &R, alloc: Global) -> Result<Vec<String>, NoMemory> {
     Ok(words)
 }
 
-/// Drivers that serve no port yet.
-fn drivers(alloc: Global) -> Result<Vec<Hosted>, NoMemory> {
-    let mut drivers: Vec<Hosted> = Vec::new(alloc);
+/// What the program says of a run that didn't end well, where memory is found for it.
+fn say(rt: &impl Eprint, alloc: Global, cause: &Cause) {
+    if let Cause::Script {
+        fault: ScriptFault::NoMemory,
+    } = cause
+    {
+        return;
+    }
+    let Ok(text) = cause_text(alloc, cause) else {
+        return;
+    };
+    if let Ok(text) = str::from_utf8(text.as_slice()) {
+        let _ = rt.eprint(text);
+    }
+}
+
+/// Runs what the command line asks for, and returns the status.
+fn run<R: AllocGlobal + Clone + Drop + Env + Eprint + Files + Print + Sync>(
+    rt: &R,
+) -> Result<u8, NoMemory> {
+    let alloc = rt.alloc();
+    let words = words(rt, alloc)?;
+    let mut drivers = Vec::new(alloc);
     for _ in 0..DRIVERS {
         let echo: Box<dyn Driver + Send> = Box::new(alloc, Echo::new())?;
-        drivers.push(Hosted {
-            port: None,
-            driver: Some(echo),
-        })?;
+        drivers.push(echo)?;
     }
-    Ok(drivers)
+    let drivers = host_drivers(alloc, drivers)?;
+    let mut files = RealFiles::new(rt.clone()?);
+    let mut out = RealSink::new(rt.clone()?);
+    let poll = MemPoll::new(alloc);
+    let Ended { status, cause, .. } = gateway(
+        rt,
+        alloc,
+        words.as_slice(),
+        &mut files,
+        &mut out,
+        drivers,
+        poll,
+        &OpenGate,
+    );
+    say(rt, alloc, &cause);
+    Ok(status)
 }
 
 fn main(rt: HostRuntime) -> ExitCode {
-    ExitCode::from(0)
+    match run(&rt) {
+        Ok(status) => ExitCode::from(status),
+        Err(NoMemory) => ExitCode::from(NO_MEMORY),
+    }
 }

@@ -12,5 +12,5 @@ invariant-loop-step g l =
     (l.body.opening ≡ l.initial.body.opening) × (l.initial.body.faults ≤ l.body.faults) × (length l.body.mail ≡ length l.initial.body.mail)
     × (l.body.broken ≡ false)
     × ((opening : Opening) (asks : List Ask) → All (λ s. port_of s.act ≡ opening.number) l.steps
-      → HasMade opening l.process asks l.initial.body (reverse l.initial.receipts.items)
-      → HasMade opening l.process (reverse (map ask_of (take l.step-index l.steps)) ++ asks) l.body (reverse l.receipts.items))
+    → HasMade opening l.process asks l.initial.body (reverse l.initial.receipts.items)
+    → HasMade opening l.process (reverse (map ask_of (take l.step-index l.steps)) ++ asks) l.body (reverse l.receipts.items))

@@ -16,11 +16,11 @@ unreachable-requires g c =
     let m1 = rw (append-nil steps) at m0 in
     let m2 = rw c.normal.ensures at (c.in_ok-make_call.ensures.made o steps c.requires.port m1) in
     let closed = exited o c.args.process steps c.make_call.new.body (reverse c.make_call.new.receipts.items)
-      (subst (λ k. HasMade o c.args.process (exit_ask k ∷ steps) c.make_call.new.body (reverse c.make_call.new.receipts.items)) (sym c.requires.port) m2) (rw m2.opening at c.finished.ensures.lawful) c.requires.owner (rw m2.opening at c.finished.ensures.marks) in
+    (subst (λ k. HasMade o c.args.process (exit_ask k ∷ steps) c.make_call.new.body (reverse c.make_call.new.receipts.items)) (sym c.requires.port) m2) (rw m2.opening at c.finished.ensures.lawful) c.requires.owner (rw m2.opening at c.finished.ensures.marks) in
     let finished = rw m2.opening at (c.finished.ensures.closed m2.memory) in
     let e : true ≡ false = sym (ap not closed) ∙ (sym finished ∙ c.if-not-finished.true) in
     absurd (apart e)
-    where
+  where
     apart : true ≡ false → ⊥
     apart e = absurd cc
 

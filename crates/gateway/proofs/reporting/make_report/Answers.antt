@@ -27,7 +27,7 @@ returns-in-Ok-report_of_port-clause-back g c =
 pub returns-in-Ok-clause-headline : goal.returns-in-Ok-clause-headline
 returns-in-Ok-clause-headline g c =
     headline-none _ _ c.args.script.now c.args.hosts.now.items c.in-Ok.report c.ports.ensures.plan (rw c.ports.ensures.value at c.in-empty.len_below)
-      (rw c.processes.ensures.value at c.in-Ok.ensures)
+    (rw c.processes.ensures.value at c.in-Ok.ensures)
 
 pub returns-in-Ok-report_of_port-clause-headline : goal.returns-in-Ok-report_of_port-clause-headline
 returns-in-Ok-report_of_port-clause-headline g c =
@@ -35,21 +35,22 @@ returns-in-Ok-report_of_port-clause-headline g c =
     let decl = c.port-item.result in
     let ports : plan.ports ≡ decl ∷ [] = sym c.ports.ensures.value ∙ singleton c.ports.result.now decl (omega arith) (omega arith) c.port-item.is in
     let processes : plan.processes ≡ c.process-item.result ∷ [] =
-      sym c.processes-in-len1.ensures.value ∙ singleton c.processes-in-len1.result.now c.process-item.result (omega arith) (omega arith) c.process-item.is in
+    sym c.processes-in-len1.ensures.value ∙ singleton c.processes-in-len1.result.now c.process-item.result (omega arith) (omega arith) c.process-item.is in
     let p = c.ports.ensures.plan in
     let owned : decl.owner < 1 = rw (ports, processes) at (p.owners 0 decl (rw ports (omega arith))) in
     let within = rw c.as_slice.ensures.value at c.in-Some.ensures.within in
     let keeps = rw c.steps.ensures.value at c.in-Ok-serve_port.ensures.keeps in
     let report : Report = record {
-        ports = record { name = decl.name; driver = decl.driver; owner = decl.owner; config = decl.config; journal = c.in-Ok-serve_port.told.journal } ∷ [];
-        processes = record { name = c.process-item.result.name; receipts = c.in-Ok-serve_port.told.receipts.items; mails = c.in-Ok-serve_port.told.mails.items } ∷ [] } in
+      ports = record { name = decl.name; driver = decl.driver; owner = decl.owner; config = decl.config; journal = c.in-Ok-serve_port.told.journal } ∷ [];
+      processes = record { name = c.process-item.result.name; receipts = c.in-Ok-serve_port.told.receipts.items; mails = c.in-Ok-serve_port.told.mails.items } ∷ [];
+    } in
     rw c.in-Ok-report_of_port.ensures (
-      subst (λ (plan : Plan). Headline g.D.Driver.kind g.D.Driver.held plan (slice_set c.args.hosts.now.items c.in-Some.at c.serve_port.new.host) report) (sym (plan-one plan c.process-item.result decl processes ports))
-        (Headline-one _ _ c.process-item.result decl plan.steps c.args.hosts.now.items c.in-Some.at c.serve_port.new.host _ _ _
-          within (λ k d l. (c.requires k d l).0) keeps
-          (kind-named _ _ _ _ c.args.hosts.now.items c.in-Some.at c.index_mut.result.now c.serve_port.new.host decl plan.steps _ _ _ within c.index_mut.ensures.value
-            (rw c.as_slice.ensures.value at c.in-Some.ensures.named) c.serve_port.ensures.back keeps)
-          (only-zero decl.owner owned) (λ i d l. rw processes at (p.senders i d l)) (λ i d l. only-zero _ (rw ports at (p.named i d l)))))
+    subst (λ (plan : Plan). Headline g.D.Driver.kind g.D.Driver.held plan (slice_set c.args.hosts.now.items c.in-Some.at c.serve_port.new.host) report) (sym (plan-one plan c.process-item.result decl processes ports))
+    (Headline-one _ _ c.process-item.result decl plan.steps c.args.hosts.now.items c.in-Some.at c.serve_port.new.host _ _ _
+    within (λ k d l. (c.requires k d l).0) keeps
+    (kind-named _ _ _ _ c.args.hosts.now.items c.in-Some.at c.index_mut.result.now c.serve_port.new.host decl plan.steps _ _ _ within c.index_mut.ensures.value
+    (rw c.as_slice.ensures.value at c.in-Some.ensures.named) c.serve_port.ensures.back keeps)
+    (only-zero decl.owner owned) (λ i d l. rw processes at (p.senders i d l)) (λ i d l. only-zero _ (rw ports at (p.named i d l)))))
 
 pub returns-in-Ok-report_of_port-clause-ended : goal.returns-in-Ok-report_of_port-clause-ended
 returns-in-Ok-report_of_port-clause-ended g c =
@@ -57,10 +58,10 @@ returns-in-Ok-report_of_port-clause-ended g c =
     let decl = c.port-item.result in
     let ports : plan.ports ≡ decl ∷ [] = sym c.ports.ensures.value ∙ singleton c.ports.result.now decl (omega arith) (omega arith) c.port-item.is in
     let processes : plan.processes ≡ c.process-item.result ∷ [] =
-      sym c.processes-in-len1.ensures.value ∙ singleton c.processes-in-len1.result.now c.process-item.result (omega arith) (omega arith) c.process-item.is in
+    sym c.processes-in-len1.ensures.value ∙ singleton c.processes-in-len1.result.now c.process-item.result (omega arith) (omega arith) c.process-item.is in
     let owned : decl.owner < 1 = rw (ports, processes) at (c.ports.ensures.plan.owners 0 decl (rw ports (omega arith))) in
     let keeps = c.in-Ok-serve_port.ensures.keeps in
     let opening : Opening = record { number = 0; kind = g.D.Driver.kind keeps.driver; config = decl.config; owner = 0 } in
     let port : PortReport = record { name = decl.name; driver = decl.driver; owner = decl.owner; config = decl.config; journal = c.in-Ok-serve_port.told.journal } in
     rw c.in-Ok-report_of_port.ensures (
-      all-ended port (HasEnded-closed opening port (sym (only-zero decl.owner owned)) keeps.port_keeps.finished.stopped))
+    all-ended port (HasEnded-closed opening port (sym (only-zero decl.owner owned)) keeps.port_keeps.finished.stopped))

@@ -1,0 +1,20 @@
+//! The two words by which a port and its senders tell each other how busy the port is.
+//!
+//! STAT is written by the port alone: it counts the marks that the port made, and says whether the port is busy and whether it is closed. MSGQ counts the bytes of the
+//! commands on their way to the port, and its period says whether the message queue is busy. Every sender has a seat, which may cross threads; a command
+//! carries a weight, by which its bytes are taken away again. At the end of a run the port takes the senders' seats in and learns what they saw.
+//! Nobody waits here: what a sender does when the port is busy is decided above.
+#![tactic(auto)]
+
+mod port;
+mod send;
+mod table;
+#[cfg(test)]
+mod tests;
+mod view;
+mod words;
+
+pub use crate::port::{PortSeat, busy_table};
+pub use crate::send::{Added, SendSeat, Weight};
+pub use crate::view::{Add, AddHow, AddName, BusyView, Ledger, Limits, Mark, Sender, Setup, Told};
+pub use port_sums::NoMemory;

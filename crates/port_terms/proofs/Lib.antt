@@ -1,0 +1,14 @@
+pub mod Digits
+pub mod Lists
+pub mod Sizes
+pub mod Names
+pub mod Spelled
+pub mod Items
+pub mod Levels
+pub mod Splits
+pub mod TagNumbers
+pub mod Says
+pub mod Found
+pub mod Again
+pub mod Told
+pub mod Laws

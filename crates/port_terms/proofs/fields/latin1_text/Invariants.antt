@@ -1,0 +1,7 @@
+use Rattle.std.proofs.Common.{◌≡◌, take}
+use Rattle.std.specs.Prelude.{encode_utf8_all}
+use Rattle.std.specs.String.{string_bytes}
+use Rattle.port_terms.proofs.fields.latin1_text.Given as goal
+
+abbrev pub invariant-loop-byte : goal.invariant-loop-byte
+invariant-loop-byte l = string_bytes l.name ≡ encode_utf8_all (take l.byte-index l.text)

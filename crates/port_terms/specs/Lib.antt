@@ -1,0 +1,11 @@
+pub mod Tree
+pub mod View
+pub mod Falls
+pub mod IoView
+pub mod IoFalls
+pub mod Spelling
+pub mod Faults
+pub mod Written
+pub mod Reading
+pub mod Forms
+pub mod Limits
