@@ -15,3 +15,6 @@ pub use hosted::Hosted;
 pub use making::host_drivers;
 pub use top::{Ended, gateway};
 pub use words::script_name;
+
+#[cfg(test)]
+mod tests;

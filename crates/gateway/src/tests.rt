@@ -1,0 +1,227 @@
+ghost use Rattle.std.specs.Prelude.{All, IfOk};
+ghost use Rattle.gateway.specs.Hosts.{IsUnused};
+
+use super::*;
+use driver_entry::{Driver, Echo, Life};
+use gateway_script::ScriptFault;
+use outside::{MemFiles, MemPoll, MemSink, OpenGate};
+use std::alloc::Global;
+use std::test::Fail;
+
+/// A process that hands three bytes to its port and closes it.
+const ABC: &[u8] = b"process a\nport p a echo\na command p \"abc\"\na close p\n";
+
+/// The report of that script.
+const ABC_REPORT: &str = "report processes=1 ports=1\n\
+    port p driver=echo commands=1 late=0 bytes=3 end=normal\n\
+    process a commands=1 dropped=0 suspended=0 data=1 sha256=ba7816bf8f01cfea414140de5dae2223b00361a396177a9cb410ff61f20015ad\n";
+
+/// So many fresh echo drivers.
+fn echoes(alloc: Global, count: usize) -> Result<Vec<Hosted>, Fail>
+    ensures { IfOk result (λ hosts. All (IsUnused (λ b. stage b)) hosts.items) }
+{
+    let mut drivers = Vec::new(alloc);
+    for _ in 0..count {
+        let echo: Box<dyn Driver + Send> = Box::new(alloc, Echo::new())?;
+        drivers.push(echo)?;
+    }
+    Ok(host_drivers(alloc, drivers)?)
+}
+
+/// Files that hold this script, under the name `s`.
+fn holding(alloc: Global, script: &[u8]) -> Result<MemFiles, Fail> {
+    let mut files = MemFiles::new(alloc);
+    files.hold("s", script)?;
+    Ok(files)
+}
+
+/// Runs the words over the files, with so many echo drivers.
+fn run(
+    alloc: Global,
+    words: &[&str],
+    files: &mut MemFiles,
+    out: &mut MemSink,
+    count: usize,
+) -> Result<Ended<MemPoll>, Fail> {
+    let mut owned = Vec::new(alloc);
+    for word in words {
+        owned.push(String::from_str(alloc, word)?)?;
+    }
+    let drivers = echoes(alloc, count)?;
+    let poll = MemPoll::new(alloc);
+    Ok(gateway(
+        &(),
+        alloc,
+        owned.as_slice(),
+        files,
+        out,
+        drivers,
+        poll,
+        &OpenGate,
+    ))
+}
+
+/// The status and the cause of a run of this script, with so many echo drivers.
+fn end_of(alloc: Global, script: &[u8], count: usize) -> Result<(u8, Cause), Fail> {
+    let mut files = holding(alloc, script)?;
+    let mut out = MemSink::new(alloc);
+    let Ended { status, cause, .. } = run(alloc, &["run", "s"], &mut files, &mut out, count)?;
+    Ok((status, cause))
+}
+
+#[test]
+fn a_command_and_a_close_print_three_lines(rt: HostRuntime) -> Result<(), Fail> {
+    let alloc = rt.alloc();
+    let mut files = holding(alloc, ABC)?;
+    let mut out = MemSink::new(alloc);
+    let ended = run(alloc, &["run", "s"], &mut files, &mut out, 1)?;
+    assert_eq!(rt; ended.status, 0);
+    assert_eq!(rt; ended.cause, Cause::Done);
+    assert_eq!(rt; str::from_utf8(out.bytes())?, ABC_REPORT);
+    assert!(rt; ended.report.is_some());
+    assert!(rt; ended.poll.is_some());
+    Ok(())
+}
+
+#[test]
+fn the_driver_comes_back_stopped(rt: HostRuntime) -> Result<(), Fail> {
+    let alloc = rt.alloc();
+    let mut files = holding(alloc, ABC)?;
+    let mut out = MemSink::new(alloc);
+    let ended = run(alloc, &["run", "s"], &mut files, &mut out, 2)?;
+    let lives = [(Some(0), Life::Stopped), (None, Life::Fresh)];
+    assert_eq!(rt; ended.drivers.len(), 2);
+    for (host, (port, life)) in ended.drivers.iter().zip(lives) {
+        assert_eq!(rt; host.port, port);
+        assert!(rt; matches!(&host.driver, Some(driver) if driver.life() == life));
+    }
+    Ok(())
+}
+
+#[test]
+fn an_empty_script_prints_its_report(rt: HostRuntime) -> Result<(), Fail> {
+    let alloc = rt.alloc();
+    let mut files = holding(alloc, b"")?;
+    let mut out = MemSink::new(alloc);
+    let ended = run(alloc, &["run", "s"], &mut files, &mut out, 0)?;
+    assert_eq!(rt; ended.status, 0);
+    assert_eq!(rt;
+        str::from_utf8(out.bytes())?,
+        "report processes=0 ports=0\n"
+    );
+    Ok(())
+}
+
+#[test]
+fn words_that_are_not_served_are_told_by_place(rt: HostRuntime) -> Result<(), Fail> {
+    let alloc = rt.alloc();
+    for (words, at) in [
+        ([].as_slice(), 1),
+        (["walk", "s"].as_slice(), 1),
+        (["run"].as_slice(), 2),
+        (["run", "-s"].as_slice(), 2),
+        (["run", "s", "t"].as_slice(), 3),
+    ] {
+        let mut files = holding(alloc, ABC)?;
+        let mut out = MemSink::new(alloc);
+        let ended = run(alloc, words, &mut files, &mut out, 1)?;
+        assert_eq!(rt; ended.status, 1);
+        assert_eq!(rt; ended.cause, Cause::Usage { at });
+        assert!(rt; out.bytes().is_empty());
+    }
+    Ok(())
+}
+
+#[test]
+fn a_script_that_is_not_held_is_a_read_fault(rt: HostRuntime) -> Result<(), Fail> {
+    let alloc = rt.alloc();
+    let mut files = holding(alloc, ABC)?;
+    let mut out = MemSink::new(alloc);
+    let ended = run(alloc, &["run", "t"], &mut files, &mut out, 1)?;
+    assert_eq!(rt; ended.status, 3);
+    assert_eq!(rt; ended.cause, Cause::ReadFault { line: 0 });
+    assert!(rt; out.bytes().is_empty());
+    Ok(())
+}
+
+#[test]
+fn a_read_that_fails_is_a_read_fault(rt: HostRuntime) -> Result<(), Fail> {
+    let alloc = rt.alloc();
+    let mut files = holding(alloc, ABC)?;
+    files.fail_read(0)?;
+    let mut out = MemSink::new(alloc);
+    let ended = run(alloc, &["run", "s"], &mut files, &mut out, 1)?;
+    assert_eq!(rt; ended.status, 3);
+    assert_eq!(rt; ended.cause, Cause::ReadFault { line: 0 });
+    assert!(rt; out.bytes().is_empty());
+    Ok(())
+}
+
+#[test]
+fn a_put_that_fails_is_a_write_fault(rt: HostRuntime) -> Result<(), Fail> {
+    let alloc = rt.alloc();
+    for (count, written) in [(0, ""), (6, "report")] {
+        let mut files = holding(alloc, ABC)?;
+        let mut out = MemSink::new(alloc);
+        out.fail_put(0)?;
+        out.take_before_failing(count);
+        let ended = run(alloc, &["run", "s"], &mut files, &mut out, 1)?;
+        assert_eq!(rt; ended.status, 4);
+        assert_eq!(rt; ended.cause, Cause::WriteFault);
+        assert!(rt; ended.report.is_some());
+        assert_eq!(rt; str::from_utf8(out.bytes())?, written);
+    }
+    Ok(())
+}
+
+#[test]
+fn a_script_has_at_most_1048576_bytes(rt: HostRuntime) -> Result<(), Fail> {
+    let alloc = rt.alloc();
+    for (len, wanted) in [
+        (1_048_576, (0, Cause::Done)),
+        (1_048_577, (10, Cause::Limit { line: 0 })),
+    ] {
+        let script = vec![in alloc; b'\n'; len]?;
+        assert_eq!(rt; end_of(alloc, script.as_slice(), 0)?, wanted);
+    }
+    Ok(())
+}
+
+#[test]
+fn a_bad_line_is_told(rt: HostRuntime) -> Result<(), Fail> {
+    let fault = ScriptFault::BadLine { line: 1 };
+    assert_eq!(rt;
+        end_of(rt.alloc(), b"bad\n", 1)?,
+        (2, Cause::Script { fault })
+    );
+    Ok(())
+}
+
+#[test]
+fn a_port_wants_a_driver(rt: HostRuntime) -> Result<(), Fail> {
+    let cause = Cause::NoDriver { line: 2, handed: 0 };
+    assert_eq!(rt; end_of(rt.alloc(), ABC, 0)?, (5, cause));
+    Ok(())
+}
+
+#[test]
+fn host_drivers_takes_fresh_drivers(rt: HostRuntime) -> Result<(), Fail> {
+    let hosts = echoes(rt.alloc(), 2)?;
+    assert_eq!(rt; hosts.len(), 2);
+    for host in hosts.iter() {
+        assert!(rt; host.port.is_none());
+        assert!(rt; host.driver.is_some());
+    }
+    Ok(())
+}
+
+#[test]
+fn script_name_is_the_word_behind_run(rt: HostRuntime) -> Result<(), Fail> {
+    let alloc = rt.alloc();
+    let words = vec![in alloc;
+        String::from_str(alloc, "run")?,
+        String::from_str(alloc, "s")?,
+    ]?;
+    assert_eq!(rt; script_name(words.as_slice()), Ok("s"));
+    Ok(())
+}
