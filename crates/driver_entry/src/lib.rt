@@ -17,3 +17,6 @@ pub use context::DriverCtx;
 pub use driver::Driver;
 pub use echo::Echo;
 pub use life::{Life, StartRefusal};
+
+#[cfg(test)]
+mod tests;

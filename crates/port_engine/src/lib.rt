@@ -11,4 +11,4 @@ pub use body::{Body, BodyEnd, BodyParts};
 pub use turn::Turn;
 
 #[cfg(test)]
-mod tests {}
+mod tests;

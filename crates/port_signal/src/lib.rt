@@ -22,3 +22,6 @@ pub use receipt::{Outcome, Receipt, Receipts};
 pub use row::{Effect, Journal, MarkKind, Outside, Row, Rows};
 pub use signal::{Sender, Signal, Task};
 pub use spelling::reason;
+
+#[cfg(test)]
+mod tests;
