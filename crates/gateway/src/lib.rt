@@ -17,4 +17,6 @@ pub use top::{Ended, gateway};
 pub use words::script_name;
 
 #[cfg(test)]
+mod script_tests;
+#[cfg(test)]
 mod tests;

@@ -69,6 +69,16 @@ fn end_of(alloc: Global, script: &[u8], count: usize) -> Result<(u8, Cause), Fai
     Ok((status, cause))
 }
 
+/// The cause of a run of this script with one echo driver, and what it wrote.
+pub fn end_of_script(alloc: Global, script: &[u8]) -> Result<(Cause, Vec<u8>), Fail> {
+    let mut files = holding(alloc, script)?;
+    let mut out = MemSink::new(alloc);
+    let Ended { cause, .. } = run(alloc, &["run", "s"], &mut files, &mut out, 1)?;
+    let mut written = Vec::new(alloc);
+    written.extend_from_slice(out.bytes())?;
+    Ok((cause, written))
+}
+
 #[test]
 fn a_command_and_a_close_print_three_lines(rt: HostRuntime) -> Result<(), Fail> {
     let alloc = rt.alloc();
