@@ -5,23 +5,4 @@
 //! Nothing here is about any one word, and there is no state.
 #![tactic(auto)]
 
-use std::alloc::{AllocError, AllocFailed};
-use thiserror::Error;
-
-/// Memory was wanting. The maker gives back what it was handed where its signature says so.
-#[derive(Debug, Clone, Copy, PartialEq, Eq, Error)]
-#[error("out of memory")]
-pub struct NoMemory;
-
-impl From<AllocError> for NoMemory {
-    fn from(_error: AllocError) -> Self {
-        NoMemory
-    }
-}
-
-/// The value that found no room is dropped.
-impl<T: Drop> From<AllocFailed<T>> for NoMemory {
-    fn from(_error: AllocFailed<T>) -> Self {
-        NoMemory
-    }
-}
+pub use no_memory::NoMemory;

@@ -6,10 +6,11 @@ ghost use Rattle.port_terms.specs.View.{tree};
 ghost use Rattle.port_terms.specs.Spelling.{IsExternal};
 ghost use Rattle.port_terms.specs.Faults.{IsFirstFault};
 
-use crate::faults::{NoMemory, TermFault};
+use crate::faults::TermFault;
 use crate::reading::decode;
 use crate::values::Term;
 use crate::writing::encode;
+use no_memory::NoMemory;
 use std::alloc::Global;
 
 /// A copy of a term, made from its external form.

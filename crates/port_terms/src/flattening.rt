@@ -2,8 +2,8 @@ ghost use Rattle.std.specs.Prelude.{◌≡◌, ◌++◌, IfOk, OnOk};
 ghost use Rattle.port_terms.specs.IoView.{io_tree};
 ghost use Rattle.port_terms.specs.Written.{flattened, flattened_all};
 
-use crate::faults::NoMemory;
 use crate::io_lists::{IoList, IoParts};
+use no_memory::NoMemory;
 use std::alloc::{AllocError, Global};
 
 /// The bytes of an I/O list, from left to right.

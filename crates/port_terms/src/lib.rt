@@ -22,11 +22,12 @@ mod values;
 mod writing;
 
 pub use copying::{each_input_has_one_answer, term_copy};
-pub use faults::{AtomFault, NoMemory, TermFault};
+pub use faults::{AtomFault, TermFault};
 pub use flattening::flatten;
 pub use io_lists::{IoList, IoParts};
 pub use makers::{atom, octets, parts, terms};
 pub use measures::{term_depth, term_size};
+pub use no_memory::NoMemory;
 pub use reading::decode;
 pub use values::{AtomName, MAX_DEPTH, MAX_ITEMS, MAX_NAME_CHARS, Octets, Term, Terms};
 pub use writing::encode;

@@ -6,11 +6,11 @@ ghost use Rattle.port_terms.specs.Spelling.{IsExternal, IsName};
 ghost use Rattle.port_terms.specs.Limits.{IsTerm, AreTerms};
 ghost use Rattle.port_terms.specs.Written.{external, written, written_all, written_arity, written_int, written_name};
 
-use crate::faults::NoMemory;
 use crate::integers::{IntegerForm, digit_count, form_of, put_digits};
 use crate::strings::{is_string, put_string};
 use crate::tags::*;
 use crate::values::{AtomName, Octets, Term, Terms};
+use no_memory::NoMemory;
 use std::alloc::{AllocError, Global};
 
 /// The external form of a term, in the one spelling that is written.
