@@ -1,7 +1,7 @@
 -- Each kind of step, split and join keeps the whole rule, and tells what its `Play` says.
-use Rattle.std.proofs.Common.{◌≡◌, ℕ, zero, suc, ◌+◌, ◌-◌, ◌*◌, ◌%◌, ◌^◌, ◌<◌, ◌≤◌, Bool, true, eqb, List, [], ◌∷◌, ◌++◌, length, get_or, set, drop, sym, refl, ap, ◌∙◌, subst, arith, ⊎_elim, get_or-set_same, get_or-set_other, length-set, add-zero, append-nil}
+use Rattle.std.proofs.Common.{◌≡◌, ℕ, zero, suc, ◌+◌, ◌-◌, ◌*◌, ◌%◌, ◌^◌, ◌<◌, ◌≤◌, ◌≢◌, Bool, true, false, true≢false, eqb, List, [], ◌∷◌, ◌++◌, length, get_or, set, drop, sym, refl, ap, ◌∙◌, subst, arith, ⊎_elim, get_or-set_same, get_or-set_other, length-set, add-zero, append-nil}
 use Rattle.std.specs.List.{All, sum_by}
-use Rattle.std.proofs.lemmas.List.Elements.{All-head, All-cons, All-nil, All-weaker}
+use Rattle.std.proofs.lemmas.List.Elements.{All-head, All-cons, All-nil, All-set, All-push, All-weaker}
 use mathlib.Core.Option.{some, some-injective, some-ne-none}
 use lib.ListN.{get_elem?}
 use prog.Atomic.{either}
@@ -11,7 +11,7 @@ use Rattle.atomic_table.specs.Table.{State, Me, Act, Allows, Splits, Joins, keep
 use Rattle.std.proofs.lemmas.List.Sums.{sum_by-cons}
 use Rattle.port_sums.specs.Counts.{once_below, one_if}
 use Rattle.port_sums.proofs.Counting.{once_below-not, once_below-step}
-use Rattle.port_sums.proofs.Totals.{sum_at, sum_alone, all_at}
+use Rattle.port_sums.proofs.Totals.{sum_at, sum_alone, sum_only, all_at}
 use Rattle.busy_table.specs.declared.view.AddHow.{AddHow}
 use Rattle.busy_table.specs.declared.view.Setup.{Setup}
 use Rattle.busy_table.specs.declared.view.Mark.{Mark}
@@ -21,17 +21,17 @@ use Rattle.busy_table.specs.declared.view.Ledger.{Ledger}
 use Rattle.busy_table.specs.declared.view.Sender.{Sender}
 use Rattle.busy_table.specs.declared.view.BusyView.{BusyView}
 use Rattle.busy_table.specs.declared.view.Told.{Told}
-use Rattle.busy_table.specs.Views.{over_senders, adds_of, adds_by, over_adds, weights_weigh, size_of, senders_in, is_add, is_numbered, adds_made_by, fresh_sender, WordsIn, seat_view}
+use Rattle.busy_table.specs.Views.{over_senders, adds_of, adds_by, over_adds, adds_weigh, undone_weigh, weights_weigh, removed_weigh, size_of, senders_in, is_add, is_numbered, adds_made_by, fresh_sender, WordsIn, seat_view}
 use Rattle.busy_table.specs.Stat.{stat_of, Rises, EachRises, IsStat}
 use Rattle.busy_table.specs.Queue.{period_of, bytes_of, Climbs, is_left_at, left_in, is_nosuspend, unsuspended_in, filled_in, add_size, added, taken, IsWithin}
-use Rattle.busy_table.specs.Parts.{IsSetup, IsLedger, IsLedgered, IsClimbing, IsLevel, IsBounded, IsFilled, IsBusyTable}
+use Rattle.busy_table.specs.Parts.{IsSetup, IsLedger, IsLedgered, IsClimbing, IsLevel, IsBounded, IsFilled, RemovesAsPort, IsBusyTable}
 use Rattle.busy_table.specs.Known.{SendKnown, send_known, with_weight, removed_view, setup_of, fresh_port, fresh_senders, fresh_seats, InRange}
 use Rattle.busy_table.specs.Steps.{TellsQueue, own, saw, heard, next_name, next_add, adding, undoing, port_heard, marked, removing, first_sender, other_senders, its_weights, no_weights, joined, spent, FindsStat, Marks, Learns, SenderHears, PortHears, Adds, Undoes, Removes}
 use Rattle.busy_table.proofs.ViewLemmas.{same_adds, saw_same, saw_words, heard_same, heard_words, port_heard_same, port_heard_words, marked_same, marked_words, learned_same, learned_words, adding_more, adding_words, undoing_adds, undoing_words, removing_adds, removing_words, sender_cut_same, sender_cut_words, weights_cut_same, weights_cut_words, joined_same, joined_words, all_one}
 use Rattle.busy_table.proofs.WordLemmas.{added_parts, taken_parts, fill_cases, free_cases, Fills, FillsNot, Frees, FreesNot}
 use Rattle.busy_table.proofs.StatLemmas.{stat_set, stat_saw, told_stat, stat_marked, port_stat, stat_sender_cut, stat_weights_cut, stat_joined}
 use Rattle.busy_table.proofs.LedgerLemmas.{ledgered_same, few_adds, few_bytes, bytes_of_adds, ledgered_add, ledgered_undo, ledgered_remove, named_once}
-use Rattle.busy_table.proofs.PeriodLemmas.{climbing_same, climbing_move, climbing_add}
+use Rattle.busy_table.proofs.PeriodLemmas.{climbing_same, climbing_move, climbing_add, climbs_none}
 use Rattle.busy_table.proofs.BoundLemmas.{within_more, bounded_same, bounded_move, bounded_add}
 use Rattle.busy_table.proofs.FillLemmas.{filled_move, filled_same, filled_add, level_add, level_take, within_add, within_take}
 
@@ -40,13 +40,14 @@ record Holds (setup : Setup) (word msgq : ℕ) (views : List BusyView) : Type 0 
   set_up : IsSetup setup
   stat : IsStat word views
   ledgered : IsLedgered setup msgq views
+  removers : All RemovesAsPort views
   climbing : IsClimbing msgq views
   level : IsLevel setup.limits msgq
   bounded : IsBounded setup.limits msgq views
   filled : IsFilled setup.limits msgq views
 
 holds_of : (setup : Setup) (s : State Told BusyView) → IsBusyTable setup s → Holds setup (get_or s.words 0 0) (get_or s.words 1 0) s.views
-holds_of setup s rule = record { set_up = rule.set_up; stat = rule.stat; ledgered = rule.ledgered; climbing = rule.climbing; level = rule.level; bounded = rule.bounded; filled = rule.filled }
+holds_of setup s rule = record { set_up = rule.set_up; stat = rule.stat; ledgered = rule.ledgered; removers = rule.removers; climbing = rule.climbing; level = rule.level; bounded = rule.bounded; filled = rule.filled }
 
 -- the rule of a table from the rule of its words
 with_words : (setup : Setup) (s : State Told BusyView) (words : List ℕ) (x y : ℕ) (views : List BusyView) → length words ≡ 2 → get_or words 0 0 ≡ x → get_or words 1 0 ≡ y → Holds setup x y views
@@ -56,6 +57,7 @@ with_words setup s words x y views two first second h = record {
   set_up = h.set_up;
   stat = subst (λ (k : ℕ). IsStat k views) (sym first) h.stat;
   ledgered = subst (λ (k : ℕ). IsLedgered setup k views) (sym second) h.ledgered;
+  removers = h.removers;
   climbing = subst (λ (k : ℕ). IsClimbing k views) (sym second) h.climbing;
   level = subst (λ (k : ℕ). IsLevel setup.limits k) (sym second) h.level;
   bounded = subst (λ (k : ℕ). IsBounded setup.limits k views) (sym second) h.bounded;
@@ -76,6 +78,16 @@ empty_sum : {X : Type 0} (g : X → ℕ) (xs : List X) → length xs ≡ 0 → s
 empty_sum g [] e = refl
 empty_sum g (x ∷ xs) e = absurd (omega arith)
 
+false_else : (b : Bool) → b ≢ true → b ≡ false
+false_else true ne = absurd (ne refl)
+false_else false ne = refl
+
+-- what was removed is what the port removed
+removed_by_port : (stat : ℕ) (views : List BusyView) (id : ℕ) (v : BusyView) → v.port ≡ true → get_elem? views id ≡ some v → IsStat stat views → All RemovesAsPort views → sum_by (removed_weigh size_of) views ≡ removed_weigh size_of v
+removed_by_port stat views id v is_port at part removers =
+    sum_only (removed_weigh size_of) views id v at
+    (λ j u here other. ap (sum_by size_of) (all_at RemovesAsPort views j u removers here (false_else u.port (λ is. other ((part.one_port j u here is).0 ∙ sym (part.one_port id v at is_port).0)))))
+
 -- what a word tells a seat
 tells : (setup : Setup) (stat x : ℕ) (views : List BusyView) (id : ℕ) (v : BusyView) → v.setup ≡ setup → get_elem? views id ≡ some v → Holds setup stat x views → TellsQueue v x
 tells setup stat x views id v same at h' =
@@ -93,8 +105,21 @@ tells setup stat x views id v same at h' =
         odd = h.level.odd;
       };
       weights = (let part = sum_at (weights_weigh size_of) views id v at in let bytes = h.ledgered.bytes in omega arith);
+      bytes = (λ is_port all.
+          let adds = every (λ a. size_of a.name) all in
+          let undone = sum_alone (undone_weigh size_of) senders_in (λ u none'. empty_sum (λ s. sum_by size_of s.ledger.undone) u.senders none') views id v at (h.ledgered.senders ∙ sym all) in
+          let removed = removed_by_port stat views id v is_port at h.stat h.removers in
+          let account = h.ledgered.account size_of in
+          let bytes = h.ledgered.bytes in
+          omega arith);
       once = (λ n place. named_once v.setup x views id v n place h.ledgered at);
       climbs = all_at (WordsIn (λ ws. Climbs 0 ws (period_of x))) views id v h.climbing.climbs at;
+      off = (λ off.
+          let none' = h.level.off off in
+          let climbs = all_at (WordsIn (λ ws. Climbs 0 ws (period_of x))) views id v h.climbing.climbs at in (
+            climbs_none 0 (period_of x) v.words none' climbs.0,
+            All-weaker (λ s. Climbs 0 s.words (period_of x)) (λ s. All (λ w. period_of w ≡ 0) s.words) (λ s c. climbs_none 0 (period_of x) s.words none' c) v.senders climbs.1,
+          ));
       unsuspended = (λ period is_odd. let part = sum_at (adds_by (unsuspended_in period)) views id v at in let most = h.bounded.unsuspended period is_odd in omega arith);
       bounded = (λ all on.
           let L : ℕ → ℕ = λ period. over_adds (left_in period) views in
@@ -122,6 +147,7 @@ hears_holds setup stat x views id s ws at h =
       set_up = h.set_up;
       stat = stat_set stat views id (seat_view setup s ws) w at refl refl (λ marks all. all_one (λ u. Rises marks 0 u.stats) (heard s (x ∷ [])) (All-head (λ u. Rises marks 0 u.stats) s [] all)) h.stat;
       ledgered = ledgered_same setup x views (set views id w) sums h.ledgered;
+      removers = All-set RemovesAsPort views id w (λ e. refl) h.removers;
       climbing = climbing_move x x views (set views id w) adds words (omega arith) (omega arith) h.climbing;
       level = h.level;
       bounded = bounded_move setup.limits x x views (set views id w) adds words h.bounded.now h.bounded;
@@ -139,6 +165,7 @@ port_hears_holds setup stat x views id v same at h =
       set_up = h.set_up;
       stat = stat_set stat views id v w at refl refl (λ marks all. all) h.stat;
       ledgered = ledgered_same setup x views (set views id w) sums h.ledgered;
+      removers = All-set RemovesAsPort views id w (all_at RemovesAsPort views id v h.removers at) h.removers;
       climbing = climbing_move x x views (set views id w) adds words (omega arith) (omega arith) h.climbing;
       level = h.level;
       bounded = bounded_move setup.limits x x views (set views id w) adds words h.bounded.now h.bounded;
@@ -154,6 +181,7 @@ learns_holds setup stat x views id v same at h =
       set_up = h.set_up;
       stat = stat_set stat views id v v at refl refl (λ marks all. all) h.stat;
       ledgered = ledgered_same setup x views (set views id v) sums h.ledgered;
+      removers = All-set RemovesAsPort views id v (all_at RemovesAsPort views id v h.removers at) h.removers;
       climbing = climbing_same x views (set views id v) adds words h.climbing;
       level = h.level;
       bounded = bounded_same setup.limits x views (set views id v) adds words h.bounded;
@@ -171,6 +199,7 @@ saw_holds setup stat x views id s ws at h =
       set_up = h.set_up;
       stat = stat_saw stat views id (seat_view setup s ws) w s at refl refl refl refl h.stat;
       ledgered = ledgered_same setup x views (set views id w) sums h.ledgered;
+      removers = All-set RemovesAsPort views id w (λ e. refl) h.removers;
       climbing = climbing_same x views (set views id w) adds words h.climbing;
       level = h.level;
       bounded = bounded_same setup.limits x views (set views id w) adds words h.bounded;
@@ -188,6 +217,7 @@ marked_holds setup stat x views id v m same is_port at h =
       set_up = h.set_up;
       stat = stat_marked stat views id v m at is_port h.stat;
       ledgered = ledgered_same setup x views (set views id w) sums h.ledgered;
+      removers = All-set RemovesAsPort views id w (all_at RemovesAsPort views id v h.removers at) h.removers;
       climbing = climbing_same x views (set views id w) adds words h.climbing;
       level = h.level;
       bounded = bounded_same setup.limits x views (set views id w) adds words h.bounded;
@@ -221,6 +251,7 @@ adds_holds setup stat x x' views id s how size at is few small permitted h =
       set_up = h.set_up;
       stat = stat_set stat views id v w at refl refl (λ marks all. all_one (λ u. Rises marks 0 u.stats) (adding s how size x') (All-head (λ u. Rises marks 0 u.stats) s [] all)) h.stat;
       ledgered = ledgered_add setup x x' views id s how size at h.ledgered bytes few small;
+      removers = All-set RemovesAsPort views id w (λ e. refl) h.removers;
       climbing = climbing_add x a views (set views id w) more words rises.0 rises.1 h.climbing;
       level = subst (IsLevel l) (sym is) (level_add l x size room (λ on. (h.set_up.ordered on).0) h.level);
       bounded = bounded_add l x a views (set views id w) more words permitted rises.0 (λ on. within_add l x size a (λ period. over_adds (left_in period) views) is refl room on h.level (h.bounded.now on)) h.climbing h.bounded;
@@ -254,6 +285,7 @@ undoes_holds setup stat x x' views id s ws at is own' h =
       set_up = h.set_up;
       stat = stat_set stat views id v w at refl refl (λ marks all. all_one (λ u. Rises marks 0 u.stats) (undoing s ws x') (All-head (λ u. Rises marks 0 u.stats) s [] all)) h.stat;
       ledgered = ledgered_undo setup x x' views id s ws at h.ledgered f.4 own';
+      removers = All-set RemovesAsPort views id w (λ e. refl) h.removers;
       climbing = climbing_move x x' views (set views id w) adds words f.0 f.1 h.climbing;
       level = subst (IsLevel l) (sym is) (level_take l x n within (λ on. (h.set_up.ordered on).0) h.level);
       bounded = bounded_move l x x' views (set views id w) adds words (λ on. subst (IsWithin l (λ period. over_adds (left_in period) views)) (sym is) (within_take l x n (λ period. over_adds (left_in period) views) within on (h.set_up.ordered on).0 (h.bounded.now on))) h.bounded;
@@ -261,8 +293,8 @@ undoes_holds setup stat x x' views id s ws at is own' h =
     }
 
 -- a weight removed
-removes_holds : (setup : Setup) (stat x x' : ℕ) (views : List BusyView) (id : ℕ) (v : BusyView) → v.setup ≡ setup → get_elem? views id ≡ some v → x' ≡ taken setup.limits x (weights_weigh size_of v) → Holds setup stat x views → Holds setup stat x' (set views id (removing v x'))
-removes_holds setup stat x x' views id v same at is h =
+removes_holds : (setup : Setup) (stat x x' : ℕ) (views : List BusyView) (id : ℕ) (v : BusyView) → v.setup ≡ setup → v.port ≡ true → get_elem? views id ≡ some v → x' ≡ taken setup.limits x (weights_weigh size_of v) → Holds setup stat x views → Holds setup stat x' (set views id (removing v x'))
+removes_holds setup stat x x' views id v same is_port at is h =
     let l = setup.limits in
     let w = removing v x' in
     let n = weights_weigh size_of v in
@@ -274,6 +306,7 @@ removes_holds setup stat x x' views id v same at is h =
       set_up = h.set_up;
       stat = stat_set stat views id v w at refl refl (λ marks all. all) h.stat;
       ledgered = ledgered_remove setup x x' views id v at h.ledgered f.4;
+      removers = All-set RemovesAsPort views id w (λ e. absurd (true≢false (sym is_port ∙ e))) h.removers;
       climbing = climbing_move x x' views (set views id w) adds words f.0 f.1 h.climbing;
       level = subst (IsLevel l) (sym is) (level_take l x n within (λ on. (h.set_up.ordered on).0) h.level);
       bounded = bounded_move l x x' views (set views id w) adds words (λ on. subst (IsWithin l (λ period. over_adds (left_in period) views)) (sym is) (within_take l x n (λ period. over_adds (left_in period) views) within on (h.set_up.ordered on).0 (h.bounded.now on))) h.bounded;
@@ -291,6 +324,7 @@ sender_cuts setup id v same s rule at =
       set_up = h.set_up;
       stat = stat_sender_cut (get_or s.words 0 0) s.views id v at h.stat;
       ledgered = ledgered_same setup (get_or s.words 1 0) s.views after sums h.ledgered;
+      removers = All-push RemovesAsPort (set s.views id (other_senders v)) (first_sender v) (All-set RemovesAsPort s.views id (other_senders v) (all_at RemovesAsPort s.views id v h.removers at) h.removers) (λ e. refl);
       climbing = climbing_same (get_or s.words 1 0) s.views after adds words h.climbing;
       level = h.level;
       bounded = bounded_same setup.limits (get_or s.words 1 0) s.views after adds words h.bounded;
@@ -308,6 +342,7 @@ weights_cuts setup id v same s rule at =
       set_up = h.set_up;
       stat = stat_weights_cut (get_or s.words 0 0) s.views id v at h.stat;
       ledgered = ledgered_same setup (get_or s.words 1 0) s.views after sums h.ledgered;
+      removers = All-push RemovesAsPort (set s.views id (no_weights v)) (its_weights v) (All-set RemovesAsPort s.views id (no_weights v) (all_at RemovesAsPort s.views id v h.removers at) h.removers) (λ e. refl);
       climbing = climbing_same (get_or s.words 1 0) s.views after adds words h.climbing;
       level = h.level;
       bounded = bounded_same setup.limits (get_or s.words 1 0) s.views after adds words h.bounded;
@@ -325,6 +360,7 @@ both_join setup id other v w same nothing s rule at apart there =
       set_up = h.set_up;
       stat = stat_joined (get_or s.words 0 0) s.views id v other w at apart there h.stat;
       ledgered = ledgered_same setup (get_or s.words 1 0) s.views after sums h.ledgered;
+      removers = All-set RemovesAsPort (set s.views id (joined v w)) other spent (λ e. refl) (All-set RemovesAsPort s.views id (joined v w) (all_at RemovesAsPort s.views id v h.removers at) h.removers);
       climbing = climbing_same (get_or s.words 1 0) s.views after adds words h.climbing;
       level = h.level;
       bounded = bounded_same setup.limits (get_or s.words 1 0) s.views after adds words h.bounded;
@@ -425,7 +461,7 @@ removes setup slots id v expected new same is_port is s rule room at below =
     (λ k. (w : BusyView) × (a : Act Told) × Valid s.homes [] a × IsBusyTable setup record { words = set s.words 1 k; homes = homes_after s.homes [] a; views = set s.views id w } × Removes expected new me m (w, carried_after [] a))
     (λ hit.
     let w = removing v new in
-    let after = removes_holds setup stat m new s.views id v same at (is ∙ ap (λ k. taken setup.limits k (weights_weigh size_of v)) (sym hit)) h in
+    let after = removes_holds setup stat m new s.views id v same is_port at (is ∙ ap (λ k. taken setup.limits k (weights_weigh size_of v)) (sym hit)) h in
     (w, keeps, tt, with_msgq setup s new (set s.views id w) rule after, ((λ e. (refl, tells setup stat new (set s.views id w) id w same (at_own s.views id v w at) after)), (λ ne. absurd (ne hit)))))
     (λ miss.
     let w = port_heard v (m ∷ []) in
@@ -492,6 +528,7 @@ opens setup right =
             omega arith);
         each = all_one (λ u. All (λ s. IsLedger s.ledger) u.senders) v (all_fresh (λ s. IsLedger s.ledger) (λ n. record { few = omega arith; small = All-nil (λ a. a.name.size ≤ 262143); own = All-nil (λ m. m.sender ≡ n) }) 0 setup.senders);
       };
+      removers = all_one RemovesAsPort v (λ e. absurd (true≢false e));
       climbing = record {
         climbs = all_one (WordsIn (λ ws. Climbs 0 ws 0)) v (omega arith, all_fresh (λ s. Climbs 0 s.words 0) (λ n. omega arith) 0 setup.senders);
         periods = omega arith;
@@ -512,7 +549,9 @@ tells_lighter setup s ws x t = record {
   is_word = t.is_word;
   weights = omega arith;
   once = (λ n place. let o = t.once n place in omega arith);
+  bytes = (λ is_port all. absurd (true≢false (sym is_port)));
   climbs = t.climbs;
+  off = t.off;
   unsuspended = t.unsuspended;
   bounded = t.bounded;
   filled = t.filled;

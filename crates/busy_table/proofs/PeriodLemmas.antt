@@ -1,7 +1,7 @@
 -- The periods rise along every list of words, and the adds bound them.
-use Rattle.std.proofs.Common.{ℕ, ◌+◌, ◌%◌, ◌≤◌, List, [], ◌∷◌, ◌++◌, ◌∙◌, arith}
+use Rattle.std.proofs.Common.{◌≡◌, ℕ, ◌+◌, ◌%◌, ◌≤◌, List, [], ◌∷◌, ◌++◌, ◌∙◌, arith}
 use Rattle.std.specs.List.{All}
-use Rattle.std.proofs.lemmas.List.Elements.{All-weaker}
+use Rattle.std.proofs.lemmas.List.Elements.{All-nil, All-cons, All-weaker}
 use Rattle.port_sums.proofs.Counting.{other_number}
 use Rattle.busy_table.specs.declared.view.Add.{Add}
 use Rattle.busy_table.specs.declared.view.BusyView.{BusyView}
@@ -47,3 +47,12 @@ climbing_add x a views after adds words rises fits part = record {
   periods = (let count = adds.count in let before = part.periods in omega arith);
   later = (λ period h. let sums = adds.adds (is_left_at period) in let before = part.later period (omega arith) in let none' = other_number (period_of a.word) period (λ e. absurd (omega arith)) in omega arith);
 }
+
+climbs_up : (from to : ℕ) (ws : List ℕ) → Climbs from ws to → from ≤ to
+climbs_up from to [] c = c
+climbs_up from to (w ∷ ws) c = let inner = climbs_up (period_of w) to ws c.1 in let first = c.0 in omega arith
+
+-- words whose periods rise to 0 have period 0
+pub climbs_none : (from to : ℕ) (ws : List ℕ) → to ≡ 0 → Climbs from ws to → All (λ w. period_of w ≡ 0) ws
+climbs_none from to [] none c = All-nil (λ w. period_of w ≡ 0)
+climbs_none from to (w ∷ ws) none c = All-cons (λ u. period_of u ≡ 0) w ws (let up = climbs_up (period_of w) to ws c.1 in omega arith) (climbs_none (period_of w) to ws none c.1)

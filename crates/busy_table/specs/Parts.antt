@@ -1,5 +1,5 @@
 -- The rule of a table, in parts over the setup, a word and the views. Each part is kept by each kind of step for reasons of its own, and `IsBusyTable` joins them.
-use Rattle.std.specs.Prelude.{◌≡◌, ℕ, ◌+◌, ◌*◌, ◌%◌, ◌<◌, ◌≤◌, true, false, List, length, sum_by, All, slice_index}
+use Rattle.std.specs.Prelude.{◌≡◌, ℕ, ◌+◌, ◌*◌, ◌%◌, ◌<◌, ◌≤◌, true, false, List, [], length, sum_by, All, slice_index}
 use Rattle.atomic_table.specs.Table.{State}
 use Rattle.port_sums.specs.Counts.{once_below}
 use Rattle.busy_table.specs.declared.view.Limits.{Limits}
@@ -56,12 +56,17 @@ pub record IsFilled (limits : Limits) (word : ℕ) (views : List BusyView) : Typ
   pub filled : limits.on ≡ true → (period : ℕ) → period % 2 ≡ 1 → period ≤ period_of word → 1 ≤ over_adds (filled_in limits.high period) views
   pub heavy : limits.on ≡ true → 0 < period_of word → limits.high ≤ over_adds add_size views
 
+-- a seat that isn't the port's removed nothing
+abbrev pub RemovesAsPort : BusyView → Type 0
+RemovesAsPort v = v.port ≡ false → v.removed ≡ []
+
 -- STAT is word 0, and MSGQ is word 1
 pub record IsBusyTable (setup : Setup) (s : State Told BusyView) : Type 0 where
   pub two_words : length s.words ≡ 2
   pub set_up : IsSetup setup
   pub stat : IsStat (slice_index s.words 0) s.views
   pub ledgered : IsLedgered setup (slice_index s.words 1) s.views
+  pub removers : All RemovesAsPort s.views
   pub climbing : IsClimbing (slice_index s.words 1) s.views
   pub level : IsLevel setup.limits (slice_index s.words 1)
   pub bounded : IsBounded setup.limits (slice_index s.words 1) s.views

@@ -11,16 +11,19 @@ use Rattle.busy_table.specs.declared.view.Ledger.{Ledger}
 use Rattle.busy_table.specs.declared.view.Sender.{Sender}
 use Rattle.busy_table.specs.declared.view.BusyView.{BusyView}
 use Rattle.busy_table.specs.declared.view.Told.{Told}
-use Rattle.busy_table.specs.Views.{adds_by, weights_weigh, undone_weigh, removed_weigh, size_of, is_add, WordsIn, fresh_sender, view_of, seat_view, weight_view}
+use Rattle.busy_table.specs.Views.{adds_by, adds_weigh, weights_weigh, undone_weigh, removed_weigh, size_of, is_add, WordsIn, fresh_sender, view_of, seat_view, weight_view}
 use Rattle.busy_table.specs.Stat.{stat_of, Rises, EachRises}
 use Rattle.busy_table.specs.Queue.{period_of, bytes_of, Climbs, left_in, unsuspended_in, filled_in, add_size, IsWithin, IsQueueWord}
 
--- What MSGQ, found or left by a step, tells a seat that then knows v. A view with every sender's seat has the whole of the bounds in itself
+-- What MSGQ, found or left by a step, tells a seat that then knows v. A view with every sender's seat has the whole of the bounds in itself, and the port with
+-- every sender's seat has all bytes: what was added is there, was taken back or was removed
 pub record TellsQueue (v : BusyView) (word : ℕ) : Type 0 where
   pub is_word : IsQueueWord v.setup.limits word
   pub weights : weights_weigh size_of v ≤ bytes_of word
+  pub bytes : v.port ≡ true → length v.senders ≡ v.setup.senders → bytes_of word + undone_weigh size_of v + removed_weigh size_of v ≡ adds_weigh size_of v
   pub once : (n place : ℕ) → weights_weigh (is_add n place) v + undone_weigh (is_add n place) v + removed_weigh (is_add n place) v ≤ 1
   pub climbs : WordsIn (λ ws. Climbs 0 ws (period_of word)) v
+  pub off : v.setup.limits.on ≡ false → WordsIn (All (λ w. period_of w ≡ 0)) v
   pub unsuspended : (period : ℕ) → period % 2 ≡ 1 → adds_by (unsuspended_in period) v ≤ 1
   pub bounded : length v.senders ≡ v.setup.senders → v.setup.limits.on ≡ true
       → IsWithin v.setup.limits (λ period. adds_by (left_in period) v) word × WordsIn (All (IsWithin v.setup.limits (λ period. adds_by (left_in period) v))) v

@@ -1,4 +1,4 @@
-ghost use Rattle.std.specs.Prelude.{◌≡◌, ◌+◌, ◌<◌, ◌≤◌, length};
+ghost use Rattle.std.specs.Prelude.{◌≡◌, ◌+◌, ◌^◌, ◌<◌, ◌≤◌, length};
 
 use crate::{AddHow, Added, PortSeat, SendSeat, Weight, busy_table};
 use std::process::Abort;
@@ -109,5 +109,65 @@ fn what_two_and_four_threads_add_is_in_the_queue(rt: HostRuntime) -> Result<(), 
     join_all(&mut port, left);
     join_all(&mut port, right);
     assert_eq!(rt; port.look_msgq(), 40);
+    Ok(())
+}
+
+fn close(mut port: PortSeat) -> PortSeat
+    requires { length port.known.marks < 2 ^ 60 }
+    ensures { (result.table ≡ port.table) × (length result.known.marks ≡ length port.known.marks + 1) }
+{
+    port.mark_closed();
+    port
+}
+
+fn look(mut sender: SendSeat) -> (SendSeat, u64)
+    ensures { result.0.table ≡ sender.table }
+{
+    let stat = sender.look();
+    (sender, stat)
+}
+
+fn close_and_look<R: Threads + Sync>(
+    rt: &R,
+    port: PortSeat,
+    sender: SendSeat,
+) -> (PortSeat, (SendSeat, u64))
+    requires { length port.known.marks < 2 ^ 60 }
+    ensures port { (result.0.table ≡ port.table) × (length result.0.known.marks ≡ length port.known.marks + 1) }
+    ensures sender { result.1.0.table ≡ sender.table }
+{
+    join(rt, move || close(port), move || look(sender))
+}
+
+fn look_both<R: Threads + Sync>(
+    rt: &R,
+    a: SendSeat,
+    b: SendSeat,
+) -> ((SendSeat, u64), (SendSeat, u64))
+    ensures { (result.0.0.table ≡ a.table) × (result.1.0.table ≡ b.table) }
+{
+    join(rt, move || look(a), move || look(b))
+}
+
+#[test]
+fn two_and_four_threads_see_the_marks(rt: HostRuntime) -> Result<(), Fail> {
+    let (port, mut seats) = busy_table(rt.alloc(), false, 0, 0, 3)?;
+    let third = seats.pop().ok_or("no third")?;
+    let second = seats.pop().ok_or("no second")?;
+    let first = seats.pop().ok_or("no first")?;
+    let (port, (first, found)) = close_and_look(&rt, port, first);
+    assert!(rt; found == 0 || found == 6);
+    let (left, right) = join(
+        &rt,
+        || close_and_look(&rt, port, first),
+        || look_both(&rt, second, third),
+    );
+    let (mut port, (mut first, found)) = left;
+    let ((second, also_found), (third, _)) = right;
+    assert!(rt; (found == 6 || found == 10) && (also_found == 6 || also_found == 10));
+    assert_eq!(rt; first.look(), 10);
+    port.join(first);
+    port.join(second);
+    port.join(third);
     Ok(())
 }

@@ -154,3 +154,25 @@ module _ {V : Type 0} where
       let inner = sum_alone_where f g xs i v (All-tail (λ u. g u ≡ 0 → f u ≡ 0) x xs none) e (omega arith) in
       let all' = sum_by-cons f x xs in
       omega arith
+
+  sum_by-none : (f : V → ℕ) (views : List V) → ((j : ℕ) (u : V) → get_elem? views j ≡ some u → f u ≡ 0) → sum_by f views ≡ 0
+  sum_by-none f [] none = refl
+  sum_by-none f (x ∷ xs) none =
+      let here = none 0 x refl in
+      let inner = sum_by-none f xs (λ j u e. none (suc j) u e) in
+      let all = sum_by-cons f x xs in
+      omega arith
+
+  -- where no other view has any of f, one view has all of it
+  pub sum_only : (f : V → ℕ) (views : List V) (i : ℕ) (v : V) → get_elem? views i ≡ some v → ((j : ℕ) (u : V) → get_elem? views j ≡ some u → j ≢ i → f u ≡ 0) → sum_by f views ≡ f v
+  sum_only f [] i v e none = absurd (some-ne-none v (sym e))
+  sum_only f (x ∷ xs) zero v e none =
+      let same : f x ≡ f v = ap f (some-injective x v e) in
+      let inner = sum_by-none f xs (λ j u here. none (suc j) u here (λ e'. absurd (omega arith))) in
+      let all = sum_by-cons f x xs in
+      omega arith
+  sum_only f (x ∷ xs) (suc i) v e none =
+      let here = none 0 x refl (λ e'. absurd (omega arith)) in
+      let inner = sum_only f xs i v e (λ j u at ne. none (suc j) u at (λ e'. ne (omega arith))) in
+      let all = sum_by-cons f x xs in
+      omega arith
