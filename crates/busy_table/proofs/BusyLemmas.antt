@@ -21,7 +21,7 @@ use Rattle.busy_table.specs.declared.view.Ledger.{Ledger}
 use Rattle.busy_table.specs.declared.view.Sender.{Sender}
 use Rattle.busy_table.specs.declared.view.BusyView.{BusyView}
 use Rattle.busy_table.specs.declared.view.Told.{Told}
-use Rattle.busy_table.specs.Views.{over_senders, adds_of, adds_by, over_adds, adds_weigh, undone_weigh, weights_weigh, removed_weigh, size_of, senders_in, is_add, is_numbered, adds_made_by, fresh_sender, WordsIn, seat_view}
+use Rattle.busy_table.specs.Views.{over_senders, adds_of, adds_by, over_adds, undone_weigh, weights_weigh, removed_weigh, size_of, senders_in, is_add, is_numbered, adds_made_by, fresh_sender, WordsIn, seat_view}
 use Rattle.busy_table.specs.Stat.{stat_of, Rises, EachRises, IsStat}
 use Rattle.busy_table.specs.Queue.{period_of, bytes_of, Climbs, is_left_at, left_in, is_nosuspend, unsuspended_in, filled_in, add_size, added, taken, IsWithin}
 use Rattle.busy_table.specs.Parts.{IsSetup, IsLedger, IsLedgered, IsClimbing, IsLevel, IsBounded, IsFilled, RemovesAsPort, IsBusyTable}

@@ -1,25 +1,15 @@
 use std::alloc::{AllocError, AllocFailed};
-use std::error::Error;
-use std::fmt;
+use thiserror::Error;
 
 /// Why a text is not made the name of an atom.
-#[derive(Clone, Copy, Debug, PartialEq, Eq)]
+#[derive(Clone, Copy, Debug, PartialEq, Eq, Error)]
 pub enum AtomFault {
     /// The text has so many characters, more than 255.
+    #[error("a name of {chars} characters")]
     TooLong { chars: u64 },
+    #[error("no memory")]
     NoMemory,
 }
-
-impl fmt::Display for AtomFault {
-    fn fmt<W: fmt::Write>(&self, f: &mut fmt::Formatter<W>) -> fmt::Result {
-        match self {
-            AtomFault::TooLong { chars } => write!(f, "a name of {chars} characters"),
-            AtomFault::NoMemory => f.write_str("no memory"),
-        }
-    }
-}
-
-impl Error for AtomFault {}
 
 impl From<AllocError> for AtomFault {
     ghost use Rattle.std.specs.Prelude.{◌≡◌};
@@ -33,41 +23,32 @@ impl From<AllocError> for AtomFault {
 }
 
 /// Why bytes are no external term: the first fault from the left. Places count from 0, at the version number.
-#[derive(Clone, Copy, Debug, PartialEq, Eq)]
+#[derive(Clone, Copy, Debug, PartialEq, Eq, Error)]
 pub enum TermFault {
     /// A byte is wanted at the end of the input, which is this place.
+    #[error("the input ends at byte {at}")]
     Cut { at: u64 },
     /// The first byte is not 131, or the tag is none of the format.
+    #[error("no tag {tag}, at byte {at}")]
     BadTag { at: u64, tag: u8 },
     /// The tag is one of the format that is not served, or the tail of a list is not the empty list.
+    #[error("tag {tag} is not served, at byte {at}")]
     NotServed { at: u64, tag: u8 },
     /// The integer there has more than 64 bits, or the tuple, list or binary more than 262,143 items.
+    #[error("the term at byte {at} is too big")]
     TooBig { at: u64 },
     /// The atom there is not the UTF-8 that it should be, or has more than 255 characters.
+    #[error("the atom at byte {at} has no name")]
     BadText { at: u64 },
     /// The term ended before this place, and there is a byte.
+    #[error("the term ends before byte {at}")]
     Trailing { at: u64 },
     /// The term there would have depth 65, or its items would.
+    #[error("the term at byte {at} is too deep")]
     TooDeep { at: u64 },
+    #[error("no memory")]
     NoMemory,
 }
-
-impl fmt::Display for TermFault {
-    fn fmt<W: fmt::Write>(&self, f: &mut fmt::Formatter<W>) -> fmt::Result {
-        match self {
-            TermFault::Cut { at } => write!(f, "the input ends at byte {at}"),
-            TermFault::BadTag { at, tag } => write!(f, "no tag {tag}, at byte {at}"),
-            TermFault::NotServed { at, tag } => write!(f, "tag {tag} is not served, at byte {at}"),
-            TermFault::TooBig { at } => write!(f, "the term at byte {at} is too big"),
-            TermFault::BadText { at } => write!(f, "the atom at byte {at} has no name"),
-            TermFault::Trailing { at } => write!(f, "the term ends before byte {at}"),
-            TermFault::TooDeep { at } => write!(f, "the term at byte {at} is too deep"),
-            TermFault::NoMemory => f.write_str("no memory"),
-        }
-    }
-}
-
-impl Error for TermFault {}
 
 impl From<AllocError> for TermFault {
     ghost use Rattle.std.specs.Prelude.{◌≡◌};

@@ -78,6 +78,22 @@ fn faults_have_their_places(rt: HostRuntime) -> Result<(), Fail> {
 }
 
 #[test]
+fn faults_show_their_places(rt: HostRuntime) -> Result<(), Fail> {
+    let alloc = rt.alloc();
+    let long = AtomFault::TooLong { chars: 256 };
+    let refused = TermFault::NotServed { at: 2, tag: 77 };
+    assert_eq!(rt;
+        format!(in alloc; "{long}")?.as_str(),
+        "a name of 256 characters"
+    );
+    assert_eq!(rt;
+        format!(in alloc; "{refused}")?.as_str(),
+        "tag 77 is not served, at byte 2"
+    );
+    Ok(())
+}
+
+#[test]
 fn each_fault_is_told(rt: HostRuntime) {
     let table: [(&[u8], TermFault); 16] = [
         (&[], TermFault::Cut { at: 0 }),
