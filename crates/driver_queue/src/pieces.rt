@@ -84,14 +84,14 @@ fn share_past(
     let mut rest = Vec::new(alloc);
     let mut left = skip;
     for piece in pieces {
-        let len = piece.len() as u64;
+        let len = piece.len();
         if left == 0 {
             rest.push(piece.share()?)?;
-        } else if left < len {
-            rest.push(piece.part(left as usize, piece.len())?)?;
+        } else if left < len as u64 {
+            rest.push(piece.part(left as usize, len)?)?;
             left = 0;
         } else {
-            left -= len;
+            left -= len as u64;
         }
     }
     Ok(rest)
