@@ -38,7 +38,7 @@ shared_whole front new s rest ss all left so_far is none more =
 
 -- the last bytes that are to be skipped are the front of the segment: its rest is shared
 pub shared_cut : (front new : List (List ℕ)) (s : List ℕ) (rest ss : List (List ℕ)) (all : List (List ℕ)) (left : ℕ) →
-    front ++ segments_past left rest ≡ all → rest ≡ s ∷ ss → 0 < left → left < length s → 
+    front ++ segments_past left rest ≡ all → rest ≡ s ∷ ss → 0 < left → left < length s →
     new ≡ front ++ slice_range s left (length s) ∷ [] → new ++ segments_past 0 ss ≡ all
 shared_cut front new s rest ss all left so_far is some short more =
     let tail : slice_range s left (length s) ≡ drop left s =

@@ -9,8 +9,8 @@
 mod fault;
 mod pieces;
 mod queue;
-//#[cfg(test)]
-//mod tests;
+#[cfg(test)]
+mod tests;
 
 pub use fault::{DeqPast, EnqFault};
 pub use no_memory::NoMemory;

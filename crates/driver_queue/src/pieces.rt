@@ -73,11 +73,7 @@ pub(crate) fn share_with_room(
 }
 
 /// Shares the pieces of a vector past its first `skip` bytes.
-fn share_past(
-    alloc: Global,
-    pieces: &[Piece],
-    skip: u64,
-) -> Result<Vec<Piece>, NoMemory>
+fn share_past(alloc: Global, pieces: &[Piece], skip: u64) -> Result<Vec<Piece>, NoMemory>
     requires { skip ≤ length (concat pieces.now) }
     ensures { IfOk result (λ rest. rest.items ≡ segments_past skip pieces.now) }
 {

@@ -15,15 +15,15 @@ loop-piece-preserved c =
       | then-left-eq0+in_ok-share+in_ok-push w ↦
           rw (w.rest-is, w.left-is)
           (shared_whole front _ s _ _ _ skip c.loop-piece.invariant to_go w.if-left-eq0.true
-            (w.in_ok-push.ensures.items ∙ ap (λ t. front ++ t ∷ []) w.in_ok-share.ensures))
+          (w.in_ok-push.ensures.items ∙ ap (λ t. front ++ t ∷ []) w.in_ok-share.ensures))
       | else-left-eq0+then-left-len+in_ok-part+in_ok-push-2 w ↦
           rw (w.rest-is, w.left-is)
           (shared_cut front _ s _ _ _ skip c.loop-piece.invariant to_go (omega (arith, w.if-left-eq0.false))
-            (omega (arith, w.if-left-len.true, c.len-len.ensures.value))
-            (w.in_ok-push-2.ensures.items ∙ ap (λ t. front ++ t ∷ []) w.in_ok-part.ensures
-              ∙ ap (λ n. front ++ slice_range s skip n ∷ []) c.len-len.ensures.value))
+          (omega (arith, w.if-left-len.true, c.len-len.ensures.value))
+          (w.in_ok-push-2.ensures.items ∙ ap (λ t. front ++ t ∷ []) w.in_ok-part.ensures
+          ∙ ap (λ n. front ++ slice_range s skip n ∷ []) c.len-len.ensures.value))
       | else-left-eq0+else-left-len w ↦
           rw (w.rest-is, w.left-is, c.len-len.ensures.value)
           (shared_none front s _ _ _ skip c.loop-piece.invariant to_go (omega (arith, w.if-left-eq0.false))
-            (omega (arith, w.if-left-len.false, c.len-len.ensures.value)))
+          (omega (arith, w.if-left-len.false, c.len-len.ensures.value)))
     ]

@@ -5,5 +5,5 @@ use Rattle.driver_queue.proofs.queue.DriverQueue.enq.Goals as goal
 pub invariant_of-self-2 : goal.invariant_of-self-2
 invariant_of-self-2 c =
     sized-push _ _ c.args.piece _ _ c.self.invariant
-      (c.push_back_reserved.ensures.items ∙ ap (λ ss. ss ++ c.args.piece ∷ []) c.make_room.ensures.items)
-      c.len-len.ensures.value (omega arith)
+    (c.push_back_reserved.ensures.items ∙ ap (λ ss. ss ++ c.args.piece ∷ []) c.make_room.ensures.items)
+    c.len-len.ensures.value (omega arith)
