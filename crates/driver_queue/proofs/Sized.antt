@@ -6,11 +6,11 @@ use Rattle.io_vector.proofs.Segments.{concat-segments_past, length-concat-append
 use Rattle.driver_queue.specs.DriverQueue.{IsSized}
 
 -- one more segment at the back
-pub sized-push : (segments new : List (List ℕ)) (s : List ℕ) (size added : ℕ) → IsSized segments size →
-    new ≡ segments ++ s ∷ [] → added ≡ length s → size + added < 2 ^ 63 → IsSized new (size + added)
-sized-push segments new s size added old is count small =
+pub sized-push : (segments new : List (List ℕ)) (s : List ℕ) (size more : ℕ) → IsSized segments size →
+    new ≡ segments ++ s ∷ [] → more ≡ size + length s → more < 2 ^ 63 → IsSized new more
+sized-push segments new s size more old is count small =
     record {
-      counted = omega (arith, old.counted, ap (λ xs. length (concat xs)) is, length-concat-push segments s);
+      counted = omega (arith, old.counted, count, ap (λ xs. length (concat xs)) is, length-concat-push segments s);
       small = small;
     }
 

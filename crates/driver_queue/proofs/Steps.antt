@@ -25,28 +25,29 @@ pub drop_item : (xs : List (List ℕ)) (i : ℕ) (x : List ℕ) → i < length x
     drop i xs ≡ x ∷ drop (i + 1) xs
 drop_item xs i x within is = rw add-one (drop-cons xs i x within ∙ ap (λ y. y ∷ drop (suc i) xs) (sym is))
 
--- no byte is to be skipped any more: the segment is shared whole
-pub shared_whole : (front new : List (List ℕ)) (s : List ℕ) (rest ss : List (List ℕ)) (all : List (List ℕ)) (left : ℕ) →
-    front ++ segments_past left rest ≡ all → rest ≡ s ∷ ss → left ≡ 0 → new ≡ front ++ s ∷ [] →
+-- no byte is to be skipped any more: the segment s is shared whole, as t
+pub shared_whole : (front new : List (List ℕ)) (s t : List ℕ) (rest ss : List (List ℕ)) (all : List (List ℕ)) (left : ℕ) →
+    front ++ segments_past left rest ≡ all → rest ≡ s ∷ ss → left ≡ 0 → t ≡ s → new ≡ front ++ t ∷ [] →
     new ++ segments_past left ss ≡ all
-shared_whole front new s rest ss all left so_far is none more =
-    ap (λ xs. xs ++ segments_past left ss) more ∙ append_assoc front (s ∷ []) (segments_past left ss)
+shared_whole front new s t rest ss all left so_far is none same more =
+    ap (λ xs. xs ++ segments_past left ss) more ∙ append_assoc front (t ∷ []) (segments_past left ss)
+    ∙ ap (λ u. front ++ u ∷ segments_past left ss) same
     ∙ ap (λ n. front ++ s ∷ segments_past n ss) none ∙ ap (λ xs. front ++ s ∷ xs) (past-zero ss)
     ∙ ap (λ xs. front ++ xs) (sym (past-zero (s ∷ ss)))
     ∙ ap (λ n. front ++ segments_past n (s ∷ ss)) (sym none)
     ∙ ap (λ xs. front ++ segments_past left xs) (sym is) ∙ so_far
 
--- the last bytes that are to be skipped are the front of the segment: its rest is shared
-pub shared_cut : (front new : List (List ℕ)) (s : List ℕ) (rest ss : List (List ℕ)) (all : List (List ℕ)) (left : ℕ) →
-    front ++ segments_past left rest ≡ all → rest ≡ s ∷ ss → 0 < left → left < length s →
-    new ≡ front ++ slice_range s left (length s) ∷ [] → new ++ segments_past 0 ss ≡ all
-shared_cut front new s rest ss all left so_far is some short more =
-    let tail : slice_range s left (length s) ≡ drop left s =
-    take_all (length s - left) (drop left s) (omega (arith, length-drop left s)) in
-    ap (λ xs. xs ++ segments_past 0 ss) more ∙ ap (λ t. (front ++ t ∷ []) ++ segments_past 0 ss) tail
-    ∙ append_assoc front (drop left s ∷ []) (segments_past 0 ss)
+-- the last bytes that are to be skipped are the front of the segment s: its rest is shared, as t
+pub shared_cut : (front new : List (List ℕ)) (s t : List ℕ) (rest ss : List (List ℕ)) (all : List (List ℕ)) (left len : ℕ) →
+    front ++ segments_past left rest ≡ all → rest ≡ s ∷ ss → 0 < left → left < len → len ≡ length s →
+    t ≡ slice_range s left len → new ≡ front ++ t ∷ [] → new ++ segments_past 0 ss ≡ all
+shared_cut front new s t rest ss all left len so_far is some short count part more =
+    let tail : t ≡ drop left s =
+    part ∙ take_all (len - left) (drop left s) (omega (arith, count, length-drop left s)) in
+    ap (λ xs. xs ++ segments_past 0 ss) more ∙ append_assoc front (t ∷ []) (segments_past 0 ss)
+    ∙ ap (λ u. front ++ u ∷ segments_past 0 ss) tail
     ∙ ap (λ xs. front ++ drop left s ∷ xs) (past-zero ss)
-    ∙ ap (λ xs. front ++ xs) (sym (past_cut left s ss some short))
+    ∙ ap (λ xs. front ++ xs) (sym (past_cut left s ss some (omega (arith, count))))
     ∙ ap (λ xs. front ++ segments_past left xs) (sym is) ∙ so_far
 
 -- the whole segment is skipped

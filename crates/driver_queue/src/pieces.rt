@@ -1,5 +1,5 @@
 // What a queue does with its pieces, and with those of a vector.
-ghost use Rattle.std.specs.Prelude.{◌≡◌, ◌+◌, ◌-◌, ◌^◌, ◌<◌, ◌≤◌, ◌++◌, length, take, IfOk, IfErr, OnOk, OnErr};
+ghost use Rattle.std.specs.Prelude.{◌≡◌, ◌+◌, ◌-◌, ◌^◌, ◌<◌, ◌≤◌, ◌++◌, length, take, IsOk, IfOk, IfErr, OnOk, OnErr};
 ghost use Rattle.std.specs.List.{concat};
 ghost use Rattle.std.specs.Vec.{vec_len};
 ghost use Rattle.std.specs.VecDeque.{deque_len, deque_capacity};
@@ -35,6 +35,32 @@ pub(crate) fn make_room(pieces: &mut VecDeque<Piece>, more: usize) -> Result<(),
         Ok(()) => Ok(()),
         Err(_) => Err(NoMemory),
     }
+}
+
+/// Lets a piece into a queue of `size` bytes, if they stay below 2^63 with it: makes a place, and returns
+/// the piece and the size with it.
+pub(crate) fn admit(
+    pieces: &mut VecDeque<Piece>,
+    size: u64,
+    piece: Piece,
+) -> Result<(Piece, u64), (Piece, NoMemory)>
+    requires { size < 2 ^ 63 }
+    ensures piece { IfOk result (λ admitted. admitted.0 ≡ piece) }
+    ensures size { IfOk result (λ admitted. admitted.1 ≡ size + length piece) }
+    ensures small { IfOk result (λ admitted. admitted.1 < 2 ^ 63) }
+    ensures room { OnOk result (deque_len pieces.new < deque_capacity pieces.new) }
+    ensures succeeds { deque_len pieces.old < deque_capacity pieces.old → size + length piece < 2 ^ 63 → IsOk result }
+    ensures items { pieces.new.items ≡ pieces.old.items }
+    ensures len { deque_len pieces.new ≡ deque_len pieces.old }
+    ensures capacity { deque_capacity pieces.old ≤ deque_capacity pieces.new }
+    ensures err { OnErr result (deque_capacity pieces.new ≡ deque_capacity pieces.old) }
+    ensures back { IfErr result (λ refused. refused.0 ≡ piece) }
+{
+    let len = piece.len() as u64;
+    if len > MAX_SIZE - size || make_room(pieces, 1).is_err() {
+        return Err((piece, NoMemory));
+    }
+    Ok((piece, size + len))
 }
 
 /// Shares the pieces of a vector past its first `skip` bytes, and makes room for them in a queue of `size`

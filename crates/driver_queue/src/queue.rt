@@ -4,9 +4,7 @@ ghost use Rattle.std.specs.Slice.{IsItemAt};
 ghost use Rattle.io_vector.specs.Segments.{segments_past};
 ghost use Rattle.driver_queue.specs.EnqFault.{EnqFails};
 
-use crate::pieces::{
-    MAX_SIZE, copy_front, make_room, push_all_back, push_all_front, share_with_room, skip_front,
-};
+use crate::pieces::{admit, copy_front, make_room, push_all_back, push_all_front, share_with_room, skip_front};
 use crate::{DeqPast, EnqFault, NoMemory};
 use io_vector::{IoVec, Piece};
 use std::alloc::Global;
@@ -65,12 +63,9 @@ impl DriverQueue {
         ensures err { OnErr result (self.new ≡ self.old) }
         ensures back { IfErr result (λ refused. refused.0 ≡ piece) }
     {
-        let len = piece.len() as u64;
-        if len > MAX_SIZE - self.size || make_room(&mut self.pieces, 1).is_err() {
-            return Err((piece, NoMemory));
-        }
+        let (piece, size) = admit(&mut self.pieces, self.size, piece)?;
         self.pieces.push_back_reserved(piece);
-        self.size += len;
+        self.size = size;
         Ok(())
     }
 
@@ -99,12 +94,9 @@ impl DriverQueue {
         ensures err { OnErr result (self.new ≡ self.old) }
         ensures back { IfErr result (λ refused. refused.0 ≡ piece) }
     {
-        let len = piece.len() as u64;
-        if len > MAX_SIZE - self.size || make_room(&mut self.pieces, 1).is_err() {
-            return Err((piece, NoMemory));
-        }
+        let (piece, size) = admit(&mut self.pieces, self.size, piece)?;
         self.pieces.push_front_reserved(piece);
-        self.size += len;
+        self.size = size;
         Ok(())
     }
 
