@@ -1,5 +1,5 @@
 -- How each change of a queue keeps its count of bytes.
-use Rattle.std.proofs.Common.{◌≡◌, ◌+◌, ◌-◌, ◌^◌, ◌<◌, ◌≤◌, ℕ, List, [], ◌∷◌, ◌++◌, length, drop, ap, arith, length-append, length-drop}
+use Rattle.std.proofs.Common.{◌≡◌, ◌+◌, ◌-◌, ◌^◌, ◌<◌, ℕ, List, [], ◌∷◌, ◌++◌, length, ap, arith, length-drop}
 use Rattle.std.specs.List.{concat}
 use Rattle.io_vector.specs.Segments.{segments_past}
 use Rattle.io_vector.proofs.Segments.{concat-segments_past, length-concat-append, length-concat-push}

@@ -4,7 +4,9 @@ ghost use Rattle.std.specs.Slice.{IsItemAt};
 ghost use Rattle.io_vector.specs.Segments.{segments_past};
 ghost use Rattle.driver_queue.specs.EnqFault.{EnqFails};
 
-use crate::pieces::{admit, copy_front, make_room, push_all_back, push_all_front, share_with_room, skip_front};
+use crate::pieces::{
+    admit, copy_front, make_room, push_all_back, push_all_front, share_with_room, skip_front,
+};
 use crate::{DeqPast, EnqFault, NoMemory};
 use io_vector::{IoVec, Piece};
 use std::alloc::Global;

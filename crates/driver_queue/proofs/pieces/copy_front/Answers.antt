@@ -1,4 +1,4 @@
-use Rattle.std.proofs.Common.{◌≡◌, ◌≤◌, ◌++◌, length, ap, ◌∙◌, arith}
+use Rattle.std.proofs.Common.{◌++◌, length, ap, ◌∙◌, arith}
 use Rattle.driver_queue.proofs.Steps.{copied_more}
 use Rattle.driver_queue.proofs.pieces.copy_front.Goals as goal
 

@@ -1,6 +1,5 @@
 use Rattle.std.proofs.Common.{◌∙◌, ap, drop}
 use Rattle.std.specs.List.{concat}
-use Rattle.io_vector.specs.Segments.{segments_past}
 use Rattle.io_vector.proofs.Segments.{concat-segments_past}
 use Rattle.driver_queue.proofs.Sized.{sized-past}
 use Rattle.driver_queue.proofs.queue.DriverQueue.deq.Goals as goal
