@@ -1,7 +1,11 @@
-//! Times `skip`, one byte at a time, over a vector of segments of 16 bytes, as many as its argument says. With no argument it takes ten,
-//! and prints no times.
+//! Times a vector and a driver queue, of as many segments as its argument says: `skip` one byte at a time over a vector of segments
+//! of 16 bytes, `deq` one byte at a time over a queue of segments of one byte, and `pushq` of such segments in front. With no argument
+//! it takes ten, and prints no times.
 #![tactic(auto)]
 
+mod queues;
+
+use crate::queues::{best_deq, best_pushq, empty_queue};
 use anyhow::{Context, Result, bail, ensure};
 use io_vector::{IoVec, Piece};
 use std::alloc::Global;
@@ -9,26 +13,35 @@ use std::env;
 use std::rt::Clock;
 use std::time::{Duration, Instant};
 
-const ROUNDS: u32 = 5;
+pub(crate) const ROUNDS: u32 = 5;
 
 fn main(rt: HostRuntime) -> Result<()> {
     let count = env::args(&rt)?.nth(1);
-    let n = match &count {
-        Some(text) => text
-            .as_str()
-            .parse::<u32>()
-            .context("a number of segments")?,
-        None => 10,
+    let Some(text) = &count else {
+        empty_vector(&rt, 10)?;
+        return empty_queue(&rt, 10);
     };
+    let n = text
+        .as_str()
+        .parse::<u32>()
+        .context("a number of segments")?;
+    println!(rt; "segments {n}")?;
+    println!(rt; "skip byte by byte {} us", best_skip(&rt, n)?.as_micros())?;
+    println!(rt; "deq byte by byte {} us", best_deq(&rt, n)?.as_micros())?;
+    println!(rt; "pushq one by one {} us", best_pushq(&rt, n)?.as_micros())?;
+    Ok(())
+}
+
+/// Tells the size of a vector before and after all its bytes are skipped.
+fn empty_vector<R: Print + AllocGlobal>(rt: &R, n: u32) -> Result<()> {
     let mut vector = vector_of(rt.alloc(), n)?;
-    println!(rt; "segments {}, bytes {}", vector.segments(), vector.size())?;
-    if count.is_some() {
-        let time = best_time(&rt, n)?;
-        println!(rt; "skip byte by byte {} us", time.as_micros())?;
-    } else {
-        skip_all(&mut vector)?;
-        println!(rt; "left {}", vector.size())?;
-    }
+    println!(rt;
+        "vector: segments {}, bytes {}",
+        vector.segments(),
+        vector.size()
+    )?;
+    skip_all(&mut vector)?;
+    println!(rt; "left {}", vector.size())?;
     Ok(())
 }
 
@@ -56,7 +69,7 @@ fn skip_all(vector: &mut IoVec) -> Result<()> {
 }
 
 /// The shortest time of some rounds to skip all bytes.
-fn best_time<R: Clock + AllocGlobal>(rt: &R, n: u32) -> Result<Duration> {
+fn best_skip<R: Clock + AllocGlobal>(rt: &R, n: u32) -> Result<Duration> {
     let mut best = Duration::MAX;
     for _ in 0..ROUNDS {
         let mut vector = vector_of(rt.alloc(), n)?;
