@@ -1,0 +1,4 @@
+pub mod Headers
+pub mod LineRuns
+pub mod Lists
+pub mod PacketRuns
