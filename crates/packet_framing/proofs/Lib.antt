@@ -1,4 +1,5 @@
 pub mod Headers
+pub mod Laws
 pub mod LineRuns
 pub mod Lists
 pub mod PacketRuns

@@ -43,6 +43,14 @@ IsMessages (Line limit) bytes ended ms =
     ms ≡ line_messages limit bytes ++ (if ended then last_message (Line limit) (line_rest limit bytes) else [])
 IsMessages Stream bytes ended ms = StreamMessages bytes ms
 
+-- the cutting into messages is fixed by the bytes: it is in every mode but the stream
+abbrev pub IsFixed : Mode → Type 0
+IsFixed Packet1 = Unit {0}
+IsFixed Packet2 = Unit {0}
+IsFixed Packet4 = Unit {0}
+IsFixed (Line limit) = Unit {0}
+IsFixed Stream = ⊥
+
 -- the messages of the bytes, while more may come, as a function: in stream mode they aren't fixed, and this is none
 abbrev pub messages_of : Mode → List ℕ → List Message
 messages_of Packet1 bytes = packet_messages Packet1 bytes
