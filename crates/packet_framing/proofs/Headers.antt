@@ -1,8 +1,8 @@
 -- Headers and frames: which length a header tells, and that a frame is one frame only.
-use Rattle.std.proofs.Common.{◌≡◌, ◌+◌, ◌-◌, ◌<◌, ◌≤◌, ◌^◌, ℕ, List, [], ◌∷◌, ◌++◌, length, take, drop, refl, sym, ◌∙◌, ap, arith, append_assoc, length-append}
+use Rattle.std.proofs.Common.{◌≡◌, ◌+◌, ◌-◌, ◌<◌, ◌≤◌, ◌^◌, ℕ, zero, suc, List, [], ◌∷◌, ◌++◌, length, take, drop, get_or, refl, sym, ◌∙◌, ap, arith, append_assoc, length-append}
 use Rattle.std.specs.Int.{w16, w32, to_be_bytes, from_be_bytes}
-use Rattle.std.proofs.lemmas.List.{take_at, drop_at, append_cancel_left}
-use Rattle.std.proofs.lemmas.Nat.{from_be_bytes-to_be_bytes_2, from_be_bytes-to_be_bytes_4}
+use Rattle.std.proofs.lemmas.List.{take_at, drop_at, drop_more}
+use Rattle.std.proofs.lemmas.Nat.{from_be_bytes-to_be_bytes_2, from_be_bytes-to_be_bytes_4, be_bytes_4}
 use Rattle.packet_framing.specs.declared.mode.Mode.{Mode}
 use Rattle.packet_framing.specs.declared.mode.Mode.TheVariants.{Packet1, Packet2, Packet4, Line, Stream}
 use Rattle.packet_framing.specs.Frames.{header_len, header_limit, header, frame_of}
@@ -57,3 +57,40 @@ one_frame mode m n xs ys packet below below' same =
     let content : m ≡ n =
     sym (take_at m xs (length m) refl) ∙ ap (take (length m)) parts.1 ∙ take_at n ys (length m) (sym parts.0) in
     (content, sym (drop_at m xs (length m) refl) ∙ ap (drop (length m)) parts.1 ∙ drop_at n ys (length m) (sym parts.0))
+
+below_four : (a b c d : ℕ) → a < 256 → b < 256 → c < 256 → d < 256 → (i : ℕ) → get_or (a ∷ b ∷ c ∷ d ∷ []) i 0 < 256
+below_four a b c d below-a below-b below-c below-d zero = below-a
+below_four a b c d below-a below-b below-c below-d (suc zero) = below-b
+below_four a b c d below-a below-b below-c below-d (suc (suc zero)) = below-c
+below_four a b c d below-a below-b below-c below-d (suc (suc (suc zero))) = below-d
+below_four a b c d below-a below-b below-c below-d (suc (suc (suc (suc i)))) = omega arith
+
+take_one : (bytes : List ℕ) (at n : ℕ) → at < length bytes → take (suc n) (drop at bytes) ≡ get_or bytes at 0 ∷ take n (drop (at + 1) bytes)
+take_one bytes at n there = ap (take (suc n)) (drop_more bytes at 0 there)
+
+take_four : (bytes : List ℕ) (at : ℕ) → at + 4 ≤ length bytes →
+    take 4 (drop at bytes) ≡ get_or bytes at 0 ∷ get_or bytes (at + 1) 0 ∷ get_or bytes (at + 2) 0 ∷ get_or bytes (at + 3) 0 ∷ []
+take_four bytes at within =
+    let second : at + 1 + 1 ≡ at + 2 = omega arith in
+    let third : at + 2 + 1 ≡ at + 3 = omega arith in
+    let last = take_one bytes (at + 3) 0 (omega arith) in
+    let two : take 2 (drop (at + 2) bytes) ≡ get_or bytes (at + 2) 0 ∷ get_or bytes (at + 3) 0 ∷ [] =
+    take_one bytes (at + 2) 1 (omega arith) ∙ ap (λ n. get_or bytes (at + 2) 0 ∷ take 1 (drop n bytes)) third
+    ∙ ap (λ xs. get_or bytes (at + 2) 0 ∷ xs) last in
+    let three : take 3 (drop (at + 1) bytes) ≡ get_or bytes (at + 1) 0 ∷ get_or bytes (at + 2) 0 ∷ get_or bytes (at + 3) 0 ∷ [] =
+    take_one bytes (at + 1) 2 (omega arith) ∙ ap (λ n. get_or bytes (at + 1) 0 ∷ take 2 (drop n bytes)) second
+    ∙ ap (λ xs. get_or bytes (at + 1) 0 ∷ xs) two in
+    take_one bytes at 3 (omega arith) ∙ ap (λ xs. get_or bytes at 0 ∷ xs) three
+
+-- the header of four bytes at a place
+pub header_four : (mode : Mode) (bytes : List ℕ) (at n a b c d : ℕ) → mode ≡ Packet4 → at + 4 ≤ length bytes → a ≡ get_or bytes at 0 →
+    b ≡ get_or bytes (at + 1) 0 → c ≡ get_or bytes (at + 2) 0 → d ≡ get_or bytes (at + 3) 0 → a < 256 → b < 256 → c < 256 → d < 256 →
+    n ≡ from_be_bytes w32 (a ∷ b ∷ c ∷ d ∷ []) → take (header_len mode) (drop at bytes) ≡ header mode n
+header_four mode bytes at n a b c d is within first second third fourth below-a below-b below-c below-d value =
+    let front : take 4 (drop at bytes) ≡ a ∷ b ∷ c ∷ d ∷ [] =
+    take_four bytes at within ∙ ap (λ x. x ∷ get_or bytes (at + 1) 0 ∷ get_or bytes (at + 2) 0 ∷ get_or bytes (at + 3) 0 ∷ []) (sym first)
+    ∙ ap (λ x. a ∷ x ∷ get_or bytes (at + 2) 0 ∷ get_or bytes (at + 3) 0 ∷ []) (sym second)
+    ∙ ap (λ x. a ∷ b ∷ x ∷ get_or bytes (at + 3) 0 ∷ []) (sym third) ∙ ap (λ x. a ∷ b ∷ c ∷ x ∷ []) (sym fourth) in
+    let written : to_be_bytes w32 n ≡ a ∷ b ∷ c ∷ d ∷ [] =
+    be_bytes_4 (a ∷ b ∷ c ∷ d ∷ []) n refl (below_four a b c d below-a below-b below-c below-d) value in
+    ap (λ (m : Mode). take (header_len m) (drop at bytes)) is ∙ front ∙ sym written ∙ ap (λ (m : Mode). header m n) (sym is)

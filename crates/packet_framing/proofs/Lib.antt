@@ -3,3 +3,4 @@ pub mod Laws
 pub mod LineRuns
 pub mod Lists
 pub mod PacketRuns
+pub mod Steps

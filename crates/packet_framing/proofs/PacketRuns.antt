@@ -20,7 +20,7 @@ frames_more : (mode : Mode) (bytes r chunk : List ℕ) (ms : List Message) → b
     bytes ++ chunk ≡ frames_of mode ms ++ (r ++ chunk)
 frames_more mode bytes r chunk ms whole = ap (λ xs. xs ++ chunk) whole ∙ append_assoc (frames_of mode ms) r chunk
 
-frames_join : (mode : Mode) (bytes rest back : List ℕ) (ms ns : List Message) → bytes ≡ frames_of mode ms ++ rest →
+pub frames_join : (mode : Mode) (bytes rest back : List ℕ) (ms ns : List Message) → bytes ≡ frames_of mode ms ++ rest →
     rest ≡ frames_of mode ns ++ back → bytes ≡ frames_of mode (ms ++ ns) ++ back
 frames_join mode bytes rest back ms ns whole next =
     whole ∙ ap (λ xs. frames_of mode ms ++ xs) next ∙ sym (append_assoc (frames_of mode ms) (frames_of mode ns) back)

@@ -1,4 +1,4 @@
-ghost use Rattle.std.specs.Prelude.{◌≡◌, ◌+◌, ◌<◌, ◌≤◌, ◌++◌, length, slice_get, slice_range, Some, IfOk};
+ghost use Rattle.std.specs.Prelude.{◌≡◌, ◌+◌, ◌<◌, ◌≤◌, ◌++◌, length, slice_index, slice_range, IfOk};
 
 use crate::{Flag, Message};
 use io_vector::{NoMemory, Piece};
@@ -21,7 +21,7 @@ impl Joined<'_> {
 
     pub(crate) fn byte(&self, at: usize) -> u8
         requires { at < length (self.now.held.now ++ self.now.chunk.now) }
-        ensures value { slice_get (self.now.held.now ++ self.now.chunk.now) at ≡ Some result }
+        ensures value { result ≡ slice_index (self.now.held.now ++ self.now.chunk.now) at }
         ensures bound { result < 256 }
     {
         if at < self.held.len() {
