@@ -44,9 +44,10 @@ one_len mode m n packet below below' same =
 -- two lists that begin with one header
 pub one_header : (mode : Mode) (m n : ℕ) (xs ys : List ℕ) → 0 < header_len mode → m < header_limit mode → n < header_limit mode →
     header mode m ++ xs ≡ header mode n ++ ys → (m ≡ n) × (xs ≡ ys)
-one_header mode m n xs ys packet below below' same =
-    (one_len mode m n packet below below' (sym (take-header mode m xs) ∙ ap (take (header_len mode)) same ∙ take-header mode n ys),
-    sym (drop-header mode m xs) ∙ ap (drop (header_len mode)) same ∙ drop-header mode n ys)
+one_header mode m n xs ys packet below below' same = (
+  one_len mode m n packet below below' (sym (take-header mode m xs) ∙ ap (take (header_len mode)) same ∙ take-header mode n ys),
+  sym (drop-header mode m xs) ∙ ap (drop (header_len mode)) same ∙ drop-header mode n ys,
+)
 
 -- two lists that begin with a frame each
 pub one_frame : (mode : Mode) (m n xs ys : List ℕ) → 0 < header_len mode → length m < header_limit mode → length n < header_limit mode →

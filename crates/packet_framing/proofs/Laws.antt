@@ -28,18 +28,21 @@ pub one_more : (mode : Mode) → IsServed mode → (bytes chunk : List ℕ) (ms 
 one_more Packet1 served bytes chunk ms ns r s first next = packets_more Packet1 bytes chunk ms ns r s first next
 one_more Packet2 served bytes chunk ms ns r s first next = packets_more Packet2 bytes chunk ms ns r s first next
 one_more Packet4 served bytes chunk ms ns r s first next = packets_more Packet4 bytes chunk ms ns r s first next
-one_more (Line limit) served bytes chunk ms ns r s first next =
-    (ap (λ xs. xs ++ ns) first.0
-    ∙ ap (λ xs. line_messages limit bytes ++ xs) (next.0 ∙ ap (λ xs. line_messages limit (xs ++ chunk)) first.1)
-    ∙ sym (line_messages_more limit bytes chunk served.0),
-    next.1 ∙ ap (λ xs. line_rest limit (xs ++ chunk)) first.1 ∙ sym (line_rest_more limit bytes chunk served.0))
-one_more Stream served bytes chunk ms ns r s first next =
-    (record {
-      whole = ap (λ xs. xs ++ chunk) first.0.whole
-      ∙ ap (λ xs. flat_map (λ (m : Message). m.bytes) ms ++ xs) (ap (λ xs. xs ++ chunk) (sym first.1) ∙ next.0.whole)
-      ∙ sym (flat_map-append (λ (m : Message). m.bytes) ms ns);
-      each = All-append IsStreamed ms ns first.0.each next.0.each;
-    }, next.1)
+one_more (Line limit) served bytes chunk ms ns r s first next = (
+  ap (λ xs. xs ++ ns) first.0
+      ∙ ap (λ xs. line_messages limit bytes ++ xs) (next.0 ∙ ap (λ xs. line_messages limit (xs ++ chunk)) first.1)
+      ∙ sym (line_messages_more limit bytes chunk served.0),
+  next.1 ∙ ap (λ xs. line_rest limit (xs ++ chunk)) first.1 ∙ sym (line_rest_more limit bytes chunk served.0),
+)
+one_more Stream served bytes chunk ms ns r s first next = (
+  record {
+    whole = ap (λ xs. xs ++ chunk) first.0.whole
+        ∙ ap (λ xs. flat_map (λ (m : Message). m.bytes) ms ++ xs) (ap (λ xs. xs ++ chunk) (sym first.1) ∙ next.0.whole)
+        ∙ sym (flat_map-append (λ (m : Message). m.bytes) ms ns);
+    each = All-append IsStreamed ms ns first.0.each next.0.each;
+  },
+  next.1,
+)
 
 -- a refusal at one more chunk is one over all bytes
 pub one_more_refused : (mode : Mode) → (bytes chunk : List ℕ) (ms : List Message) (r : List ℕ) (len : ℕ) →

@@ -46,7 +46,7 @@ oversize_more mode bytes chunk ms r len first next =
       ms = ms ++ next.ms;
       rest = next.rest;
       whole = frames_join mode (bytes ++ chunk) (r ++ chunk) back ms next.ms (frames_more mode bytes r chunk ms first.whole) rest
-      ∙ sym (append_assoc (frames_of mode (ms ++ next.ms)) (header mode len) next.rest);
+          ∙ sym (append_assoc (frames_of mode (ms ++ next.ms)) (header mode len) next.rest);
       each = All-append (IsServedPacket mode) ms next.ms first.each next.each;
       large = next.large;
       below = next.below;
@@ -126,8 +126,12 @@ no_oversize mode bytes ms rest len packet split over =
 length-frames : (mode : Mode) (m : Message) (ms : List Message) (rest : List ℕ) →
     length (frames_of mode (m ∷ ms) ++ rest) ≡ header_len mode + length m.bytes + length (frames_of mode ms ++ rest)
 length-frames mode m ms rest =
-    omega (arith, ap length (append_assoc (frame_of mode m.bytes) (frames_of mode ms) rest),
-        length-append (frame_of mode m.bytes) (frames_of mode ms ++ rest), length-frame_of mode m.bytes)
+    omega (
+      arith,
+      ap length (append_assoc (frame_of mode m.bytes) (frames_of mode ms) rest),
+      length-append (frame_of mode m.bytes) (frames_of mode ms ++ rest),
+      length-frame_of mode m.bytes,
+    )
 
 -- the first frame ends where the message's frame does
 frame_end-frame : (mode : Mode) (m more : List ℕ) → 0 < header_len mode → length m < header_limit mode →
@@ -183,12 +187,13 @@ packets_is mode (suc most) (m ∷ ms) rest packet each part enough =
     ap (λ n. drop n bytes) ends ∙ ap (drop (length frame)) begins ∙ drop_at frame back (length frame) refl in
     let content : slice_range bytes (header_len mode) (frame_end mode bytes) ≡ m.bytes =
     frame_content mode m.bytes back bytes begins ends in
-    let others = packets_is mode most ms rest packet (All-tail (IsPacket mode) m ms each) part (omega (arith, length-frames mode m ms rest)) in
-    (cond-true (leb (frame_end mode bytes) (length bytes)) _ _ whole
-    ∙ ap (λ c. message Plain c ∷ packets_within most mode (drop (frame_end mode bytes) bytes)) content
-    ∙ ap (λ (f : Flag). message f m.bytes ∷ packets_within most mode (drop (frame_end mode bytes) bytes)) (sym here.0)
-    ∙ ap (λ xs. m ∷ packets_within most mode xs) next ∙ ap (λ xs. m ∷ xs) others.0,
-    cond-true (leb (frame_end mode bytes) (length bytes)) _ _ whole ∙ ap (rest_within most mode) next ∙ others.1)
+    let others = packets_is mode most ms rest packet (All-tail (IsPacket mode) m ms each) part (omega (arith, length-frames mode m ms rest)) in (
+      cond-true (leb (frame_end mode bytes) (length bytes)) _ _ whole
+          ∙ ap (λ c. message Plain c ∷ packets_within most mode (drop (frame_end mode bytes) bytes)) content
+          ∙ ap (λ (f : Flag). message f m.bytes ∷ packets_within most mode (drop (frame_end mode bytes) bytes)) (sym here.0)
+          ∙ ap (λ xs. m ∷ packets_within most mode xs) next ∙ ap (λ xs. m ∷ xs) others.0,
+      cond-true (leb (frame_end mode bytes) (length bytes)) _ _ whole ∙ ap (rest_within most mode) next ∙ others.1,
+    )
 
 pub packet_messages_is : (mode : Mode) (bytes : List ℕ) (ms : List Message) (rest : List ℕ) → 0 < header_len mode →
     PacketsSplit mode bytes ms rest → (packet_messages mode bytes ≡ ms) × (packet_rest mode bytes ≡ rest)
@@ -205,6 +210,7 @@ one_packets mode bytes ms ns packet first second =
   where
     same_message : (m n : Message) → m.flag ≡ n.flag → m.bytes ≡ n.bytes → m ≡ n
     same_message m n flags bytes' = ap (λ (f : Flag). message f m.bytes) flags ∙ ap (message n.flag) bytes'
+
     same : (mode : Mode) (ms ns : List Message) (r s : List ℕ) → 0 < header_len mode → All (IsPacket mode) ms → All (IsPacket mode) ns →
         HasNoFrame mode r → HasNoFrame mode s → frames_of mode ms ++ r ≡ frames_of mode ns ++ s → ms ≡ ns
     same mode [] [] r s packet each each' none none' is = refl

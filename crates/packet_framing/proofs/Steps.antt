@@ -10,7 +10,9 @@ use Rattle.packet_framing.specs.declared.message.Message.{Message}
 use Rattle.packet_framing.specs.Frames.{header_len, header_limit, header, frame_of}
 use Rattle.packet_framing.specs.Lines.{message, line_messages, line_rest}
 use Rattle.packet_framing.specs.Packets.{frames_of}
-use Rattle.packet_framing.specs.Reading.{FoundPacket, IsLargeHeader}
+use Rattle.packet_framing.specs.declared.fault.UnframeFault.{UnframeFault}
+use Rattle.packet_framing.specs.declared.fault.UnframeFault.TheVariants.{Oversize, NoMemory}
+use Rattle.packet_framing.specs.Reading.{FoundPacket, IsLargeHeader, PacketFails, ReadsOversize}
 use Rattle.packet_framing.specs.Unframed.{IsServedPacket, IsOpenLine, IsPart, PacketsSplit, IsOversize}
 use Rattle.packet_framing.proofs.Headers.{length-frame_of}
 use Rattle.packet_framing.proofs.LineRuns.{told_after, left_after, told-end, told-on, told-full, left-end, left-on, left-full, line_messages-append, line_rest-append, rest_open, open_messages, open_rest}
@@ -69,9 +71,9 @@ step_end limit bytes at from ms ns m some there reads is flag content pushed =
     let rest : List ℕ = line_rest limit (take at bytes) in
     record {
       told = pushed ∙ ap (λ xs. xs ++ m ∷ []) reads.told
-      ∙ ap (λ (x : Message). line_messages limit (take at bytes) ++ x ∷ []) (message_is m Eol rest flag (content ∙ reads.left))
-      ∙ ap (λ xs. line_messages limit (take at bytes) ++ xs) (sym (told-end limit rest (get_or bytes at 0) [] is))
-      ∙ sym (more_told limit bytes at some there);
+          ∙ ap (λ (x : Message). line_messages limit (take at bytes) ++ x ∷ []) (message_is m Eol rest flag (content ∙ reads.left))
+          ∙ ap (λ xs. line_messages limit (take at bytes) ++ xs) (sym (told-end limit rest (get_or bytes at 0) [] is))
+          ∙ sym (more_told limit bytes at some there);
       left = range_none bytes (at + 1) ∙ sym (left-end limit rest (get_or bytes at 0) [] is) ∙ sym (more_left limit bytes at some there);
       within = omega arith;
     }
@@ -85,11 +87,11 @@ step_full limit bytes at from ms ns m some there reads not whole flag content pu
     let full : limit ≤ length rest = omega (arith, ap length reads.left, length-range bytes from at reads.within (omega arith)) in
     record {
       told = pushed ∙ ap (λ xs. xs ++ m ∷ []) reads.told
-      ∙ ap (λ (x : Message). line_messages limit (take at bytes) ++ x ∷ []) (message_is m Noeol rest flag (content ∙ reads.left))
-      ∙ ap (λ xs. line_messages limit (take at bytes) ++ xs) (sym (told-full limit rest (get_or bytes at 0) [] not full))
-      ∙ sym (more_told limit bytes at some there);
+          ∙ ap (λ (x : Message). line_messages limit (take at bytes) ++ x ∷ []) (message_is m Noeol rest flag (content ∙ reads.left))
+          ∙ ap (λ xs. line_messages limit (take at bytes) ++ xs) (sym (told-full limit rest (get_or bytes at 0) [] not full))
+          ∙ sym (more_told limit bytes at some there);
       left = range_one bytes at there ∙ sym (left-full limit rest (get_or bytes at 0) [] not full)
-      ∙ sym (more_left limit bytes at some there);
+          ∙ sym (more_left limit bytes at some there);
       within = omega arith;
     }
 
@@ -103,10 +105,10 @@ step_on limit bytes at from ms some there reads not part =
     let room : length rest < limit = omega (arith, size, fits, part) in
     record {
       told = reads.told ∙ sym (append-nil (line_messages limit (take at bytes)))
-      ∙ ap (λ xs. line_messages limit (take at bytes) ++ xs) (sym (told-on limit rest (get_or bytes at 0) [] not room))
-      ∙ sym (more_told limit bytes at some there);
+          ∙ ap (λ xs. line_messages limit (take at bytes) ++ xs) (sym (told-on limit rest (get_or bytes at 0) [] not room))
+          ∙ sym (more_told limit bytes at some there);
       left = range_more bytes from at reads.within there ∙ ap (λ xs. xs ++ get_or bytes at 0 ∷ []) reads.left
-      ∙ sym (left-on limit rest (get_or bytes at 0) [] not room) ∙ sym (more_left limit bytes at some there);
+          ∙ sym (left-on limit rest (get_or bytes at 0) [] not room) ∙ sym (more_left limit bytes at some there);
       within = omega (arith, reads.within);
     }
 
@@ -136,9 +138,9 @@ found_packet mode bytes at start end len m told below served starts ends within 
     record {
       more = drop len (drop start bytes);
       whole = sym (take-append-drop (header_len mode) (drop at bytes))
-      ∙ ap (λ h. h ++ drop (header_len mode) (drop at bytes)) (told ∙ ap (header mode) (sym size))
-      ∙ ap (λ xs. header mode (length m.bytes) ++ xs) after
-      ∙ sym (append_assoc (header mode (length m.bytes)) m.bytes (drop len (drop start bytes)));
+          ∙ ap (λ h. h ++ drop (header_len mode) (drop at bytes)) (told ∙ ap (header mode) (sym size))
+          ∙ ap (λ xs. header mode (length m.bytes) ++ xs) after
+          ∙ sym (append_assoc (header mode (length m.bytes)) m.bytes (drop len (drop start bytes)));
       served = ((flag, omega (arith, size, below)), omega (arith, size, served));
     }
 
@@ -171,9 +173,9 @@ frames_to_more mode bytes at next ms ns m frames found is pushed =
     found.whole ∙ ap (λ xs. frame ++ xs) more ∙ ap (λ xs. xs ++ drop next bytes) (sym (append-nil frame)) in
     record {
       whole = frames_join mode bytes (drop at bytes) (drop next bytes) ms (m ∷ []) frames.whole here
-      ∙ ap (λ (xs : List Message). frames_of mode xs ++ drop next bytes) (sym pushed);
+          ∙ ap (λ (xs : List Message). frames_of mode xs ++ drop next bytes) (sym pushed);
       each = let P : List Message → Type 0 = All (IsServedPacket mode) in
-      subst P (sym pushed) (All-push (IsServedPacket mode) ms m frames.each found.served);
+          subst P (sym pushed) (All-push (IsServedPacket mode) ms m frames.each found.served);
       within = omega (arith, frames.within, ap length found.whole, length-append frame found.more, length-drop at bytes);
     }
 
@@ -188,3 +190,8 @@ frames_oversize mode bytes at len ms frames large =
       large = large.large;
       below = large.below;
     }
+
+pub read_fails : (mode : Mode) (bytes : List ℕ) (at : ℕ) (ms : List Message) (fault : UnframeFault) → FramesTo mode bytes at ms →
+    PacketFails mode (drop at bytes) fault → ReadsOversize mode bytes fault
+read_fails mode bytes at ms (Oversize len) frames large = frames_oversize mode bytes at len ms frames large
+read_fails mode bytes at ms NoMemory frames large = tt
