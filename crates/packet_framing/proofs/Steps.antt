@@ -12,7 +12,7 @@ use Rattle.packet_framing.specs.Lines.{message, line_messages, line_rest}
 use Rattle.packet_framing.specs.Packets.{frames_of}
 use Rattle.packet_framing.specs.declared.fault.UnframeFault.{UnframeFault}
 use Rattle.packet_framing.specs.declared.fault.UnframeFault.TheVariants.{Oversize, NoMemory}
-use Rattle.packet_framing.specs.Reading.{FoundPacket, IsLargeHeader, PacketFails, ReadsOversize}
+use Rattle.packet_framing.specs.Reading.{FoundPacket, IsLargeHeader, PacketFails, ReadsOversize, ReadsTo}
 use Rattle.packet_framing.specs.Unframed.{IsServedPacket, IsOpenLine, IsPart, PacketsSplit, IsOversize}
 use Rattle.packet_framing.proofs.Headers.{length-frame_of}
 use Rattle.packet_framing.proofs.LineRuns.{told_after, left_after, told-end, told-on, told-full, left-end, left-on, left-full, line_messages-append, line_rest-append, rest_open, open_messages, open_rest}
@@ -20,12 +20,6 @@ use Rattle.packet_framing.proofs.PacketRuns.{frames_join}
 
 message_is : (m : Message) (flag : Flag) (bytes : List ℕ) → m.flag ≡ flag → m.bytes ≡ bytes → m ≡ message flag bytes
 message_is m flag bytes flags contents = ap (λ (f : Flag). message f m.bytes) flags ∙ ap (message flag) contents
-
--- the bytes before place `at` of all bytes are told as these messages, and the rest begins at place `from`
-pub record ReadsTo (limit : ℕ) (bytes : List ℕ) (at from : ℕ) (ms : List Message) : Type 0 where
-  pub told : ms ≡ line_messages limit (take at bytes)
-  pub left : slice_range bytes from at ≡ line_rest limit (take at bytes)
-  pub within : from ≤ at
 
 length-range : (bytes : List ℕ) (from at : ℕ) → from ≤ at → at ≤ length bytes → length (slice_range bytes from at) ≡ at - from
 length-range bytes from at ordered within =

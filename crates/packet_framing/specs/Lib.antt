@@ -1,6 +1,7 @@
 pub mod Frames
+pub mod Joined
 pub mod Lines
-pub mod Packets
 pub mod Messages
-pub mod Unframed
+pub mod Packets
 pub mod Reading
+pub mod Unframed

@@ -1,11 +1,18 @@
 -- What the steps of an unframer find.
-use Rattle.std.specs.Prelude.{◌≡◌, ◌<◌, ◌++◌, ℕ, List}
+use Rattle.std.specs.Prelude.{◌≡◌, ◌<◌, ◌≤◌, ◌++◌, ℕ, List, take, slice_range}
 use Rattle.packet_framing.specs.declared.mode.Mode.{Mode}
 use Rattle.packet_framing.specs.declared.message.Message.{Message}
 use Rattle.packet_framing.specs.declared.fault.UnframeFault.{UnframeFault}
 use Rattle.packet_framing.specs.declared.fault.UnframeFault.TheVariants.{Oversize, NoMemory}
 use Rattle.packet_framing.specs.Frames.{header_limit, header, frame_of}
+use Rattle.packet_framing.specs.Lines.{line_messages, line_rest}
 use Rattle.packet_framing.specs.Unframed.{IsServedPacket, IsOversize, HasOversize}
+
+-- the bytes before place `at` are told as these lines' pieces, and the rest begins at place `from`
+pub record ReadsTo (limit : ℕ) (bytes : List ℕ) (at from : ℕ) (ms : List Message) : Type 0 where
+  pub told : ms ≡ line_messages limit (take at bytes)
+  pub left : slice_range bytes from at ≡ line_rest limit (take at bytes)
+  pub within : from ≤ at
 
 -- the bytes begin with the frame of this message, which is served
 pub record FoundPacket (mode : Mode) (bytes : List ℕ) (m : Message) : Type 0 where

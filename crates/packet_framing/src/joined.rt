@@ -1,4 +1,5 @@
-ghost use Rattle.std.specs.Prelude.{◌≡◌, ◌+◌, ◌<◌, ◌≤◌, ◌++◌, length, slice_index, slice_range, IfOk};
+ghost use Rattle.std.specs.Prelude.{◌≡◌, ◌<◌, ◌≤◌, length, slice_index, slice_range, IfOk};
+ghost use Rattle.packet_framing.specs.Joined.{bytes_of};
 
 use crate::{Flag, Message};
 use io_vector::{NoMemory, Piece};
@@ -14,14 +15,14 @@ pub(crate) struct Joined<'a> {
 
 impl Joined<'_> {
     pub(crate) fn len(&self) -> usize
-        ensures { result ≡ length (self.now.held.now ++ self.now.chunk.now) }
+        ensures { result ≡ length (bytes_of self.now) }
     {
         self.held.len() + self.chunk.len()
     }
 
     pub(crate) fn byte(&self, at: usize) -> u8
-        requires { at < length (self.now.held.now ++ self.now.chunk.now) }
-        ensures value { result ≡ slice_index (self.now.held.now ++ self.now.chunk.now) at }
+        requires { at < length (bytes_of self.now) }
+        ensures value { result ≡ slice_index (bytes_of self.now) at }
         ensures bound { result < 256 }
     {
         if at < self.held.len() {
@@ -33,8 +34,8 @@ impl Joined<'_> {
     /// A copy of the bytes from place `start` to before place `end`.
     pub(crate) fn copy(&self, alloc: Global, start: usize, end: usize) -> Result<Vec<u8>, NoMemory>
         requires ordered { start ≤ end }
-        requires within { end ≤ length (self.now.held.now ++ self.now.chunk.now) }
-        ensures { IfOk result (λ bytes. bytes.items ≡ slice_range (self.now.held.now ++ self.now.chunk.now) start end) }
+        requires within { end ≤ length (bytes_of self.now) }
+        ensures { IfOk result (λ bytes. bytes.items ≡ slice_range (bytes_of self.now) start end) }
     {
         let held_start = start.min(self.held.len());
         let held_end = end.min(self.held.len());
@@ -53,9 +54,9 @@ impl Joined<'_> {
         end: usize,
     ) -> Result<Message, NoMemory>
         requires ordered { start ≤ end }
-        requires within { end ≤ length (self.now.held.now ++ self.now.chunk.now) }
+        requires within { end ≤ length (bytes_of self.now) }
         ensures flag { IfOk result (λ m. m.flag ≡ flag) }
-        ensures bytes { IfOk result (λ m. m.bytes ≡ slice_range (self.now.held.now ++ self.now.chunk.now) start end) }
+        ensures bytes { IfOk result (λ m. m.bytes ≡ slice_range (bytes_of self.now) start end) }
     {
         Ok(Message {
             flag,

@@ -1,5 +1,7 @@
-ghost use Rattle.std.specs.Prelude.{◌≡◌, ◌+◌, ◌<◌, ◌≤◌, ◌++◌, [], length, take, drop, slice_range, IfOk, OnOk};
+ghost use Rattle.std.specs.Prelude.{◌≡◌, ◌+◌, ◌<◌, ◌≤◌, length, drop, IfOk, OnOk};
+ghost use Rattle.packet_framing.specs.Joined.{bytes_of};
 ghost use Rattle.packet_framing.specs.Lines.{line_messages, line_rest};
+ghost use Rattle.packet_framing.specs.Reading.{ReadsTo};
 ghost use Rattle.packet_framing.specs.Unframed.{IsOpenLine};
 
 use crate::Flag;
@@ -14,9 +16,9 @@ const LINE_END: u8 = 10;
 pub(crate) fn read_lines(alloc: Global, limit: u32, joined: &Joined) -> Result<Reading, NoMemory>
     requires some { 0 < limit }
     requires open { IsOpenLine limit joined.now.held.now }
-    ensures messages { IfOk result (λ r. r.messages.items ≡ line_messages limit (joined.now.held.now ++ joined.now.chunk.now)) }
-    ensures rest { IfOk result (λ r. drop r.rest (joined.now.held.now ++ joined.now.chunk.now) ≡ line_rest limit (joined.now.held.now ++ joined.now.chunk.now)) }
-    ensures within { IfOk result (λ r. r.rest ≤ length (joined.now.held.now ++ joined.now.chunk.now)) }
+    ensures messages { IfOk result (λ r. r.messages.items ≡ line_messages limit (bytes_of joined.now)) }
+    ensures rest { IfOk result (λ r. drop r.rest (bytes_of joined.now) ≡ line_rest limit (bytes_of joined.now)) }
+    ensures within { IfOk result (λ r. r.rest ≤ length (bytes_of joined.now)) }
 {
     let mut reading = Reading {
         messages: Vec::new(alloc),
@@ -38,13 +40,9 @@ fn look(
     reading: &mut Reading,
 ) -> Result<(), NoMemory>
     requires some { 0 < limit }
-    requires there { at < length (joined.now.held.now ++ joined.now.chunk.now) }
-    requires messages { reading.old.messages.items ≡ line_messages limit (take at (joined.now.held.now ++ joined.now.chunk.now)) }
-    requires rest { slice_range (joined.now.held.now ++ joined.now.chunk.now) reading.old.rest at ≡ line_rest limit (take at (joined.now.held.now ++ joined.now.chunk.now)) }
-    requires within { reading.old.rest ≤ at }
-    ensures messages { OnOk result (reading.new.messages.items ≡ line_messages limit (take (at + 1) (joined.now.held.now ++ joined.now.chunk.now))) }
-    ensures rest { OnOk result (slice_range (joined.now.held.now ++ joined.now.chunk.now) reading.new.rest (at + 1) ≡ line_rest limit (take (at + 1) (joined.now.held.now ++ joined.now.chunk.now))) }
-    ensures within { OnOk result (reading.new.rest ≤ at + 1) }
+    requires there { at < length (bytes_of joined.now) }
+    requires read { ReadsTo limit (bytes_of joined.now) at reading.old.rest reading.old.messages.items }
+    ensures { OnOk result (ReadsTo limit (bytes_of joined.now) (at + 1) reading.new.rest reading.new.messages.items) }
 {
     if joined.byte(at) == LINE_END {
         let line = joined.message(alloc, Flag::Eol, reading.rest, at)?;

@@ -1,6 +1,7 @@
-ghost use Rattle.std.specs.Prelude.{◌≡◌, ◌+◌, ◌<◌, ◌≤◌, ◌++◌, [], length, take, drop, IfOk, IfErr, IfSome, IfNone};
-ghost use Rattle.packet_framing.specs.Frames.{header_len, header_limit, header, frame_of};
-ghost use Rattle.packet_framing.specs.Unframed.{IsServedPacket, IsPart, PacketsSplit};
+ghost use Rattle.std.specs.Prelude.{◌≡◌, ◌+◌, ◌<◌, ◌≤◌, length, take, drop, IfOk, IfErr, IfSome, IfNone};
+ghost use Rattle.packet_framing.specs.Frames.{header_len, header_limit, header};
+ghost use Rattle.packet_framing.specs.Joined.{bytes_of};
+ghost use Rattle.packet_framing.specs.Unframed.{IsPart, PacketsSplit};
 ghost use Rattle.packet_framing.specs.Reading.{FoundPacket, PacketFails, ReadsOversize};
 
 use crate::joined::Joined;
@@ -16,9 +17,9 @@ pub(crate) fn read_packets(
     joined: &Joined,
 ) -> Result<Reading, UnframeFault>
     requires { 0 < header_len mode }
-    ensures split { IfOk result (λ r. PacketsSplit mode (joined.now.held.now ++ joined.now.chunk.now) r.messages.items (drop r.rest (joined.now.held.now ++ joined.now.chunk.now))) }
-    ensures within { IfOk result (λ r. r.rest ≤ length (joined.now.held.now ++ joined.now.chunk.now)) }
-    ensures fault { IfErr result (ReadsOversize mode (joined.now.held.now ++ joined.now.chunk.now)) }
+    ensures split { IfOk result (λ r. PacketsSplit mode (bytes_of joined.now) r.messages.items (drop r.rest (bytes_of joined.now))) }
+    ensures within { IfOk result (λ r. r.rest ≤ length (bytes_of joined.now)) }
+    ensures fault { IfErr result (ReadsOversize mode (bytes_of joined.now)) }
 {
     let mut reading = Reading {
         messages: Vec::new(alloc),
@@ -40,10 +41,10 @@ fn first_packet(
     at: usize,
 ) -> Result<Option<Message>, UnframeFault>
     requires packet { 0 < header_len mode }
-    requires within { at ≤ length (joined.now.held.now ++ joined.now.chunk.now) }
-    ensures found { IfOk result (λ found. IfSome found (FoundPacket mode (drop at (joined.now.held.now ++ joined.now.chunk.now)))) }
-    ensures none { IfOk result (λ found. IfNone found (IsPart mode (drop at (joined.now.held.now ++ joined.now.chunk.now)))) }
-    ensures fault { IfErr result (PacketFails mode (drop at (joined.now.held.now ++ joined.now.chunk.now))) }
+    requires within { at ≤ length (bytes_of joined.now) }
+    ensures found { IfOk result (λ found. IfSome found (FoundPacket mode (drop at (bytes_of joined.now)))) }
+    ensures none { IfOk result (λ found. IfNone found (IsPart mode (drop at (bytes_of joined.now)))) }
+    ensures fault { IfErr result (PacketFails mode (drop at (bytes_of joined.now))) }
 {
     let left = joined.len() - at;
     if left < mode.header_len() {
@@ -63,8 +64,8 @@ fn first_packet(
 
 /// The length that the header at a place tells.
 fn told_len(mode: Mode, joined: &Joined, at: usize) -> u32
-    requires { at + header_len mode ≤ length (joined.now.held.now ++ joined.now.chunk.now) }
-    ensures value { take (header_len mode) (drop at (joined.now.held.now ++ joined.now.chunk.now)) ≡ header mode result }
+    requires { at + header_len mode ≤ length (bytes_of joined.now) }
+    ensures value { take (header_len mode) (drop at (bytes_of joined.now)) ≡ header mode result }
     ensures below { result < header_limit mode }
 {
     match mode {

@@ -1,5 +1,6 @@
-ghost use Rattle.std.specs.Prelude.{◌≡◌, ◌≤◌, ◌++◌, ℕ, [], length, drop, true, Some, None, IfOk, IfErr, OnOk, OnErr};
+ghost use Rattle.std.specs.Prelude.{◌≡◌, ◌≤◌, ◌++◌, ℕ, [], length, drop, true, IfOk, IfErr, OnOk, OnErr};
 ghost use Rattle.std.specs.List.{concat};
+ghost use Rattle.packet_framing.specs.Joined.{bytes_of};
 ghost use Rattle.packet_framing.specs.Messages.{IsServed, IsMessages, StreamMessages, last_message, rest_of};
 ghost use Rattle.packet_framing.specs.Reading.{ReadFails};
 ghost use Rattle.packet_framing.specs.Unframed.{Unframes, HasOversize, IsHeld, FeedFails, EndFails, RunFails, fresh};
@@ -116,9 +117,9 @@ impl Unframer {
 fn read(alloc: Global, mode: Mode, joined: &Joined) -> Result<Reading, UnframeFault>
     requires served { IsServed mode }
     requires held { IsHeld mode joined.now.held.now }
-    ensures messages { IfOk result (λ r. Unframes mode (joined.now.held.now ++ joined.now.chunk.now) r.messages.items (drop r.rest (joined.now.held.now ++ joined.now.chunk.now))) }
-    ensures within { IfOk result (λ r. r.rest ≤ length (joined.now.held.now ++ joined.now.chunk.now)) }
-    ensures fault { IfErr result (ReadFails mode (joined.now.held.now ++ joined.now.chunk.now)) }
+    ensures messages { IfOk result (λ r. Unframes mode (bytes_of joined.now) r.messages.items (drop r.rest (bytes_of joined.now))) }
+    ensures within { IfOk result (λ r. r.rest ≤ length (bytes_of joined.now)) }
+    ensures fault { IfErr result (ReadFails mode (bytes_of joined.now)) }
 {
     match mode {
         Mode::Line(limit) => Ok(read_lines(alloc, limit, joined)?),
@@ -129,8 +130,8 @@ fn read(alloc: Global, mode: Mode, joined: &Joined) -> Result<Reading, UnframeFa
 
 fn read_stream(alloc: Global, joined: &Joined) -> Result<Reading, NoMemory>
     requires { joined.now.held.now ≡ [] }
-    ensures messages { IfOk result (λ r. StreamMessages (joined.now.held.now ++ joined.now.chunk.now) r.messages.items) }
-    ensures rest { IfOk result (λ r. r.rest ≡ length (joined.now.held.now ++ joined.now.chunk.now)) }
+    ensures messages { IfOk result (λ r. StreamMessages (bytes_of joined.now) r.messages.items) }
+    ensures rest { IfOk result (λ r. r.rest ≡ length (bytes_of joined.now)) }
 {
     let mut messages = Vec::new(alloc);
     if !joined.chunk.is_empty() {

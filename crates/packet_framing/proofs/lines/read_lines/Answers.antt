@@ -1,6 +1,7 @@
 use Rattle.std.proofs.Common.{◌++◌, List, length, sym, subst}
 use Rattle.packet_framing.specs.declared.message.Message.{Message}
-use Rattle.packet_framing.proofs.Steps.{ReadsTo, reads_held}
+use Rattle.packet_framing.specs.Reading.{ReadsTo}
+use Rattle.packet_framing.proofs.Steps.{reads_held}
 use Rattle.packet_framing.proofs.lines.read_lines.Goals as goal
 
 pub loop-at-init : goal.loop-at-init

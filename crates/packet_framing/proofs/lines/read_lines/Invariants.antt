@@ -1,5 +1,5 @@
 use Rattle.std.proofs.Common.{◌++◌}
-use Rattle.packet_framing.proofs.Steps.{ReadsTo}
+use Rattle.packet_framing.specs.Reading.{ReadsTo}
 use Rattle.packet_framing.proofs.lines.read_lines.Given as goal
 
 abbrev pub invariant-loop-at : goal.invariant-loop-at
