@@ -5,15 +5,16 @@
 
 use anyhow::{Context, Result, bail, ensure};
 use io_vector::{IoVec, Piece};
-use packet_framing::{Flag, Message, Mode, Unframer, frame};
+use packet_framing::{Mode, Unframer, frame};
 use std::alloc::Global;
 use std::env;
-use std::rt::Clock;
-use std::time::{Duration, Instant};
+use std::time::{CpuClock, Duration};
 
-const ROUNDS: u32 = 5;
+const ROUNDS: u32 = 9;
 
 const LARGE_CHUNK: usize = 65_536;
+
+const SHORT_TEXT: usize = 1024;
 
 const FEW_BYTES: u32 = 1000;
 
@@ -94,69 +95,38 @@ fn feed_all(alloc: Global, mode: Mode, text: &[u8], chunk_len: usize) -> Result<
     Ok(messages.saturating_add(unframer.end()?.len()))
 }
 
-/// Makes as many calls with no bytes. In stream mode each makes the message that a call would tell.
-fn call_only(alloc: Global, mode: Mode, calls: usize) -> Result<()> {
-    if !mode.is_served() {
-        bail!("no such mode");
+/// Prints how long the text takes in large chunks and byte by byte, and how long as many calls take
+/// that hold few bytes: they are made over the start of the text, each time with a new unframer.
+fn print_times<R: CpuClock + AllocGlobal + Print>(rt: &R, mode: Mode, text: &[u8]) -> Result<()> {
+    let start = &text[..text.len().min(SHORT_TEXT)];
+    let mut large = Duration::MAX;
+    let mut single = Duration::MAX;
+    let mut calls = Duration::MAX;
+    for _ in 0..ROUNDS {
+        large = large.min(time_of(rt, mode, text, LARGE_CHUNK, 1)?);
+        single = single.min(time_of(rt, mode, text, 1, 1)?);
+        calls = calls.min(time_of(rt, mode, start, 1, text.len() / SHORT_TEXT)?);
     }
-    let mut unframer = Unframer::new(alloc, mode);
-    let _first = unframer.feed(b"\x00")?;
-    for _ in 0..calls {
-        let mut told = unframer.feed(b"")?;
-        if mode == Mode::Stream {
-            told.push(message(alloc)?)?;
-        }
-    }
-    Ok(())
-}
-
-/// A message of one byte.
-fn message(alloc: Global) -> Result<Message> {
-    let Ok(bytes) = Piece::of_vec(b"a".to_vec(alloc)?) else {
-        bail!("no memory");
-    };
-    Ok(Message {
-        flag: Flag::Plain,
-        bytes,
-    })
-}
-
-fn print_times<R: Clock + AllocGlobal + Print>(rt: &R, mode: Mode, text: &[u8]) -> Result<()> {
-    let large = best_time(rt, mode, text, LARGE_CHUNK)?.as_micros();
-    let one = best_time(rt, mode, text, 1)?.as_micros();
-    let calls = best_call_time(rt, mode, text.len())?.as_micros();
-    let bytes_alone = one.saturating_sub(calls);
+    let (large, single, calls) = (large.as_micros(), single.as_micros(), calls.as_micros());
     ensure!(large > 0, "too few bytes");
+    let percent = single.saturating_sub(calls).saturating_mul(100) / large;
     println!(rt;
-        "{mode:?}: large chunks {large} us, one-byte chunks {one} us, of which the calls alone {calls} us: {} percent",
-        bytes_alone.saturating_mul(100) / large
+        "{mode:?}: large chunks {large} us, byte by byte {single} us, the calls alone {calls} us, the rest {percent} percent of the large chunks"
     )?;
     Ok(())
 }
 
-/// The shortest time of some rounds to feed the text.
-fn best_time<R: Clock + AllocGlobal>(
+/// The processor time to feed a text so often.
+fn time_of<R: CpuClock + AllocGlobal>(
     rt: &R,
     mode: Mode,
     text: &[u8],
     chunk_len: usize,
+    times: usize,
 ) -> Result<Duration> {
-    let mut best = Duration::MAX;
-    for _ in 0..ROUNDS {
-        let start = Instant::now(rt)?;
+    let start = rt.thread_cpu_time()?;
+    for _ in 0..times {
         feed_all(rt.alloc(), mode, text, chunk_len)?;
-        best = best.min(start.elapsed(rt)?);
     }
-    Ok(best)
-}
-
-/// The shortest time of some rounds to make the calls alone.
-fn best_call_time<R: Clock + AllocGlobal>(rt: &R, mode: Mode, calls: usize) -> Result<Duration> {
-    let mut best = Duration::MAX;
-    for _ in 0..ROUNDS {
-        let start = Instant::now(rt)?;
-        call_only(rt.alloc(), mode, calls)?;
-        best = best.min(start.elapsed(rt)?);
-    }
-    Ok(best)
+    Ok(rt.thread_cpu_time()?.saturating_sub(start))
 }
