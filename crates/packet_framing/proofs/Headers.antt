@@ -1,12 +1,12 @@
 -- Headers and frames: which length a header tells, and that a frame is one frame only.
-use Rattle.std.proofs.Common.{◌≡◌, ◌+◌, ◌-◌, ◌<◌, ◌≤◌, ◌^◌, ℕ, zero, suc, List, [], ◌∷◌, ◌++◌, length, take, drop, get_or, refl, sym, ◌∙◌, ap, arith, append_assoc, length-append}
+use Rattle.std.proofs.Common.{◌≡◌, ◌+◌, ◌<◌, ◌≤◌, ℕ, zero, suc, List, [], ◌∷◌, ◌++◌, length, take, drop, get_or, refl, sym, ◌∙◌, ap, arith, append_assoc, length-append}
 use Rattle.std.specs.Int.{w16, w32, to_be_bytes, from_be_bytes}
 use Rattle.std.proofs.lemmas.List.{take_at, drop_at, drop_more}
 use Rattle.std.proofs.lemmas.Nat.{from_be_bytes-to_be_bytes_2, from_be_bytes-to_be_bytes_4, be_bytes_4}
 use Rattle.packet_framing.specs.declared.mode.Mode.{Mode}
 use Rattle.packet_framing.specs.declared.mode.Mode.TheVariants.{Packet1, Packet2, Packet4, Line, Stream}
 use Rattle.packet_framing.specs.Frames.{header_len, header_limit, header, frame_of}
-use Rattle.packet_framing.specs.Packets.{told_len, frame_end}
+use Rattle.packet_framing.specs.Packets.{told_len}
 
 pub length-header : (mode : Mode) (n : ℕ) → length (header mode n) ≡ header_len mode
 length-header Packet1 n = refl

@@ -1,6 +1,6 @@
 -- The laws by which a caller that feeds an unframer chunk after chunk keeps what was told of all bytes so far. Its invariant is
 -- `Unframes mode bytes ms held`: bytes are all that were fed, ms all messages that were told, held what the unframer holds.
-use Rattle.std.proofs.Common.{◌≡◌, ◌+◌, ◌<◌, ◌≤◌, ℕ, Bool, true, false, List, [], ◌∷◌, ◌++◌, length, All, refl, sym, ◌∙◌, ap, inl, arith}
+use Rattle.std.proofs.Common.{◌≡◌, ℕ, Bool, true, false, List, [], ◌++◌, refl, sym, ◌∙◌, ap, inl, arith}
 use Rattle.std.specs.List.{flat_map}
 use Rattle.std.proofs.lemmas.List.{append-nil}
 use Rattle.std.proofs.lemmas.List.Concat.{flat_map-append}
@@ -9,7 +9,7 @@ use Rattle.packet_framing.specs.declared.mode.Mode.{Mode}
 use Rattle.packet_framing.specs.declared.mode.Mode.TheVariants.{Packet1, Packet2, Packet4, Line, Stream}
 use Rattle.packet_framing.specs.declared.message.Message.{Message}
 use Rattle.packet_framing.specs.Lines.{line_messages, line_rest}
-use Rattle.packet_framing.specs.Messages.{IsServed, IsFixed, IsStreamed, StreamMessages, IsMessages, messages_of, rest_of, last_message}
+use Rattle.packet_framing.specs.Messages.{IsServed, IsFixed, IsStreamed, IsMessages, messages_of, rest_of, last_message}
 use Rattle.packet_framing.specs.Unframed.{Unframes, HasOversize, IsHeld}
 use Rattle.packet_framing.proofs.LineRuns.{line_messages_more, line_rest_more, rest_open}
 use Rattle.packet_framing.proofs.PacketRuns.{packets_more, oversize_more, oversize_stays, packets_told, packet_messages_is, no_oversize, one_packets}

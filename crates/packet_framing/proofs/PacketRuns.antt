@@ -1,11 +1,10 @@
 -- The messages of packets: one more chunk, what the definitions over all bytes say, and that there is one reading only.
-use Rattle.std.proofs.Common.{◌≡◌, ◌+◌, ◌-◌, ◌<◌, ◌≤◌, ◌⊎◌, nat_le, if◌then◌else◌, ℕ, zero, suc, List, [], ◌∷◌, ◌++◌, length, take, drop, All, refl, sym, ◌∙◌, ap, subst, inl, inr, arith, append_assoc, length-append, leb, false, true}
+use Rattle.std.proofs.Common.{◌≡◌, ◌+◌, ◌-◌, ◌<◌, ◌≤◌, ℕ, zero, suc, List, [], ◌∷◌, ◌++◌, length, take, drop, All, refl, sym, ◌∙◌, ap, inl, inr, arith, append_assoc, length-append, leb, false, true}
 use Rattle.std.specs.Prelude.{slice_range}
-use Rattle.std.specs.List.{flat_map}
 use Rattle.std.proofs.lemmas.Bool.{cond-true, cond-false, le-leb, lt-leb, cases_lt}
-use Rattle.std.proofs.lemmas.List.{append-nil, take_at, drop_at, take-append-le, take-append-drop}
+use Rattle.std.proofs.lemmas.List.{take_at, drop_at, take-append-drop}
 use Rattle.std.proofs.lemmas.List.Concat.{flat_map-append}
-use Rattle.std.proofs.lemmas.List.Elements.{All-nil, All-cons, All-head, All-tail, All-append, All-weaker}
+use Rattle.std.proofs.lemmas.List.Elements.{All-head, All-tail, All-append, All-weaker}
 use Rattle.io_vector.specs.declared.flag.Flag.{Flag}
 use Rattle.io_vector.specs.declared.flag.Flag.TheVariants.{Plain}
 use Rattle.packet_framing.specs.declared.mode.Mode.{Mode}
@@ -13,7 +12,7 @@ use Rattle.packet_framing.specs.declared.message.Message.{Message}
 use Rattle.packet_framing.specs.Frames.{header_len, header_limit, header, frame_of}
 use Rattle.packet_framing.specs.Lines.{message}
 use Rattle.packet_framing.specs.Packets.{frames_of, IsPacket, HasNoFrame, PacketMessages, told_len, frame_end, packets_within, rest_within, packet_messages, packet_rest}
-use Rattle.packet_framing.specs.Unframed.{IsServedPacket, IsCutFrame, IsPart, PacketsSplit, IsOversize}
+use Rattle.packet_framing.specs.Unframed.{IsServedPacket, IsPart, PacketsSplit, IsOversize}
 use Rattle.packet_framing.proofs.Headers.{length-header, length-frame_of, take-header, drop-header, told_len-header, one_header, one_len, one_frame}
 
 frames_more : (mode : Mode) (bytes r chunk : List ℕ) (ms : List Message) → bytes ≡ frames_of mode ms ++ r →

@@ -1,5 +1,5 @@
 -- An unframer in the midst of a run of chunks.
-use Rattle.std.proofs.Common.{◌≡◌, ℕ, ◌+◌, ◌<◌, List, [], ◌∷◌, ◌++◌, length, take, drop, get_or, Option, None, refl, sym, ◌∙◌, ap, subst, append_assoc, arith}
+use Rattle.std.proofs.Common.{◌≡◌, ℕ, ◌+◌, ◌<◌, List, [], ◌∷◌, ◌++◌, length, take, drop, get_or, Option, None, sym, ◌∙◌, ap, subst, append_assoc}
 use Rattle.std.specs.List.{concat}
 use Rattle.std.proofs.lemmas.List.{take_more, drop_more, take-append-drop}
 use Rattle.std.proofs.lemmas.List.Folds.{concat-append}
@@ -10,7 +10,7 @@ use Rattle.packet_framing.specs.declared.fault.UnframeFault.{UnframeFault}
 use Rattle.packet_framing.specs.declared.fault.UnframeFault.TheVariants.{Oversize, NoMemory}
 use Rattle.packet_framing.specs.Messages.{IsServed, rest_of}
 use Rattle.packet_framing.specs.Unframed.{Unframed, Unframes, HasOversize, RefusesFor, FeedFails, RunFails}
-use Rattle.packet_framing.proofs.Laws.{one_more, one_more_refused, stays_refused, none_fed}
+use Rattle.packet_framing.proofs.Laws.{one_more, one_more_refused, stays_refused}
 
 -- these chunks were fed, and told as these messages
 pub record IsRunning (mode : Mode) (chunks : List (List ℕ)) (u : Unframed) (ms : List Message) : Type 0 where

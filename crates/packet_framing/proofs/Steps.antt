@@ -1,7 +1,7 @@
 -- One byte of a line, or one frame, more.
 use Rattle.std.proofs.Common.{◌≡◌, ◌≢◌, ◌+◌, ◌-◌, ◌<◌, ◌≤◌, ℕ, List, [], ◌∷◌, ◌++◌, length, take, drop, get_or, All, refl, sym, ◌∙◌, ap, subst, arith, append_assoc, length-append, length-drop}
 use Rattle.std.specs.Prelude.{slice_range}
-use Rattle.std.proofs.lemmas.List.{append-nil, take_at, drop_at, take_all, take_more, drop_more, drop-drop, drop_all, get_or-drop, length-take-le, take-append-drop}
+use Rattle.std.proofs.lemmas.List.{append-nil, take_at, drop_at, take_more, drop_more, drop-drop, get_or-drop, length-take-le, take-append-drop}
 use Rattle.std.proofs.lemmas.List.Elements.{All-push}
 use Rattle.io_vector.specs.declared.flag.Flag.{Flag}
 use Rattle.io_vector.specs.declared.flag.Flag.TheVariants.{Plain, Eol, Noeol}
@@ -13,7 +13,7 @@ use Rattle.packet_framing.specs.Packets.{frames_of}
 use Rattle.packet_framing.specs.declared.fault.UnframeFault.{UnframeFault}
 use Rattle.packet_framing.specs.declared.fault.UnframeFault.TheVariants.{Oversize, NoMemory}
 use Rattle.packet_framing.specs.Reading.{FoundPacket, IsLargeHeader, PacketFails, ReadsOversize, ReadsTo}
-use Rattle.packet_framing.specs.Unframed.{IsServedPacket, IsOpenLine, IsPart, PacketsSplit, IsOversize}
+use Rattle.packet_framing.specs.Unframed.{IsServedPacket, IsOpenLine, IsOversize}
 use Rattle.packet_framing.proofs.Headers.{length-frame_of}
 use Rattle.packet_framing.proofs.LineRuns.{told_after, left_after, told-end, told-on, told-full, left-end, left-on, left-full, line_messages-append, line_rest-append, rest_open, open_messages, open_rest}
 use Rattle.packet_framing.proofs.PacketRuns.{frames_join}

@@ -1,7 +1,6 @@
 -- The messages of bytes in each mode, over all bytes at once.
 use Rattle.std.specs.Prelude.{◌≡◌, ◌<◌, ◌≤◌, ℕ, Bool, if◌then◌else◌, List, [], ◌∷◌, ◌++◌, length, All}
 use Rattle.std.specs.List.{flat_map}
-use Rattle.io_vector.specs.declared.flag.Flag.{Flag}
 use Rattle.io_vector.specs.declared.flag.Flag.TheVariants.{Plain, Noeol}
 use Rattle.packet_framing.specs.declared.mode.Mode.{Mode}
 use Rattle.packet_framing.specs.declared.mode.Mode.TheVariants.{Packet1, Packet2, Packet4, Line, Stream}

@@ -1,13 +1,12 @@
 -- Packets, after the option {packet, N} of open_port, over all bytes at once: whole frames, and a rest.
-use Rattle.std.specs.Prelude.{◌≡◌, ◌<◌, ◌≤◌, ◌⊎◌, ◌+◌, nat_le, if◌then◌else◌, ℕ, zero, suc, List, [], ◌∷◌, ◌++◌, length, take, drop, slice_range, slice_index, All}
+use Rattle.std.specs.Prelude.{◌≡◌, ◌<◌, ◌+◌, nat_le, if◌then◌else◌, ℕ, zero, suc, List, [], ◌∷◌, ◌++◌, length, take, drop, slice_range, slice_index, All}
 use Rattle.std.specs.Int.{w16, w32, from_be_bytes}
 use Rattle.std.specs.List.{flat_map}
-use Rattle.io_vector.specs.declared.flag.Flag.{Flag}
 use Rattle.io_vector.specs.declared.flag.Flag.TheVariants.{Plain}
 use Rattle.packet_framing.specs.declared.mode.Mode.{Mode}
 use Rattle.packet_framing.specs.declared.mode.Mode.TheVariants.{Packet1, Packet2, Packet4, Line, Stream}
 use Rattle.packet_framing.specs.declared.message.Message.{Message}
-use Rattle.packet_framing.specs.Frames.{header_len, header_limit, header, frame_of}
+use Rattle.packet_framing.specs.Frames.{header_len, header_limit, frame_of}
 use Rattle.packet_framing.specs.Lines.{message}
 
 -- the frames of these messages, one after another

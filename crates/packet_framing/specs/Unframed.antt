@@ -1,8 +1,5 @@
 -- What an unframer holds, and what its calls do.
-use Rattle.std.specs.Prelude.{◌≡◌, ◌≢◌, ◌<◌, ◌≤◌, ◌⊎◌, ◌+◌, ℕ, List, [], ◌∷◌, ◌++◌, length, take, All, Option, Some, None}
-use Rattle.std.specs.List.{flat_map}
-use Rattle.io_vector.specs.declared.flag.Flag.{Flag}
-use Rattle.io_vector.specs.declared.flag.Flag.TheVariants.{Plain}
+use Rattle.std.specs.Prelude.{◌≡◌, ◌≢◌, ◌<◌, ◌≤◌, ◌⊎◌, ◌+◌, ℕ, List, [], ◌++◌, length, take, All, Option, Some, None}
 use Rattle.packet_framing.specs.declared.mode.Mode.{Mode}
 use Rattle.packet_framing.specs.declared.mode.Mode.TheVariants.{Packet1, Packet2, Packet4, Line, Stream}
 use Rattle.packet_framing.specs.declared.message.Message.{Message}

@@ -1,4 +1,4 @@
-use Rattle.std.proofs.Common.{◌∙◌, sym, arith}
+use Rattle.std.proofs.Common.{◌∙◌, sym}
 use Rattle.packet_framing.proofs.Steps.{step_end, step_full, step_on}
 use Rattle.packet_framing.proofs.lines.look.Goals as goal
 

@@ -1,4 +1,4 @@
-use Rattle.std.proofs.Common.{◌≡◌, ◌++◌, ◌∙◌, ℕ, List, drop, sym, ap, subst}
+use Rattle.std.proofs.Common.{◌++◌, ◌∙◌, ℕ, List, drop, sym, ap, subst}
 use Rattle.packet_framing.specs.Messages.{rest_of}
 use Rattle.packet_framing.specs.Unframed.{Unframed, Unframes}
 use Rattle.packet_framing.proofs.Laws.{rest_is, rest_held}
