@@ -10,6 +10,7 @@ use Rattle.port_signal.specs.declared.row.Row.{Row}
 use Rattle.port_signal.specs.declared.row.Row.TheVariants.{Mark}
 use Rattle.port_signal.specs.declared.row.MarkKind.TheVariants.{Closed}
 use Rattle.port_signal.specs.declared.mail.Mail.{Mail}
+use Rattle.task_queue.specs.Items.{of}
 use Rattle.port_signal.specs.History.{items}
 use Rattle.driver_entry.specs.declared.life.Life.{Life}
 use Rattle.driver_entry.specs.declared.life.Life.TheVariants.{Started, Stopped}
@@ -130,17 +131,17 @@ mailed-row port process past row taken waiting next_waiting gone g w e =
 
 -- what a turn promises, after a step that took a task
 pub Turned-step : (old new : View) (item : Item Task) (row : Row) (closes posted : Bool)
-    → new.opening ≡ old.opening → old.faults ≤ new.faults → old.broken ≡ false → new.broken ≡ not posted → old.queue ≡ item ∷ new.queue
+    → new.opening ≡ old.opening → old.faults ≤ new.faults → old.broken ≡ false → new.broken ≡ not posted → old.waiting ≡ [] → new.waiting ≡ [] → old.queue ≡ item ∷ new.queue
     → new.rows ≡ old.rows ++ with_mark closes row → items (row ∷ history_of old) ≡ items (history_of old) ++ item ∷ []
     → Sends posted old.mail new.mail row (row_posts old.opening (history_of old) row)
     → ((n : ℕ) → n < length old.mail → (box_at old.mail n).gone ≡ is_gone n (history_of old))
     → Turned old new
-Turned-step old new item row closes posted o f b nb q r t sent gone = record {
+Turned-step old new item row closes posted o f b nb v w q r t sent gone = record {
   opening = o;
   faults = f;
   broken = λ h. absurd cc;
   rows = (with_mark closes row, r);
-  given = λ _. rw (r, reverse-with_mark closes old.rows row, items-marked closes row (reverse old.rows)) (moved (history_of old) row item new.queue t ∙ ap (λ is. items (history_of old) ++ is) (sym q));
+  given = λ _ n. ap (of n) (rw (r, reverse-with_mark closes old.rows row, items-marked closes row (reverse old.rows), w, v) (moved (history_of old) row item new.queue t ∙ ap (λ is. items (history_of old) ++ is) (sym q)));
   processes = sent.len;
   mailed = λ n process taken h e.
       rw (r, reverse-with_mark closes old.rows row, mails-marked closes old.opening process row (reverse old.rows))
@@ -152,13 +153,13 @@ Turned-step old new item row closes posted o f b nb q r t sent gone = record {
 
 -- a turn that did nothing, or found at once that memory is wanting
 pub Turned-same : (old new : View) → new.opening ≡ old.opening → old.faults ≤ new.faults → (old.broken ≡ true → new.broken ≡ true) → new.rows ≡ old.rows
-    → (new.broken ≡ false → new.queue ≡ old.queue) → new.mail ≡ old.mail → Turned old new
-Turned-same old new o f b r q m = record {
+    → new.waiting ≡ old.waiting → (new.broken ≡ false → new.queue ≡ old.queue) → new.mail ≡ old.mail → Turned old new
+Turned-same old new o f b r w q m = record {
   opening = o;
   faults = f;
   broken = b;
   rows = ([], r ∙ sym (append-nil old.rows));
-  given = λ n. rw (r, q n) refl;
+  given = λ n s. rw (r, w, q n) refl;
   processes = ap length m;
   mailed = λ n process taken h e. rw (m, r) e;
 }
@@ -175,7 +176,7 @@ Turned-trans old mid new a b = record {
   faults = omega (arith, a.faults, b.faults);
   broken = λ h. b.broken (a.broken h);
   rows = (a.rows.0 ++ b.rows.0, b.rows.1 ∙ (ap (λ rs. rs ++ b.rows.0) a.rows.1 ∙ append_assoc old.rows a.rows.0 b.rows.0));
-  given = λ n. b.given n ∙ a.given (still mid.broken new.broken b.broken n);
+  given = λ n s. b.given n s ∙ a.given (still mid.broken new.broken b.broken n) s;
   processes = b.processes ∙ a.processes;
   mailed = λ n process taken h e.
       rw a.opening at (b.mailed n process taken (rw a.processes h) (rw a.opening (a.mailed (still mid.broken new.broken b.broken n) process taken h e)));

@@ -17,11 +17,13 @@ use Rattle.port_engine.specs.Box.{Box}
 use Rattle.port_engine.specs.Boxes.{box_at}
 use Rattle.port_engine.specs.Order.{InOrder, SendersBelow}
 
--- what was fixed when the port was opened, its rows, oldest first, the tasks that wait, the mail that wasn't taken, whether
--- the driver was stopped, whether memory was wanting, and how often the driver's outside failed
+-- what was fixed when the port was opened, its rows, oldest first, the tasks that were taken and wait, the tasks that weren't
+-- taken, the mail that wasn't taken, whether the driver was stopped, whether memory was wanting, and how often the driver's
+-- outside failed
 pub record View : Type 0 where
   pub opening : Opening
   pub rows : List Row
+  pub waiting : List (Item Task)
   pub queue : List (Item Task)
   pub mail : List Box
   pub stopped : Bool
@@ -32,9 +34,13 @@ pub record View : Type 0 where
 abbrev pub history_of : View → List Row
 history_of v = reverse v.rows
 
--- all tasks that were given: those with a row, and those that wait
+-- all tasks that were given: those with a row, those that wait, and those that weren't taken
 abbrev pub given_of : View → List (Item Task)
-given_of v = items (history_of v) ++ v.queue
+given_of v = items (history_of v) ++ (v.waiting ++ v.queue)
+
+-- the tasks that a sender gave, in its order
+abbrev pub given_by : ℕ → View → List Task
+given_by n v = of n (given_of v)
 
 -- what always holds of a body
 pub record Sound (port : Opening) (stage : Life) (held : Held) (past : List Row) (queue : List (Item Task)) (mail : List Box) (given : List ℕ) (closed stopped broken : Bool) : Type 0 where
@@ -58,6 +64,7 @@ pub record Sound (port : Opening) (stage : Life) (held : Held) (past : List Row)
 pub record IsOpened (number : ℕ) (kind : Kind) (config : Config) (owner processes faults : ℕ) (v : View) : Type 0 where
   pub opening : v.opening ≡ record { number = number; kind = kind; config = config; owner = owner }
   pub rows : v.rows ≡ []
+  pub waiting : v.waiting ≡ []
   pub queue : v.queue ≡ []
   pub places : length v.mail ≡ processes
   pub mail : (process : ℕ) → process < processes → (box_at v.mail process).waiting ≡ []
@@ -72,7 +79,7 @@ pub record Turned (old new : View) : Type 0 where
   pub faults : old.faults ≤ new.faults
   pub broken : old.broken ≡ true → new.broken ≡ true
   pub rows : (more : List Row) × (new.rows ≡ old.rows ++ more)
-  pub given : new.broken ≡ false → given_of new ≡ given_of old
+  pub given : new.broken ≡ false → (n : ℕ) → given_by n new ≡ given_by n old
   pub processes : length new.mail ≡ length old.mail
   pub mailed : new.broken ≡ false → (process : ℕ) (taken : List Mail) → process < length old.mail
       → taken ++ (box_at old.mail process).waiting ≡ mails old.opening process (history_of old)

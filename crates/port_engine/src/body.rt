@@ -8,7 +8,7 @@ ghost use Rattle.driver_entry.specs.Mail.{row_posts};
 ghost use Rattle.port_engine.specs.Boxes.{Sends, SenderBelow, box_at};
 ghost use Rattle.port_engine.specs.Made.{with_mark};
 ghost use Rattle.port_engine.specs.Order.{SendersBelow};
-ghost use Rattle.port_engine.specs.Body.{IsOpened, Turned, given_of, history_of};
+ghost use Rattle.port_engine.specs.Body.{IsOpened, Turned, given_by, history_of};
 ghost use Rattle.port_signal.specs.declared.row.Row.{Row as RowValue};
 
 use crate::Turn;
@@ -55,7 +55,7 @@ pub struct Body<D: Driver> {
 }
 
 impl<D: Driver> Model for Body<D> {
-    ghost use Rattle.std.specs.Prelude.{reverse};
+    ghost use Rattle.std.specs.Prelude.{reverse, []};
     ghost use Rattle.port_engine.specs.Body.{View, Sound};
 
     ghost Value = { View };
@@ -63,6 +63,7 @@ impl<D: Driver> Model for Body<D> {
     ghost view = { λ b. record {
       opening = record { number = b.number; kind = D.kind b.driver; config = b.config; owner = b.owner };
       rows = b.rows.items;
+      waiting = [];
       queue = b.queue.items;
       mail = b.mail.items;
       stopped = b.stopped;
@@ -122,7 +123,7 @@ impl<D: Driver> Body<D> {
     pub fn give(&mut self, from: Sender, task: Task) -> Result<u64, (Task, NoMemory)>
         requires { sender_number from < length self.old.mail }
         ensures ok { IfOk result (λ seq. self.new ≡ record self.old { queue = self.old.queue ++ item from seq task ∷ [] }) }
-        ensures seq { IfOk result (λ seq. seq ≡ length (of (sender_number from) (given_of self.old))) }
+        ensures seq { IfOk result (λ seq. seq ≡ length (given_by (sender_number from) self.old)) }
         ensures err { OnErr result (self.new ≡ self.old) }
         ensures back { IfErr result (λ refused. refused.0 ≡ task) }
     {
@@ -186,6 +187,7 @@ impl<D: Driver> Body<D> {
         ensures value { result ≡ self.now.stopped }
         ensures closed { self.now.broken ≡ false → result ≡ not (is_open self.now.opening (history_of self.now)) }
         ensures lawful { Lawful self.now.opening (history_of self.now) }
+        ensures waiting { is_open self.now.opening (history_of self.now) ≡ false → self.now.waiting ≡ [] }
         ensures marks { marks (history_of self.now) ≡ (if is_open self.now.opening (history_of self.now) then [] else MarkKind.Closed ∷ []) }
     {
         self.stopped

@@ -29,4 +29,4 @@ returns-clause-turned g c =
     let e = c.in-Ok.ensures.made port past refl refl s.opens s.settled (rw q at (s.order b)).0 (s.holds b) in
     let r = c.append_row-sent.ensures.rows ∙ ap (λ xs. xs ++ with_mark c.in-Ok.made.closes c.in-Ok.made.row) c.reserve.ensures.items in
     rw (← c.self.view_is)
-    (Turned-step _ _ _ _ _ _ (rw c.take_task.ensures.kind refl) c.take_task.ensures.faults b refl q r e.task (c.append_row-sent.ensures.sent port past refl refl) s.gone)
+    (Turned-step _ _ _ _ _ _ (rw c.take_task.ensures.kind refl) c.take_task.ensures.faults b refl refl refl q r e.task (c.append_row-sent.ensures.sent port past refl refl) s.gone)
