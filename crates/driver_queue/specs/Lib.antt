@@ -1,0 +1,2 @@
+pub mod DriverQueue
+pub mod EnqFault
