@@ -1,4 +1,4 @@
-use Rattle.std.specs.Prelude.{ℕ, List}
+use Rattle.std.specs.Prelude.{ℕ, List, [], ◌∷◌, Bool, true, false}
 use Rattle.port_signal.specs.declared.row.Outside.{Outside}
 use Rattle.port_signal.specs.declared.row.Effect.{Effect}
 
@@ -9,3 +9,8 @@ pub record Context : Type 0 where
   pub queue : List ℕ
   pub outside : List Outside
   pub effects : List Effect
+
+-- no byte is queued
+abbrev pub is_empty : List ℕ → Bool
+is_empty [] = true
+is_empty (byte ∷ bytes) = false

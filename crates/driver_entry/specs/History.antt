@@ -19,6 +19,7 @@ use Rattle.port_signal.specs.declared.row.MarkKind.TheVariants.{Busy, Free, Clos
 use Rattle.port_signal.specs.Signals.{is_command}
 use Rattle.port_signal.specs.History.{items, is_busy, sender_number}
 use Rattle.driver_entry.specs.declared.config.Config.{Config}
+use Rattle.driver_entry.specs.Context.{is_empty}
 use Rattle.driver_entry.specs.Callbacks as callback
 use Rattle.driver_entry.specs.Drivers.{Kind, Call, holds, effects_of, IsAnswered}
 use Rattle.driver_entry.specs.Driven.{call_of}
@@ -70,18 +71,14 @@ signal_calls from outside (CallSignal op bytes) = call_of (callback.Call op byte
 signal_calls from outside Close = []
 signal_calls from outside (Gone reason) = []
 
-abbrev pub is_empty : List ℕ → Bool
-is_empty [] = true
-is_empty (byte ∷ bytes) = false
-
 -- nothing is queued after the calls
 abbrev pub is_drained : Opening → List Call → Bool
 is_drained port calls = is_empty (holds port.kind port.config calls).queue
 
 -- `flush`, where a row closes the port and bytes are queued, unless it is killed
-abbrev pub flush_calls : Opening → Option (List ℕ) → List Call → List Call
-flush_calls port None earlier = []
-flush_calls port (Some reason) earlier = if is_kill reason || is_drained port earlier then [] else call_of callback.Flush port.owner [] ∷ []
+abbrev pub flush_calls : Opening → ℕ → Option (List ℕ) → List Call → List Call
+flush_calls port caller None earlier = []
+flush_calls port caller (Some reason) earlier = if is_kill reason || is_drained port earlier then [] else call_of callback.Flush caller [] ∷ []
 
 -- `stop`, where a row closes the port and nothing is queued any more, or the port is killed
 abbrev pub stop_calls : Opening → Option (List ℕ) → List Call → List Call
@@ -89,13 +86,14 @@ stop_calls port None earlier = []
 stop_calls port (Some reason) earlier = if is_kill reason || is_drained port earlier then call_of callback.Stop port.owner [] ∷ [] else []
 
 -- the calls of a row that closes the port for this reason, if it does, after that of its signal, newest first
-abbrev pub closing_calls : Opening → Option (List ℕ) → List Call → List Call
-closing_calls port reason earlier = stop_calls port reason (flush_calls port reason earlier ++ earlier) ++ flush_calls port reason earlier
+abbrev pub closing_calls : Opening → ℕ → Option (List ℕ) → List Call → List Call
+closing_calls port caller reason earlier =
+    stop_calls port reason (flush_calls port caller reason earlier ++ earlier) ++ flush_calls port caller reason earlier
 
 -- the calls of a row after earlier ones, newest first: that of its signal, and where it closes the port `flush` and `stop`
 abbrev pub row_calls : Opening → List Row → List Call → Row → List Call
 row_calls port older earlier (Handled from seq task outside effects) =
-    closing_calls port (closing_reason port older from task.signal) (signal_calls from outside task.signal ++ earlier)
+    closing_calls port (sender_number from) (closing_reason port older from task.signal) (signal_calls from outside task.signal ++ earlier)
     ++ signal_calls from outside task.signal
 row_calls port older earlier (Late from seq task) = []
 row_calls port older earlier (Mark kind) = []

@@ -2,6 +2,7 @@ ghost use Rattle.std.specs.Prelude.{◌≡◌, ◌<◌, ◌≤◌, ◌++◌, ◌
 ghost use Rattle.std.specs.List.{concat};
 ghost use Rattle.port_signal.specs.declared.row.Effect.TheVariants.{Busy, Message};
 ghost use Rattle.driver_queue.specs.EnqFault.{EnqFails};
+ghost use Rattle.driver_entry.specs.Context.{is_empty};
 ghost use Rattle.driver_entry.specs.Replies.{reply_effect};
 
 use crate::ReplyTo;
@@ -71,6 +72,13 @@ impl DriverCtx {
         ensures { concat result.now.segments ≡ self.now.queue }
     {
         &self.queue
+    }
+
+    /// Whether no byte is queued.
+    pub fn is_drained(&self) -> bool
+        ensures { result ≡ is_empty self.now.queue }
+    {
+        self.queue.sizeq() == 0
     }
 
     /// Sends data to the owner of the port: `driver_output` of erl_driver. The bytes are shared and not copied.
