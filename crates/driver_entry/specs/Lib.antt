@@ -1,4 +1,8 @@
+pub mod Callbacks
 pub mod Context
+pub mod Replies
+pub mod Store
+pub mod Tally
 pub mod Drivers
 pub mod Driven
 pub mod History

@@ -1,14 +1,14 @@
 //! A boxed driver is a driver: what a run is handed are boxes.
 ghost use Rattle.std.specs.Prelude.{◌≡◌};
 
-use crate::{Config, Driver, DriverCtx, Life, StartRefusal};
-use port_signal::{IoVec, NoMemory, Reason};
+use crate::{Config, Driver, DriverCtx, Life, ReplyTo, StartRefusal};
+use port_signal::{IoVec, NoMemory, Piece, Reason};
 use std::alloc::Global;
 
 impl Driver for Box<dyn Driver + Send> {
     ghost kind = { λ b. (Driver-box b).kind b.value };
 
-    ghost held = { λ b. (Driver-box b).held b.value };
+    ghost own = { λ b. (Driver-box b).own b.value };
 
     ghost stage = { λ b. (Driver-box b).stage b.value };
 
@@ -20,6 +20,10 @@ impl Driver for Box<dyn Driver + Send> {
 
     fn name(&self) -> Reason {
         (**self).name()
+    }
+
+    fn soft_busy(&self) -> bool {
+        (**self).soft_busy()
     }
 
     fn start(
@@ -38,6 +42,30 @@ impl Driver for Box<dyn Driver + Send> {
         payload: &IoVec,
     ) -> Result<(), NoMemory> {
         (**self).outputv(alloc, ctx, payload)
+    }
+
+    fn control(
+        &mut self,
+        alloc: Global,
+        ctx: &mut DriverCtx,
+        op: u32,
+        bytes: &Piece,
+    ) -> Result<ReplyTo, NoMemory> {
+        (**self).control(alloc, ctx, op, bytes)
+    }
+
+    fn call(
+        &mut self,
+        alloc: Global,
+        ctx: &mut DriverCtx,
+        op: u32,
+        bytes: &Piece,
+    ) -> Result<ReplyTo, NoMemory> {
+        (**self).call(alloc, ctx, op, bytes)
+    }
+
+    fn flush(&mut self, alloc: Global, ctx: &mut DriverCtx) -> Result<(), NoMemory> {
+        (**self).flush(alloc, ctx)
     }
 
     fn stop(&mut self) {

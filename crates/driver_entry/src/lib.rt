@@ -9,14 +9,16 @@ mod boxed;
 mod config;
 mod context;
 mod driver;
-mod echo;
+mod kinds;
 mod life;
+mod reply;
 
 pub use config::Config;
 pub use context::DriverCtx;
 pub use driver::Driver;
-pub use echo::Echo;
+pub use kinds::{Echo, Store, Tally, Valve, ValveSoft};
 pub use life::{Life, StartRefusal};
+pub use reply::ReplyTo;
 
 #[cfg(test)]
 mod tests;

@@ -13,7 +13,7 @@ use Rattle.port_signal.specs.declared.mail.Mail.{Mail}
 use Rattle.port_signal.specs.History.{marks}
 use Rattle.driver_entry.specs.declared.life.Life.{Life}
 use Rattle.driver_entry.specs.declared.life.Life.TheVariants.{Fresh}
-use Rattle.driver_entry.specs.Drivers.{Kind, Held, kind_name}
+use Rattle.driver_entry.specs.Drivers.{Kind, Own, kind_name}
 use Rattle.gateway_script.specs.declared.decl.PortDecl.{PortDecl}
 use Rattle.gateway_script.specs.declared.decl.ProcessDecl.{ProcessDecl}
 use Rattle.gateway_script.specs.declared.decl.Step.{Step}
@@ -61,11 +61,11 @@ module _ {D : Type 0} where
   }
 
   -- the kind of the driver that served is the one that was asked for
-  pub kind-named : (kind : D → Kind) (held : D → Held) (stage : D → Life) (faults : D → ℕ) (hosts : List (Hosted D)) (at : ℕ) (old host : Hosted D) (decl : PortDecl) (steps : List Step)
+  pub kind-named : (kind : D → Kind) (own : D → Own) (stage : D → Life) (faults : D → ℕ) (hosts : List (Hosted D)) (at : ℕ) (old host : Hosted D) (decl : PortDecl) (steps : List Step)
       (rows : List Row) (got : List Receipt) (came : List Mail) → at < length hosts → old ≡ slice_index_or hosts at old
       → ((d : Hosted D) → is_named kind decl.driver (slice_index_or hosts at d) ≡ true) → CameBack kind stage faults old host
-      → (keeps : HostKeeps kind held decl.config steps host rows got came) → kind_name (kind keeps.driver) ≡ decl.driver
-  kind-named kind held stage faults hosts at old host decl steps rows got came within was named back keeps =
+      → (keeps : HostKeeps kind own decl.config steps host rows got came) → kind_name (kind keeps.driver) ≡ decl.driver
+  kind-named kind own stage faults hosts at old host decl steps rows got came within was named back keeps =
       let same : back.after ≡ keeps.driver = some-same back.after keeps.driver (sym back.returned ∙ ap (λ h. h.driver) keeps.served) in
       let e : is_named kind decl.driver old ≡ true = ap (is_named kind decl.driver) was ∙ named old in
       let n : bytes_eq (kind_name (kind back.before)) decl.driver ≡ true = ap (λ d. option_map_or (λ d. bytes_eq (kind_name (kind d)) decl.driver) d false) (sym back.handed) ∙ e in
@@ -75,9 +75,9 @@ module _ {D : Type 0} where
       some-same a b e = cc
 
   -- a process of a script without ports makes no call
-  pub headline-none : (kind : D → Kind) (held : D → Held) (plan : Plan) (hosts : List (Hosted D)) (report : Report) → IsPlan plan → length plan.ports < 1
-      → report ≡ record { ports = []; processes = map idle plan.processes } → Headline kind held plan hosts report
-  headline-none kind held plan hosts report p none e =
+  pub headline-none : (kind : D → Kind) (own : D → Own) (plan : Plan) (hosts : List (Hosted D)) (report : Report) → IsPlan plan → length plan.ports < 1
+      → report ≡ record { ports = []; processes = map idle plan.processes } → Headline kind own plan hosts report
+  headline-none kind own plan hosts report p none e =
       let empty : length plan.ports ≡ 0 = omega arith in
       let steps : plan.steps ≡ [] = no-steps plan.steps (length plan.ports) none p.named in
       rw e (record {

@@ -12,13 +12,12 @@ use Rattle.port_signal.specs.declared.signal.Task.{Task}
 use Rattle.port_signal.specs.declared.row.Row.{Row}
 use Rattle.port_signal.specs.declared.row.Row.TheVariants.{Handled, Late, Mark}
 use Rattle.port_signal.specs.declared.row.MarkKind.{MarkKind}
-use Rattle.port_signal.specs.declared.row.MarkKind.TheVariants.{Closed as ClosedMark}
 use Rattle.port_signal.specs.declared.receipt.Outcome.TheVariants.{Accepted, Closed}
 use Rattle.port_signal.specs.declared.receipt.Receipt.{Receipt}
-use Rattle.port_signal.specs.History.{items, item, marks, bits_of, stat_of, AgreesWith, is_closed}
+use Rattle.port_signal.specs.History.{items, item, marks, busy_by, closed_by, stat_word, stat_of, AgreesWith, is_closed}
 use Rattle.driver_entry.specs.History.{Opening}
 use Rattle.port_engine.specs.Boxes.{box_at}
-use Rattle.port_engine.specs.Body.{View, Turned, history_of, given_of}
+use Rattle.port_engine.specs.Body.{View, Turned, history_of, given_of, given_by}
 use Rattle.driver_entry.specs.Mail.{mails}
 use Rattle.gateway.specs.Asks.{Ask}
 use Rattle.gateway.specs.Receipts.{accepted, is_accepted, marks_shown, ShowAtMost, IsReceiptOf, AreReceipts}
@@ -31,16 +30,15 @@ marks-append (Handled from seq task outside effects ∷ newer) older = marks-app
 marks-append (Late from seq task ∷ newer) older = marks-append newer older
 marks-append (Mark kind ∷ newer) older = ap (λ ms. ms ++ kind ∷ []) (marks-append newer older) ∙ append_assoc (marks older) (marks newer) (kind ∷ [])
 
--- a word shows as many marks as there are, and both bits are below it
-bits-small : (ms : List MarkKind) → bits_of ms < 4
-bits-small [] = omega arith
-bits-small (ClosedMark ∷ ms) = omega arith
-
-quarter : (n b : ℕ) → b < 4 → (4 * n + b) / 4 ≡ n
-quarter n b h = omega arith
+-- a word shows as many marks as there are: both bits are below it
+quarter : (n : ℕ) (closed busy : Bool) → stat_word n closed busy / 4 ≡ n
+quarter n true true = omega arith
+quarter n true false = omega arith
+quarter n false true = omega arith
+quarter n false false = omega arith
 
 shows-all : (ms : List MarkKind) → stat_of ms / 4 ≡ length ms
-shows-all ms = quarter (length ms) (bits_of (reverse ms)) (bits-small (reverse ms))
+shows-all ms = quarter (length ms) (closed_by (reverse ms)) (busy_by (reverse ms))
 
 -- the word of these marks agrees with them
 stat-agrees : (ms : List MarkKind) → AgreesWith ms (stat_of ms)
@@ -132,7 +130,7 @@ HasMade-refused port process asks body receipts line number stat task m n w c = 
 -- a call of a port that isn't closed puts the task, which then has its row
 pub HasMade-put : (port : Opening) (process : ℕ) (asks : List Ask) (body after : View) (receipts : List Receipt) (line number stat seq : ℕ) (task : Task)
     → HasMade port process asks body receipts → port.number ≡ number → stat ≡ stat_of (marks (history_of body)) → is_closed stat ≡ false
-    → seq ≡ length (of process (given_of body))
+    → seq ≡ length (given_by process body)
     → Turned (record body { queue = body.queue ++ item (Process process) seq task ∷ [] }) after → after.queue ≡ [] → after.broken ≡ false
     → HasMade port process (record { line = line; port = number; task = task } ∷ asks) after
     (record { line = line; port = number; seq = Some seq; stat = Some stat; outcome = Accepted } ∷ receipts)
@@ -148,9 +146,10 @@ HasMade-put port process asks body after receipts line number stat seq task m n 
       idle = i;
       memory = b;
       tasks =
-          ap (of process) (t.given b ∙ sym (append_assoc (items (history_of body)) body.queue (item (Process process) seq task ∷ [])))
-          ∙ (of-push process (given_of body) seq task
-          ∙ (ap (λ ts. ts ++ task ∷ []) m.tasks ∙ ap (λ ts. accepted port.number asks receipts ++ ts) (puts (eqb number port.number) task own_number)));
+          t.given b process
+          ∙ (ap (of process) (ap (λ ts. items (history_of body) ++ ts) (sym (append_assoc body.waiting body.queue (item (Process process) seq task ∷ []))) ∙ sym (append_assoc (items (history_of body)) (body.waiting ++ body.queue) (item (Process process) seq task ∷ [])))
+          ∙ of-push process (given_of body) seq task)
+          ∙ (ap (λ ts. ts ++ task ∷ []) m.tasks ∙ ap (λ ts. accepted port.number asks receipts ++ ts) (puts (eqb number port.number) task own_number));
       receipts = (
         record {
           line = refl;
@@ -164,5 +163,23 @@ HasMade-put port process asks body after receipts line number stat seq task m n 
         },
         subst (λ ms. AreReceipts (λ _. ms) asks receipts) (sym grown) (AreReceipts-more before more asks receipts m.receipts),
       );
+      mail = t.mailed b process [] m.place (m.mail ∙ ap (λ o. mails o process (history_of body)) (sym m.opening)) ∙ ap (λ o. mails o process (history_of after)) m.opening;
+    }
+
+-- more turns of an idle port
+pub HasMade-turned : (port : Opening) (process : ℕ) (asks : List Ask) (body after : View) (receipts : List Receipt)
+    → HasMade port process asks body receipts → Turned body after → after.queue ≡ [] → after.broken ≡ false → HasMade port process asks after receipts
+HasMade-turned port process asks body after receipts m t i b =
+    let before = marks (history_of body) in
+    let more = marks (reverse t.rows.0) in
+    let grown : marks (history_of after) ≡ before ++ more =
+    ap (λ rs. marks (reverse rs)) t.rows.1 ∙ (ap marks (reverse-append body.rows t.rows.0) ∙ marks-append (reverse t.rows.0) (history_of body)) in
+    record {
+      opening = t.opening ∙ m.opening;
+      place = rw t.processes m.place;
+      idle = i;
+      memory = b;
+      tasks = t.given b process ∙ m.tasks;
+      receipts = subst (λ ms. AreReceipts (λ _. ms) asks receipts) (sym grown) (AreReceipts-more before more asks receipts m.receipts);
       mail = t.mailed b process [] m.place (m.mail ∙ ap (λ o. mails o process (history_of body)) (sym m.opening)) ∙ ap (λ o. mails o process (history_of after)) m.opening;
     }

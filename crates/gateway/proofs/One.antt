@@ -9,7 +9,7 @@ use Rattle.port_signal.specs.declared.row.MarkKind.{MarkKind}
 use Rattle.port_signal.specs.declared.receipt.Receipt.{Receipt}
 use Rattle.port_signal.specs.declared.mail.Mail.{Mail}
 use Rattle.port_signal.specs.History.{AgreesWith, marks}
-use Rattle.driver_entry.specs.Drivers.{Kind, Held, kind_name}
+use Rattle.driver_entry.specs.Drivers.{Kind, Own, kind_name}
 use Rattle.gateway_script.specs.declared.decl.PortDecl.{PortDecl}
 use Rattle.gateway_script.specs.declared.decl.ProcessDecl.{ProcessDecl}
 use Rattle.gateway_script.specs.declared.decl.Step.{Step}
@@ -92,14 +92,14 @@ none≢some (Some m) n e f = absurd cc
 
 module _ {D : Type 0} where
   -- a driver that served the one port, at its place in the list
-  Serves-one : (kind : D → Kind) (held : D → Held) (proc : ProcessDecl) (decl : PortDecl) (steps : List Step) (hosts : List (Hosted D)) (at : ℕ) (host : Hosted D)
+  Serves-one : (kind : D → Kind) (own : D → Own) (proc : ProcessDecl) (decl : PortDecl) (steps : List Step) (hosts : List (Hosted D)) (at : ℕ) (host : Hosted D)
       (rows : List Row) (got : List Receipt) (came : List Mail)
-      → at < length hosts → All (λ h. h.port ≡ None) hosts → (keeps : HostKeeps kind held decl.config steps host rows got came)
+      → at < length hosts → All (λ h. h.port ≡ None) hosts → (keeps : HostKeeps kind own decl.config steps host rows got came)
       → kind_name (kind keeps.driver) ≡ decl.driver → decl.owner ≡ 0 → All (λ s. s.process < 1) steps
-      → Serves kind held (record { processes = proc ∷ []; ports = decl ∷ []; steps = steps }) (slice_set hosts at host) 0 decl
+      → Serves kind own (record { processes = proc ∷ []; ports = decl ∷ []; steps = steps }) (slice_set hosts at host) 0 decl
       (record { name = decl.name; driver = decl.driver; owner = decl.owner; config = decl.config; journal = record { rows = rows } })
       (record { name = proc.name; receipts = got; mails = came } ∷ [])
-  Serves-one kind held proc decl steps hosts at host rows got came within unused keeps named owner processes = record {
+  Serves-one kind own proc decl steps hosts at host rows got came within unused keeps named owner processes = record {
     at = at;
     driver = keeps.driver;
     within = rw (length-set hosts at host) within;
@@ -130,22 +130,22 @@ module _ {D : Type 0} where
   }
 
   -- the report of the one port and the one process
-  pub Headline-one : (kind : D → Kind) (held : D → Held) (proc : ProcessDecl) (decl : PortDecl) (steps : List Step) (hosts : List (Hosted D)) (at : ℕ) (host : Hosted D)
+  pub Headline-one : (kind : D → Kind) (own : D → Own) (proc : ProcessDecl) (decl : PortDecl) (steps : List Step) (hosts : List (Hosted D)) (at : ℕ) (host : Hosted D)
       (rows : List Row) (got : List Receipt) (came : List Mail)
-      → at < length hosts → All (λ h. h.port ≡ None) hosts → (keeps : HostKeeps kind held decl.config steps host rows got came)
+      → at < length hosts → All (λ h. h.port ≡ None) hosts → (keeps : HostKeeps kind own decl.config steps host rows got came)
       → kind_name (kind keeps.driver) ≡ decl.driver → decl.owner ≡ 0 → All (λ s. s.process < 1) steps → All (λ s. port_of s.act ≡ 0) steps
-      → Headline kind held (record { processes = proc ∷ []; ports = decl ∷ []; steps = steps }) (slice_set hosts at host) (record {
+      → Headline kind own (record { processes = proc ∷ []; ports = decl ∷ []; steps = steps }) (slice_set hosts at host) (record {
         ports = record { name = decl.name; driver = decl.driver; owner = decl.owner; config = decl.config; journal = record { rows = rows } } ∷ [];
         processes = record { name = proc.name; receipts = got; mails = came } ∷ [];
       })
-  Headline-one kind held proc decl steps hosts at host rows got came within unused keeps named owner processes ports = record {
+  Headline-one kind own proc decl steps hosts at host rows got came within unused keeps named owner processes ports = record {
     ports = refl;
     processes = refl;
     served = λ k d p l.
-        elim k as (λ k. k < 1 → Serves kind held (record { processes = proc ∷ []; ports = decl ∷ []; steps = steps }) (slice_set hosts at host) k (slice_index_or (decl ∷ []) k d)
+        elim k as (λ k. k < 1 → Serves kind own (record { processes = proc ∷ []; ports = decl ∷ []; steps = steps }) (slice_set hosts at host) k (slice_index_or (decl ∷ []) k d)
         (slice_index_or (record { name = decl.name; driver = decl.driver; owner = decl.owner; config = decl.config; journal = record { rows = rows } } ∷ []) k p)
         (record { name = proc.name; receipts = got; mails = came } ∷ [])) [
-          | zero ↦ λ _. Serves-one kind held proc decl steps hosts at host rows got came within unused keeps named owner processes
+          | zero ↦ λ _. Serves-one kind own proc decl steps hosts at host rows got came within unused keeps named owner processes
           | suc k ↦ λ l. absurd (omega arith)
         ] l;
     told = λ s d q l.

@@ -7,11 +7,11 @@ use Rattle.std.proofs.lemmas.List.Elements.{filter-append}
 use Rattle.std.proofs.lemmas.Bool.Decides.{nat_tests}
 use Rattle.port_signal.specs.declared.signal.Sender.{Sender}
 use Rattle.port_signal.specs.declared.signal.Signal.{Signal}
-use Rattle.port_signal.specs.declared.signal.Signal.TheVariants.{Command, Close, Gone}
+use Rattle.port_signal.specs.declared.signal.Signal.TheVariants.{Command, Control, Call, Close, Gone}
 use Rattle.port_signal.specs.declared.row.Row.{Row}
 use Rattle.port_signal.specs.declared.row.Row.TheVariants.{Handled, Late, Mark}
 use Rattle.port_signal.specs.declared.row.Effect.{Effect}
-use Rattle.port_signal.specs.declared.row.Effect.TheVariants.{Message as Data}
+use Rattle.port_signal.specs.declared.row.Effect.TheVariants.{Message as Data, Busy, Reply as ReplyEffect, ReplyBadarg}
 use Rattle.port_signal.specs.declared.mail.Mail.{Mail}
 use Rattle.port_signal.specs.declared.mail.Mail.TheVariants.{Message, Reply}
 use Rattle.driver_entry.specs.History.{Opening}
@@ -36,20 +36,27 @@ FromPort-append number (post ∷ posts) more f g = (f.0, FromPort-append number 
 effects-from : (port : Opening) (owner : ℕ) (effects : List Effect) → FromPort port.number (flat_map (effect_posts port owner) effects)
 effects-from port owner [] = tt
 effects-from port owner (Data flag bytes ∷ effects) = (refl, effects-from port owner effects)
+effects-from port owner (Busy busy ∷ effects) = effects-from port owner effects
+effects-from port owner (ReplyEffect bytes ∷ effects) = effects-from port owner effects
+effects-from port owner (ReplyBadarg ∷ effects) = effects-from port owner effects
 
-answer-from : (port : Opening) (from : Sender) (seq : ℕ) (signal : Signal) → FromPort port.number (answer_posts port from seq signal)
-answer-from port from seq (Command payload) = tt
-answer-from port from seq Close = (refl, tt)
-answer-from port from seq (Gone reason) = tt
+answer-from : (port : Opening) (from : Sender) (seq : ℕ) (effects : List Effect) (signal : Signal) → FromPort port.number (answer_posts port from seq effects signal)
+answer-from port from seq effects (Command payload) = tt
+answer-from port from seq effects (Control op bytes) = (refl, tt)
+answer-from port from seq effects (Call op bytes) = (refl, tt)
+answer-from port from seq effects Close = (refl, tt)
+answer-from port from seq effects (Gone reason) = tt
 
 late-from : (port : Opening) (from : Sender) (seq : ℕ) (signal : Signal) → FromPort port.number (late_posts port from seq signal)
 late-from port from seq (Command payload) = tt
+late-from port from seq (Control op bytes) = (refl, tt)
+late-from port from seq (Call op bytes) = (refl, tt)
 late-from port from seq Close = (refl, tt)
 late-from port from seq (Gone reason) = tt
 
 row-from : (port : Opening) (older : List Row) (row : Row) → FromPort port.number (row_posts port older row)
 row-from port older (Handled from seq task outside effects) =
-    FromPort-append port.number (flat_map (effect_posts port port.owner) effects) (answer_posts port from seq task.signal) (effects-from port port.owner effects) (answer-from port from seq task.signal)
+    FromPort-append port.number (flat_map (effect_posts port port.owner) effects) (answer_posts port from seq effects task.signal) (effects-from port port.owner effects) (answer-from port from seq effects task.signal)
 row-from port older (Late from seq task) = late-from port from seq task.signal
 row-from port older (Mark kind) = tt
 

@@ -6,7 +6,7 @@ use Rattle.port_signal.specs.declared.row.Row.{Row}
 use Rattle.port_signal.specs.declared.mail.Mail.{Mail}
 use Rattle.port_signal.specs.declared.mail.Mail.TheVariants.{Message, Reply}
 use Rattle.port_signal.specs.History.{items, marks}
-use Rattle.driver_entry.specs.Drivers.{Kind, Held, kind_name}
+use Rattle.driver_entry.specs.Drivers.{Kind, Own, kind_name}
 use Rattle.driver_entry.specs.History.{Opening}
 use Rattle.driver_entry.specs.Mail.{mails}
 use Rattle.gateway_script.specs.declared.decl.PortDecl.{PortDecl}
@@ -36,13 +36,13 @@ mail_from port came = filter (λ m. sender_of m == port) came
 
 -- a reported port is the declared one, and its journal is one lawful and finished history of its driver, which holds what the calls of
 -- that history leave
-pub record PortHolds (decl : PortDecl) (number : ℕ) (kind : Kind) (held : Held) (processes : ℕ) (port : PortReport) : Type 0 where
+pub record PortHolds (decl : PortDecl) (number : ℕ) (kind : Kind) (own : Own) (processes : ℕ) (port : PortReport) : Type 0 where
   pub name : port.name ≡ decl.name
   pub driver : port.driver ≡ decl.driver
   pub owner : port.owner ≡ decl.owner
   pub config : port.config ≡ decl.config
   pub of_kind : kind_name kind ≡ decl.driver
-  pub keeps : PortKeeps (opening_of number kind port) processes held (history_of port)
+  pub keeps : PortKeeps (opening_of number kind port) processes own (history_of port)
 
 -- of a process and a port: its tasks that have a row are those that were accepted of it, in the order sent, each once; and the mail that
 -- came from the port is what the rows sent it, in their order
@@ -58,20 +58,20 @@ pub record ProcessHolds (plan : Plan) (decl : ProcessDecl) (process : ℕ) (port
 
 module _ {D : Type 0} where
   -- the driver at a place of the list served the port of this number, and what is reported of the port holds of that driver
-  pub record Serves (kind : D → Kind) (held : D → Held) (plan : Plan) (hosts : List (Hosted D)) (number : ℕ) (decl : PortDecl) (port : PortReport) (processes : List ProcReport) : Type 0 where
+  pub record Serves (kind : D → Kind) (own : D → Own) (plan : Plan) (hosts : List (Hosted D)) (number : ℕ) (decl : PortDecl) (port : PortReport) (processes : List ProcReport) : Type 0 where
     pub at : ℕ
     pub driver : D
     pub within : at < length hosts
     pub host : (d : Hosted D) → slice_index_or hosts at d ≡ record { port = Some number; driver = Some driver }
     pub alone : (other : ℕ) (d : Hosted D) → other < length hosts → (slice_index_or hosts other d).port ≡ Some number → other ≡ at
-    pub holds : PortHolds decl number (kind driver) (held driver) (length plan.processes) port
+    pub holds : PortHolds decl number (kind driver) (own driver) (length plan.processes) port
     pub pairs : (process : ℕ) (d : ProcReport) → process < length plan.processes → PairHolds plan process number (kind driver) port (slice_index_or processes process d)
 
   -- the report is that of the script: for each port and each process of it
-  pub record Headline (kind : D → Kind) (held : D → Held) (plan : Plan) (hosts : List (Hosted D)) (report : Report) : Type 0 where
+  pub record Headline (kind : D → Kind) (own : D → Own) (plan : Plan) (hosts : List (Hosted D)) (report : Report) : Type 0 where
     pub ports : length report.ports ≡ length plan.ports
     pub processes : length report.processes ≡ length plan.processes
     pub served : (k : ℕ) (decl : PortDecl) (d : PortReport) → k < length plan.ports
-        → Serves kind held plan hosts k (slice_index_or plan.ports k decl) (slice_index_or report.ports k d) report.processes
+        → Serves kind own plan hosts k (slice_index_or plan.ports k decl) (slice_index_or report.ports k d) report.processes
     pub told : (s : ℕ) (decl : ProcessDecl) (d : ProcReport) → s < length plan.processes
         → ProcessHolds plan (slice_index_or plan.processes s decl) s report.ports (slice_index_or report.processes s d)

@@ -5,20 +5,20 @@ use Rattle.port_signal.specs.declared.receipt.Receipt.{Receipt}
 use Rattle.port_signal.specs.declared.row.Row.{Row}
 use Rattle.port_signal.specs.declared.mail.Mail.{Mail}
 use Rattle.port_signal.specs.History.{items, marks}
-use Rattle.driver_entry.specs.Drivers.{Held, holds}
+use Rattle.driver_entry.specs.Drivers.{Own, holds}
 use Rattle.driver_entry.specs.History.{Opening, Lawful, IsFinished, calls}
 use Rattle.driver_entry.specs.Mail.{mails}
-use Rattle.port_engine.specs.Order.{SendersBelow}
+use Rattle.waiting_list.specs.Order.{SendersBelow}
 use Rattle.port_engine.specs.Boxes.{box_at}
-use Rattle.port_engine.specs.Body.{View, history_of, given_of}
+use Rattle.port_engine.specs.Body.{View, history_of, given_by}
 use Rattle.gateway.specs.Asks.{Ask}
 use Rattle.gateway.specs.Receipts.{accepted, AreReceipts}
 
 -- the history of the port's driver is lawful and finished, the driver holds what its calls leave, and each row is from one of so many processes
-pub record PortKeeps (port : Opening) (processes : ℕ) (held : Held) (history : List Row) : Type 0 where
+pub record PortKeeps (port : Opening) (processes : ℕ) (own : Own) (history : List Row) : Type 0 where
   pub lawful : Lawful port history
   pub finished : IsFinished port history
-  pub holds : held ≡ holds port.kind port.config (calls port history)
+  pub holds : own ≡ (holds port.kind port.config (calls port history)).own
   pub senders : SendersBelow processes (items history)
 
 -- the tasks of the process that have a row are those that were accepted of it, in the order sent, each once; its receipts are those of its
@@ -34,6 +34,6 @@ pub record HasMade (port : Opening) (process : ℕ) (asks : List Ask) (body : Vi
   pub place : process < length body.mail
   pub idle : body.queue ≡ []
   pub memory : body.broken ≡ false
-  pub tasks : of process (given_of body) ≡ accepted port.number asks got
+  pub tasks : given_by process body ≡ accepted port.number asks got
   pub receipts : AreReceipts (λ _. marks (history_of body)) asks got
   pub mail : (box_at body.mail process).waiting ≡ mails port process (history_of body)

@@ -10,6 +10,7 @@ use gateway_script::Act;
 use port_engine::{Body, Turn};
 use port_signal::{IoVec, NoMemory, Outcome, Piece, Receipt, Sender, Signal, Task};
 use std::alloc::Global;
+use std::sync::Wait;
 
 /// Data as a vector of one segment, or of none where there are no bytes. The bytes are shared.
 fn vector(alloc: Global, payload: &Piece) -> Result<IoVec, NoMemory>
@@ -44,6 +45,22 @@ pub fn run_until_idle<D: Driver>(body: &mut Body<D>) -> Result<(), NoMemory>
             Turn::NoMemory => return Err(NoMemory),
         }
     }
+}
+
+/// Runs a port until its driver was stopped. A port whose driver stays busy keeps what waits, and is run on.
+pub fn run_to_end<D: Driver, R: Wait>(rt: &R, body: &mut Body<D>) -> Result<(), NoMemory>
+    requires { body.old.broken ≡ false }
+    ensures turned { Turned body.old body.new }
+    ensures idle { OnOk result ((body.new.queue ≡ []) × (body.new.waiting ≡ []) × (body.new.broken ≡ false)) }
+    ensures stopped { OnOk result (body.new.stopped ≡ true) }
+{
+    for _ in rt.forever() {
+        run_until_idle(body)?;
+        if body.finished() {
+            return Ok(());
+        }
+    }
+    unreachable!()
 }
 
 /// Makes a call by which a process sends a signal to a port, and runs the port until it is idle. A call of a closed port is refused and

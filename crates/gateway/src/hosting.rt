@@ -10,6 +10,7 @@ use driver_entry::{Config, Driver};
 use gateway_script::Step;
 use port_signal::{NoMemory, Reason};
 use std::alloc::Global;
+use std::sync::Wait;
 
 /// Whether a driver has this name.
 fn is_named<D: Driver>(host: &Hosted<D>, name: &Reason) -> bool
@@ -37,7 +38,8 @@ pub fn find_driver<D: Driver>(hosts: &[Hosted<D>], name: &Reason) -> Option<usiz
 }
 
 /// Has a driver serve the one port for its owner, the one process. The driver comes back to its place, with its port if it was opened.
-pub fn serve_port<D: Driver>(
+pub fn serve_port<D: Driver, R: Wait>(
+    rt: &R,
     alloc: Global,
     host: &mut Hosted<D>,
     config: Config,
@@ -47,7 +49,7 @@ pub fn serve_port<D: Driver>(
     requires named { All (λ s. port_of s.act ≡ 0) steps.now }
     ensures back { CameBack D.kind D.stage D.faults host.old host.new }
     ensures port { (host.new.port ≡ None) ⊎ (host.new.port ≡ Some 0) }
-    ensures keeps { IfOk result (λ told. HostKeeps D.kind D.held config steps.now host.new told.journal.rows told.receipts.items told.mails.items) }
+    ensures keeps { IfOk result (λ told. HostKeeps D.kind D.own config steps.now host.new told.journal.rows told.receipts.items told.mails.items) }
 {
     let Some(driver) = host.driver.take() else {
         unreachable!();
@@ -56,7 +58,7 @@ pub fn serve_port<D: Driver>(
         driver,
         opened,
         told,
-    } = run_port(alloc, driver, config, steps);
+    } = run_port(rt, alloc, driver, config, steps);
     host.driver = Some(driver);
     if opened {
         host.port = Some(0);

@@ -6,12 +6,13 @@ ghost use Rattle.gateway_script.specs.Plan.{port_of};
 ghost use Rattle.gateway.specs.Asks.{Ask, ask_of, asks_by, exit_ask};
 ghost use Rattle.gateway.specs.Port.{HasMade, PairKeeps, PortKeeps};
 
-use crate::calls::{make_call, signal};
+use crate::calls::{make_call, run_to_end, signal};
 use driver_entry::{Config, Driver, Life, StartRefusal};
 use gateway_script::{Act, Step};
 use port_engine::{Body, BodyEnd, BodyParts};
 use port_signal::{Journal, Mail, NoMemory, Reason, Receipt, Signal};
 use std::alloc::Global;
+use std::sync::Wait;
 
 /// What a port and its process tell of a run.
 #[derive(Drop)]
@@ -99,7 +100,8 @@ fn take_mails<D: Driver>(
 }
 
 /// Makes the calls of the steps, and then tells the port the end of the process. Returns the receipts and the mail.
-fn serve<D: Driver>(
+fn serve<D: Driver, R: Wait>(
+    rt: &R,
     alloc: Global,
     body: &mut Body<D>,
     port: u32,
@@ -129,16 +131,20 @@ fn serve<D: Driver>(
         port,
         Signal::Gone(normal()),
     )?;
-    if !body.finished() {
-        unreachable!();
-    }
+    run_to_end(rt, body)?;
     let mails = take_mails(alloc, body, process)?;
     Ok((receipts, mails))
 }
 
 /// Runs one port, number 0, for its owner, the one process: starts the driver, makes the steps in their order, and tells the port the end
 /// of the process. Whatever it tells, the driver comes back, and was stopped if it was started.
-pub fn run_port<D: Driver>(alloc: Global, driver: D, config: Config, steps: &[Step]) -> Ran<D>
+pub fn run_port<D: Driver, R: Wait>(
+    rt: &R,
+    alloc: Global,
+    driver: D,
+    config: Config,
+    steps: &[Step],
+) -> Ran<D>
     requires fresh { D.stage driver ≡ Life.Fresh }
     requires named { All (λ s. port_of s.act ≡ 0) steps.now }
     ensures kind { D.kind result.driver ≡ D.kind driver }
@@ -146,7 +152,7 @@ pub fn run_port<D: Driver>(alloc: Global, driver: D, config: Config, steps: &[St
     ensures stage { (D.stage result.driver ≡ Life.Fresh) ⊎ (D.stage result.driver ≡ Life.Stopped) }
     ensures opened { OnOk result.told (result.opened ≡ true) }
     ensures port { IfOk result.told (λ told. PortKeeps (record { number = 0; kind = D.kind driver; config = config; owner = 0 }) 1
-        (D.held result.driver) (reverse told.journal.rows)) }
+        (D.own result.driver) (reverse told.journal.rows)) }
     ensures pair { IfOk result.told (λ told. PairKeeps (record { number = 0; kind = D.kind driver; config = config; owner = 0 }) 0
         (reverse (asks_by steps.now 1)) (reverse told.journal.rows) (reverse told.receipts.items) told.mails.items) }
 {
@@ -160,7 +166,7 @@ pub fn run_port<D: Driver>(alloc: Global, driver: D, config: Config, steps: &[St
             };
         }
     };
-    let served = serve(alloc, &mut body, 0, 0, steps);
+    let served = serve(rt, alloc, &mut body, 0, 0, steps);
     body.end();
     let BodyEnd { driver, journal } = body.into_end();
     match served {

@@ -13,6 +13,7 @@ use gateway_report::{Cause, PortReport, ProcReport, Report};
 use gateway_script::{PortDecl, ProcessDecl, Script};
 use port_signal::{Items, Mails, NoMemory, Receipts};
 use std::alloc::Global;
+use std::sync::Wait;
 
 /// What is reported of processes that have no port.
 fn report_without_ports(alloc: Global, processes: &[ProcessDecl]) -> Result<Report, NoMemory>
@@ -71,14 +72,15 @@ fn report_of_port(
 }
 
 /// Makes the runs of a script: finds the driver of its port, has it serve, and reports. Each driver comes back to its place.
-pub fn make_report<D: Driver>(
+pub fn make_report<D: Driver, R: Wait>(
+    rt: &R,
     alloc: Global,
     script: &Script,
     hosts: &mut Vec<Hosted<D>>,
 ) -> Result<Report, Cause>
     requires { All (IsUnused D.stage) hosts.old.items }
     ensures back { AllCameBack D.kind D.stage D.faults hosts.old.items hosts.new.items }
-    ensures headline { IfOk result (λ report. Headline D.kind D.held script.now hosts.new.items report) }
+    ensures headline { IfOk result (λ report. Headline D.kind D.own script.now hosts.new.items report) }
     ensures ended { IfOk result (λ report. All HasEnded report.ports) }
     ensures cause { IfErr result (MakeFails (λ name. named_count D.kind name hosts.old.items) script.now) }
 {
@@ -99,7 +101,7 @@ pub fn make_report<D: Driver>(
                     handed: 0,
                 });
             };
-            let Ok(told) = serve_port(alloc, &mut hosts[at], port.config, script.steps()) else {
+            let Ok(told) = serve_port(rt, alloc, &mut hosts[at], port.config, script.steps()) else {
                 return Err(Cause::NoMemory);
             };
             let Ok(report) = report_of_port(alloc, port, process, told) else {

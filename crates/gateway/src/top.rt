@@ -17,6 +17,7 @@ use gateway_report::{Cause, Report, report_text};
 use gateway_script::{Script, ScriptFault, read_script};
 use outside::{FileFault, Files, Gate, PollSet, Sink};
 use std::alloc::Global;
+use std::sync::Wait;
 
 /// The most bytes of a script.
 const MAX_SCRIPT: u64 = 1_048_576;
@@ -87,7 +88,8 @@ fn write_report<K: Sink>(alloc: Global, out: &mut K, report: Report) -> Outcome
 }
 
 /// Runs the script that the words ask for, over drivers of any one type.
-fn run_words<D: Driver, F: Files, K: Sink>(
+fn run_words<D: Driver, F: Files, K: Sink, R: Wait>(
+    rt: &R,
     alloc: Global,
     words: &[String],
     files: &mut F,
@@ -102,7 +104,7 @@ fn run_words<D: Driver, F: Files, K: Sink>(
     ensures wrote { Wrote (K.written out.old) (K.written out.new) result.cause result.report }
     ensures back { AllCameBack D.kind D.stage D.faults hosts.old.items hosts.new.items }
     ensures headline { IfSome result.report (λ report. (plan : Plan) → Says (asked (map (λ w. string_bytes w) words.now)) (F.told files.old) plan
-        → Headline D.kind D.held plan hosts.new.items report) }
+        → Headline D.kind D.own plan hosts.new.items report) }
 {
     let name = match script_name(words) {
         Ok(name) => name,
@@ -112,7 +114,7 @@ fn run_words<D: Driver, F: Files, K: Sink>(
         Ok(script) => script,
         Err(cause) => return Outcome::without_report(cause),
     };
-    match make_report(alloc, &script, hosts) {
+    match make_report(rt, alloc, &script, hosts) {
         Ok(report) => write_report(alloc, out, report),
         Err(cause) => Outcome::without_report(cause),
     }
@@ -130,7 +132,8 @@ pub struct Ended<P, D = Box<dyn Driver + Send>> {
 }
 
 /// The run over drivers of any one type.
-fn run_hosted<D: Driver, F: Files, K: Sink, P>(
+fn run_hosted<D: Driver, F: Files, K: Sink, P, R: Wait>(
+    rt: &R,
     alloc: Global,
     words: &[String],
     files: &mut F,
@@ -150,11 +153,11 @@ fn run_hosted<D: Driver, F: Files, K: Sink, P>(
     ensures wrote { Wrote (K.written out.old) (K.written out.new) result.cause result.report }
     ensures back { AllCameBack D.kind D.stage D.faults drivers.items result.drivers.items }
     ensures headline { IfSome result.report (λ report. (plan : Plan) → Says (asked (map (λ w. string_bytes w) words.now)) (F.told files.old) plan
-        → Headline D.kind D.held plan result.drivers.items report) }
+        → Headline D.kind D.own plan result.drivers.items report) }
     ensures poll { result.poll ≡ Some poll }
 {
     let mut drivers = drivers;
-    let Outcome { cause, report } = run_words(alloc, words, files, out, &mut drivers);
+    let Outcome { cause, report } = run_words(rt, alloc, words, files, out, &mut drivers);
     Ended {
         status: cause.status(),
         cause,
@@ -169,9 +172,12 @@ fn run_hosted<D: Driver, F: Files, K: Sink, P>(
 /// The script is read from `files` and has at most 1,048,576 bytes; the report is written to `out`. Each driver serves at most one port,
 /// the first one that has its name. Neither the poll set nor the gate is used: the run is made by this thread alone.
 ///
+/// The call may wait: a port whose driver stays busy keeps the end of its owner waiting, and is run on. What is promised holds if it
+/// returns.
+///
 /// Whatever the status, each driver comes back in its place, fresh or stopped.
-pub fn gateway<F: Files, K: Sink, P: PollSet + Send, G: Gate + Sync, R: Sync>(
-    _rt: &R,
+pub fn gateway<F: Files, K: Sink, P: PollSet + Send, G: Gate + Sync, R: Sync + Wait>(
+    rt: &R,
     alloc: Global,
     words: &[String],
     files: &mut F,
@@ -192,8 +198,8 @@ pub fn gateway<F: Files, K: Sink, P: PollSet + Send, G: Gate + Sync, R: Sync>(
     ensures wrote { Wrote (K.written out.old) (K.written out.new) result.cause result.report }
     ensures back { AllCameBack (λ b. kind b) (λ b. stage b) (λ b. (Driver-box b).faults b.value) drivers.items result.drivers.items }
     ensures headline { IfSome result.report (λ report. (plan : Plan) → Says (asked (map (λ w. string_bytes w) words.now)) (F.told files.old) plan
-        → Headline (λ b. kind b) (λ b. held b) plan result.drivers.items report) }
+        → Headline (λ b. kind b) (λ b. own b) plan result.drivers.items report) }
     ensures poll { result.poll ≡ Some poll }
 {
-    run_hosted(alloc, words, files, out, drivers, poll)
+    run_hosted(rt, alloc, words, files, out, drivers, poll)
 }

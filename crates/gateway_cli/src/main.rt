@@ -1,7 +1,7 @@
 //! The program `gateway`: it runs a script of processes and ports, and prints the report.
 #![tactic(auto)]
 
-use driver_entry::{Driver, Echo};
+use driver_entry::{Driver, Echo, Store, Tally, Valve, ValveSoft};
 use gateway::{Cause, Ended, cause_text, gateway, host_drivers};
 use gateway_script::ScriptFault;
 use no_memory::NoMemory;
@@ -10,6 +10,7 @@ use std::alloc::Global;
 use std::env::{Env, FillError};
 use std::process::ExitCode;
 use std::rt::Files;
+use std::sync::Wait;
 
 /// How many drivers of each kind there are: as many as a script may have ports.
 const DRIVERS: usize = 32;
@@ -55,7 +56,7 @@ fn say(rt: &impl Eprint, alloc: Global, cause: &Cause) {
 }
 
 /// Runs what the command line asks for, and returns the status.
-fn run<R: AllocGlobal + Clone + Drop + Env + Eprint + Files + Print + Sync>(
+fn run<R: AllocGlobal + Clone + Drop + Env + Eprint + Files + Print + Sync + Wait>(
     rt: &R,
 ) -> Result<u8, NoMemory> {
     let alloc = rt.alloc();
@@ -64,6 +65,14 @@ fn run<R: AllocGlobal + Clone + Drop + Env + Eprint + Files + Print + Sync>(
     for _ in 0..DRIVERS {
         let echo: Box<dyn Driver + Send> = Box::new(alloc, Echo::new())?;
         drivers.push(echo)?;
+        let tally: Box<dyn Driver + Send> = Box::new(alloc, Tally::new())?;
+        drivers.push(tally)?;
+        let store: Box<dyn Driver + Send> = Box::new(alloc, Store::new())?;
+        drivers.push(store)?;
+        let valve: Box<dyn Driver + Send> = Box::new(alloc, Valve::new())?;
+        drivers.push(valve)?;
+        let soft: Box<dyn Driver + Send> = Box::new(alloc, ValveSoft::new())?;
+        drivers.push(soft)?;
     }
     let drivers = host_drivers(alloc, drivers)?;
     let mut files = RealFiles::new(rt.clone()?);

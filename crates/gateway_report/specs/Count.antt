@@ -2,7 +2,7 @@
 use Rattle.std.specs.Prelude.{ℕ, ◌==◌, List, [], Bool, true, false, ◌&&◌, length, count_by, sum_by}
 use Rattle.std.specs.List.{concat}
 use Rattle.port_signal.specs.declared.signal.Signal.{Signal}
-use Rattle.port_signal.specs.declared.signal.Signal.TheVariants.{Command, Close, Gone}
+use Rattle.port_signal.specs.declared.signal.Signal.TheVariants.{Command, Control, Call, Close, Gone}
 use Rattle.port_signal.specs.declared.row.Row.{Row}
 use Rattle.port_signal.specs.declared.row.Row.TheVariants.{Handled, Late, Mark}
 use Rattle.port_signal.specs.declared.receipt.Outcome.{Outcome}
@@ -10,18 +10,15 @@ use Rattle.port_signal.specs.declared.receipt.Outcome.TheVariants.{Accepted, Clo
 use Rattle.port_signal.specs.declared.receipt.Receipt.{Receipt}
 use Rattle.port_signal.specs.declared.mail.Mail.{Mail}
 use Rattle.port_signal.specs.declared.mail.Mail.TheVariants.{Message, Reply}
+use Rattle.port_signal.specs.Signals.{is_command}
 use Rattle.port_signal.specs.History.{sender_number}
 use Rattle.gateway_script.specs.declared.report.PortReport.{PortReport}
-
--- the signal is a command
-abbrev pub is_command : Signal → Bool
-is_command (Command payload) = true
-is_command Close = false
-is_command (Gone reason) = false
 
 -- the data of a command, joined
 abbrev pub command_data : Signal → List ℕ
 command_data (Command payload) = concat payload
+command_data (Control op bytes) = []
+command_data (Call op bytes) = []
 command_data Close = []
 command_data (Gone reason) = []
 

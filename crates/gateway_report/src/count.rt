@@ -1,6 +1,7 @@
 ghost use Rattle.std.specs.Prelude.{◌≡◌, ◌+◌, length, IfOk};
 ghost use Rattle.std.specs.List.{concat};
-ghost use Rattle.gateway_report.specs.Count.{is_command, command_data, is_handled_command, is_late_command, is_command_of, driver_data, handled_commands, late_commands, handled_bytes, commands_of, is_dropped, is_suspended, dropped_commands, suspended_commands, is_data, data_messages};
+ghost use Rattle.port_signal.specs.Signals.{is_command};
+ghost use Rattle.gateway_report.specs.Count.{command_data, is_handled_command, is_late_command, is_command_of, driver_data, handled_commands, late_commands, handled_bytes, commands_of, is_dropped, is_suspended, dropped_commands, suspended_commands, is_data, data_messages};
 
 use gateway_script::PortReport;
 use no_memory::NoMemory;
@@ -131,7 +132,7 @@ fn signal_bytes(signal: &Signal) -> Result<u64, NoMemory>
 {
     match signal {
         Signal::Command(payload) => payload_bytes(payload),
-        Signal::Close | Signal::Gone(_) => Ok(0),
+        Signal::Control { .. } | Signal::Call { .. } | Signal::Close | Signal::Gone(_) => Ok(0),
     }
 }
 

@@ -27,7 +27,7 @@ fn row_end<'a>(port: &PortReport, row: &'a Row) -> Option<&'a str>
         return None;
     };
     match &task.signal {
-        Signal::Command(_) => None,
+        Signal::Command(_) | Signal::Control { .. } | Signal::Call { .. } => None,
         Signal::Close => Some("normal"),
         Signal::Gone(reason) if *from == Sender::Process(port.owner) => Some(told(reason)),
         Signal::Gone(_) => None,

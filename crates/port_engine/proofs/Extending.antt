@@ -1,6 +1,7 @@
 -- A handled row and a late one keep the laws.
-use Rattle.std.proofs.Common.{◌≡◌, ℕ, List, [], ◌++◌, length, Bool, true, cond, Option, Some, None, is_some, is_none, refl, sym, ap, ◌∙◌}
+use Rattle.std.proofs.Common.{◌≡◌, ℕ, List, [], ◌∷◌, ◌++◌, length, Bool, true, false, not, ◌||◌, cond, Option, Some, None, is_some, is_none, refl, sym, ap, ◌∙◌, append_assoc, subst}
 use Rattle.std.proofs.lemmas.List.{append-nil}
+use Rattle.task_queue.specs.declared.item.Item.{Item}
 use Rattle.task_queue.specs.Items.{of}
 use Rattle.port_signal.specs.declared.signal.Sender.TheVariants.{Process}
 use Rattle.port_signal.specs.declared.signal.Task.{Task}
@@ -8,60 +9,101 @@ use Rattle.port_signal.specs.declared.row.Outside.{Outside}
 use Rattle.port_signal.specs.declared.row.Effect.{Effect}
 use Rattle.port_signal.specs.declared.row.Row.{Row}
 use Rattle.port_signal.specs.declared.row.Row.TheVariants.{Handled}
-use Rattle.port_signal.specs.History.{items, item}
+use Rattle.port_signal.specs.Signals.{is_command}
+use Rattle.port_signal.specs.History.{items, item, is_busy}
 use Rattle.driver_entry.specs.Context.{Context}
-use Rattle.driver_entry.specs.Drivers.{Kind, Held, holds}
-use Rattle.driver_entry.specs.History.{Opening, closing_reason, end_reason, is_open, marks_due, calls, signal_calls, effects_after}
-use Rattle.port_engine.specs.Made.{Called, WentOn, Extends}
+use Rattle.driver_entry.specs.Drivers.{Kind, Call, Own, holds}
+use Rattle.driver_entry.specs.Driven.{held_of}
+use Rattle.driver_entry.specs.History.{Opening, LawfulEffects, busy_after, busy_marks, closing_reason, closing_calls, close_reason, is_open, is_stopped, has_stop, marks_due, calls, signal_calls, effects_after}
+use Rattle.port_engine.specs.Late.{late_row}
+use Rattle.port_engine.specs.Made.{Called, Closes, ShutDown, Extends}
+use Rattle.port_engine.proofs.Calls.{effects-append, answered-append, stop-append, no-stop}
 
 -- an open port stays open exactly where the row has no reason to close it
-none-after : (old new : Option (List ℕ)) → is_none old ≡ true → is_none (cond (is_some old) old new) ≡ is_none new
-none-after None new e = refl
+none-after : (old new : Option (List ℕ)) → is_none old ≡ true → is_none (cond (is_some old) old new) ≡ cond (is_some new) false (is_none old)
+none-after None None e = refl
+none-after None (Some reason) e = refl
 none-after (Some reason) new e = absurd cc
 
--- the row of a handled task, whose signal has this reason to close the port
-Extends-handled : (port : Opening) (older : List Row) (sender seq : ℕ) (task : Task) (done : Context) (before between after : Held)
-    (reason : Option (List ℕ)) → closing_reason port older (Process sender) task.signal ≡ reason
-    → Called port.kind (Process sender) task.signal before between done → WentOn port.kind (is_some reason) between after
-    → is_open port older ≡ true → marks_due port older ≡ [] → seq ≡ length (of sender (items older))
-    → before ≡ holds port.kind port.config (calls port older)
-    → Extends port older (item (Process sender) seq task) (Handled (Process sender) seq task done.outside done.effects) (is_some reason) after
-Extends-handled port older sender seq task done before between after None e called went opened due order held =
+or-assoc : (a b c : Bool) → ((a || b) || c) ≡ (a || (b || c))
+or-assoc true b c = refl
+or-assoc false b c = refl
+
+-- the row of a handled task
+pub Extends-handled : (port : Opening) (older : List Row) (sender seq : ℕ) (task : Task) (done last : Context) (before between after : Own) (queue : List ℕ)
+    (stops busy : Bool) → Called port.kind (Process sender) task.signal before between queue done
+    → ShutDown port.kind (closing_reason port older (Process sender) task.signal) stops between after done last → done.caller ≡ sender
+    → is_open port older ≡ true → marks_due port older ≡ [] → is_busy older ≡ busy → (is_command task.signal ≡ true → busy ≡ false)
+    → seq ≡ length (of sender (items older)) → held_of before queue ≡ holds port.kind port.config (calls port older)
+    → Extends port older (item (Process sender) seq task) (Handled (Process sender) seq task last.outside last.effects)
+        (is_some (closing_reason port older (Process sender) task.signal)) stops (busy_after busy last.effects) after last.queue
+Extends-handled port older sender seq task done last before between after queue stops busy called shut caller opened due b free order held =
+    let reason : Option (List ℕ) = closing_reason port older (Process sender) task.signal in
     let f = called.follows port.config (calls port older) held in
-    record {
-      lawful = (record { order = order; lifetime = opened; marks = due }, record { effects = rw e f.1; answered = rw e f.2 });
+    let call : List Call = signal_calls (Process sender) done.outside task.signal in
+    let earlier : List Call = call ++ calls port older in
+    let closing : List Call = closing_calls port sender reason earlier in
+    let s : Closes port closing stops earlier after done last =
+    subst (λ n. Closes port (closing_calls port n reason earlier) stops earlier after done last) caller (shut.follows port earlier refl f.0) in
+    let laws : LawfulEffects port older (Handled (Process sender) seq task done.outside last.effects) last.effects = record {
+      effects = s.effects ∙ (ap (λ es. es ++ effects_after port.kind port.config earlier closing) f.1 ∙ sym (effects-append port.kind port.config (calls port older) closing call));
+      answered = answered-append port.kind port.config (calls port older) closing call f.2 s.answered;
+    } in
+    subst (λ (out : List Outside). Extends port older (item (Process sender) seq task) (Handled (Process sender) seq task out last.effects) (is_some reason) stops (busy_after busy last.effects) after last.queue) (sym s.outside) (record {
+      lawful = (record { order = order; lifetime = opened; marks = due }, λ c. b ∙ free c, laws);
       task = refl;
       marks = refl;
-      opens = none-after (end_reason port older) (closing_reason port older (Process sender) task.signal) opened ∙ (ap is_none e ∙ sym opened);
-      due = rw e refl;
-      holds = rw e (went ∙ f.0);
-    }
-Extends-handled port older sender seq task done before between after (Some reason) e called went opened due order held =
-    let f = called.follows port.config (calls port older) held in
-    let w = went.follows port.config (signal_calls (Process sender) done.outside task.signal ++ calls port older) port.owner f.0 in
-    record {
-      lawful = (
-        record { order = order; lifetime = opened; marks = due },
-        record { effects = rw e (f.1 ∙ (sym (append-nil _) ∙ ap (λ xs. effects_after port.kind port.config (calls port older) (signal_calls (Process sender) done.outside task.signal) ++ xs) (sym w.1))); answered = rw e (w.2, f.2) },
-      );
-      task = refl;
-      marks = refl;
-      opens = none-after (end_reason port older) (closing_reason port older (Process sender) task.signal) opened ∙ ap is_none e;
-      due = rw e refl;
-      holds = rw e w.0;
-    }
+      same_busy = refl;
+      opens = none-after (close_reason port older) reason opened;
+      stopped = stop-append (closing ++ call) (calls port older) ∙ ap (λ x. x || has_stop (calls port older)) (stop-append closing call ∙ (ap (λ x. has_stop closing || x) (no-stop (Process sender) done.outside task.signal) ∙ (or-false (has_stop closing) ∙ s.stopped)));
+      due = rw b (ap (λ ms. busy_marks busy (busy_after busy last.effects) ++ ms) (closed-as reason));
+      holds = s.holds ∙ ap (λ cs. holds port.kind port.config cs) (sym (append_assoc closing call (calls port older)));
+    }) where
+  or-false : (x : Bool) → (x || false) ≡ x
+  or-false true = refl
+  or-false false = refl
+
+  closed-as : (r : Option (List ℕ)) → Rattle.driver_entry.specs.History.closed_marks r ≡ cond (is_some r) (Rattle.port_signal.specs.declared.row.MarkKind.TheVariants.Closed ∷ []) []
+  closed-as None = refl
+  closed-as (Some r) = refl
 
 -- the same from what the calls of the driver ensure
-pub handled-extends : (port : Opening) (older : List Row) (sender seq : ℕ) (task : Task) (kind next_kind : Kind) (before between after : Held)
-    (fresh done : Context) (outside : List Outside) (effects : List Effect) (closes : Bool)
-    → fresh ≡ record { caller = sender; outside = []; effects = [] }
-    → Called kind (Process fresh.caller) task.signal before between done
-    → next_kind ≡ kind → WentOn next_kind closes between after
-    → closes ≡ is_some (closing_reason port older (Process sender) task.signal)
-    → outside ≡ done.outside → effects ≡ done.effects → port.kind ≡ kind
-    → is_open port older ≡ true → marks_due port older ≡ [] → seq ≡ length (of sender (items older))
-    → before ≡ holds port.kind port.config (calls port older)
-    → Extends port older (item (Process sender) seq task) (Handled (Process sender) seq task outside effects) closes after
-handled-extends port older sender seq task kind next_kind before between after fresh done outside effects closes starts called kinds went reason o f k opened due order held =
-    rw (reason, o, f) (
-    Extends-handled port older sender seq task done before between after _ refl (rw k (rw starts at called)) (rw (k, ← kinds, ← reason) went) opened due order held)
+pub handled-extends : (port : Opening) (older : List Row) (sender seq : ℕ) (task : Task) (kind next_kind : Kind) (before between after : Own) (fresh done last : Context)
+    (queue last_queue : List ℕ) (reason : Option (List ℕ)) (closes stops busy now : Bool) (outside : List Outside) (effects : List Effect)
+    → fresh ≡ record { caller = sender; queue = queue; outside = []; effects = [] }
+    → Called kind (Process fresh.caller) task.signal before between fresh.queue done → done.caller ≡ fresh.caller
+    → next_kind ≡ kind → ShutDown next_kind reason stops between after done last
+    → reason ≡ closing_reason port older (Process sender) task.signal → closes ≡ is_some reason
+    → last_queue ≡ last.queue → outside ≡ last.outside → effects ≡ last.effects → now ≡ busy_after busy effects → port.kind ≡ kind
+    → is_open port older ≡ true → marks_due port older ≡ [] → is_busy older ≡ busy → (is_command task.signal ≡ true → busy ≡ false)
+    → seq ≡ length (of sender (items older)) → held_of before queue ≡ holds port.kind port.config (calls port older)
+    → Extends port older (item (Process sender) seq task) (Handled (Process sender) seq task outside effects) closes stops now after last_queue
+handled-extends port older sender seq task kind next_kind before between after fresh done last queue last_queue reason closes stops busy now outside effects
+    starts called caller kinds shut why closing q o f n k opened due b free order held =
+    let context : Context = record { caller = sender; queue = queue; outside = []; effects = [] } in
+    let called' : Called port.kind (Process sender) task.signal before between queue done =
+    subst (λ m. Called m (Process sender) task.signal before between queue done) (sym k) (subst (λ (x : Context). Called kind (Process x.caller) task.signal before between x.queue done) starts called) in
+    let shut' : ShutDown port.kind (closing_reason port older (Process sender) task.signal) stops between after done last =
+    subst (λ r. ShutDown port.kind r stops between after done last) why (subst (λ m. ShutDown m reason stops between after done last) (kinds ∙ sym k) shut) in
+    let whole = Extends-handled port older sender seq task done last before between after queue stops busy called' shut' (caller ∙ ap (λ x. x.caller) starts) opened due b free order held in
+    rw (closing, n, f, o, q, why) whole
+
+same-busy : (busy : Bool) → busy_marks busy busy ≡ []
+same-busy true = refl
+same-busy false = refl
+
+-- the row of a late task
+pub Extends-late : (port : Opening) (older : List Row) (x : Item Task) (own : Own) (queue : List ℕ) (busy : Bool)
+    → is_open port older ≡ false → marks_due port older ≡ [] → is_busy older ≡ busy → x.seq ≡ length (of x.sender (items older))
+    → held_of own queue ≡ holds port.kind port.config (calls port older)
+    → Extends port older x (late_row x) false false busy own queue
+Extends-late port older x own queue busy closed due b order held = record {
+  lawful = record { order = order; lifetime = closed; marks = due };
+  task = refl;
+  marks = refl;
+  same_busy = refl;
+  opens = refl;
+  stopped = refl;
+  due = rw b (sym (ap (λ ms. ms ++ []) (same-busy busy)));
+  holds = held;
+}

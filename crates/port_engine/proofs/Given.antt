@@ -11,11 +11,12 @@ use Rattle.port_signal.specs.declared.signal.Task.{Task}
 use Rattle.port_signal.specs.declared.row.Row.{Row}
 use Rattle.port_signal.specs.History.{items}
 use Rattle.driver_entry.specs.declared.life.Life.{Life}
-use Rattle.driver_entry.specs.Drivers.{Held}
+use Rattle.driver_entry.specs.Drivers.{Own}
 use Rattle.driver_entry.specs.History.{Opening}
 use Rattle.port_engine.specs.Box.{Box}
-use Rattle.port_engine.specs.Order.{InOrder, SendersBelow}
-use Rattle.port_engine.specs.Body.{Sound}
+use Rattle.waiting_list.specs.Waiting.{Waiting}
+use Rattle.waiting_list.specs.Order.{InOrder, SendersBelow}
+use Rattle.port_engine.specs.Body.{Flags, Sound}
 
 one : (b : Bool) (x : Item Task) → length (map (λ i. i.value) (cond b (x ∷ []) [])) ≡ cond b 1 0
 one true x = refl
@@ -42,27 +43,36 @@ counted : (given : List ℕ) (sender seq n : ℕ) (xs : List (Item Task)) (x : I
     → slice_index given n ≡ length (of n xs) → slice_index (slice_set given sender (seq + 1)) n ≡ length (of n (xs ++ x ∷ []))
 counted given sender seq n xs x s h q e = let l = length-of-push n xs x in grind (arith, common_steps, nat_tests)
 
-pub Sound-give : (port : Opening) (stage : Life) (held : Held) (past : List Row) (queue next_queue : List (Item Task)) (mail : List Box) (given : List ℕ)
-    (closed stopped broken : Bool) (x : Item Task)
-    → Sound port stage held past queue mail given closed stopped broken → broken ≡ false → x.sender < length mail → x.seq ≡ slice_index given x.sender
-    → next_queue ≡ queue ++ x ∷ []
-    → Sound port stage held past next_queue mail (slice_set given x.sender (x.seq + 1)) closed stopped broken
-Sound-give port stage held past queue next_queue mail given closed stopped broken x s b h q e = rw e (record {
-  lawful = s.lawful;
-  settled = s.settled;
-  opens = s.opens;
-  marked = s.marked;
-  life = s.life;
-  ended = s.ended;
-  runs = s.runs;
-  holds = s.holds;
-  order = λ _. InOrder-push (items past) queue x (s.order b) (q ∙ s.numbers b x.sender (rw s.places h));
-  numbers = λ _ n l.
-      counted given x.sender x.seq n (items past ++ queue) x refl (rw s.places h) q (s.numbers b n (rw (length-set given x.sender (x.seq + 1)) at l))
-      ∙ ap (λ is. length (of n is)) (append_assoc (items past) queue (x ∷ []));
-  places = length-set given x.sender (x.seq + 1) ∙ s.places;
-  gone = s.gone;
-  owner = s.owner;
-  senders = s.senders;
-  waiting = SendersBelow-push (length mail) queue x s.waiting h;
-})
+pub Sound-give : (port : Opening) (stage : Life) (own : Own) (queued : List ℕ) (past : List Row) (waiting : Waiting) (queue next_queue : List (Item Task)) (mail : List Box) (given : List ℕ)
+    (flags : Flags) (x : Item Task)
+    → Sound port stage own queued past waiting queue mail given flags → x.sender < length mail → x.seq ≡ slice_index given x.sender
+    → flags.broken ≡ false → next_queue ≡ queue ++ x ∷ []
+    → Sound port stage own queued past waiting next_queue mail (slice_set given x.sender (x.seq + 1)) flags
+Sound-give port stage own queued past waiting queue next_queue mail given flags x s h q b e =
+    let more : waiting.items ++ (queue ++ x ∷ []) ≡ (waiting.items ++ queue) ++ x ∷ [] = sym (append_assoc waiting.items queue (x ∷ [])) in
+    rw (e) (record {
+      lawful = s.lawful;
+      settled = s.settled;
+      opens = s.opens;
+      busy = s.busy;
+      count = s.count;
+      few = s.few;
+      closed_bit = s.closed_bit;
+      busy_bit = s.busy_bit;
+      life = s.life;
+      ended = s.ended;
+      runs = s.runs;
+      idle = s.idle;
+      holds = s.holds;
+      order = λ p. rw more (InOrder-push (items past) (waiting.items ++ queue) x (s.order b) (q ∙ s.numbers b x.sender (rw s.places h)));
+      numbers = λ p n l.
+          counted given x.sender x.seq n (items past ++ (waiting.items ++ queue)) x refl (rw s.places h) q (s.numbers b n (rw (length-set given x.sender (x.seq + 1)) at l))
+          ∙ ap (λ is. length (of n is)) (append_assoc (items past) (waiting.items ++ queue) (x ∷ []) ∙ ap (λ ts. items past ++ ts) (sym more));
+      places = length-set given x.sender (x.seq + 1) ∙ s.places;
+      seats = s.seats;
+      gone = s.gone;
+      owner = s.owner;
+      senders = s.senders;
+      waiters = s.waiters;
+      comers = SendersBelow-push (length mail) queue x s.comers h;
+    })

@@ -1,4 +1,9 @@
+pub mod Calls
 pub mod Extending
+pub mod Given
+pub mod Growing
+pub mod Moving
 pub mod Posts
 pub mod Steps
-pub mod Given
+pub mod Turns
+pub mod Waited

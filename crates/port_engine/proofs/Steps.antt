@@ -1,182 +1,330 @@
--- What one step leaves: the invariant of a body, and what a turn promises.
-use Rattle.std.proofs.Common.{arith, ◌≡◌, ℕ, ◌<◌, ◌≤◌, List, [], ◌∷◌, ◌++◌, length, take, drop, Bool, true, false, cond, ◌||◌, refl, sym, ap, ◌∙◌, subst, append_assoc}
-use Rattle.std.specs.Prelude.{reverse, not, slice_index}
-use Rattle.std.proofs.lemmas.List.{append-nil}
-use Rattle.std.proofs.lemmas.List.{reverse-append}
+-- One step keeps what always holds of a body.
+use Rattle.std.proofs.Common.{◌≡◌, ℕ, ◌+◌, ◌*◌, ◌^◌, ◌<◌, ◌≤◌, ◌⊎◌, List, [], ◌∷◌, ◌++◌, length, reverse, map, Bool, true, false, not, ◌||◌, ◌&&◌, cond, get_or, refl, sym, ap, ◌∙◌, append_assoc, length-append, arith, subst, inl, inr}
+use Rattle.std.specs.Prelude.{slice_index}
+use Rattle.std.proofs.lemmas.List.{append-nil, reverse-append}
 use Rattle.task_queue.specs.declared.item.Item.{Item}
 use Rattle.task_queue.specs.Items.{of}
 use Rattle.port_signal.specs.declared.signal.Task.{Task}
 use Rattle.port_signal.specs.declared.row.Row.{Row}
-use Rattle.port_signal.specs.declared.row.Row.TheVariants.{Mark}
-use Rattle.port_signal.specs.declared.row.MarkKind.TheVariants.{Closed}
-use Rattle.port_signal.specs.declared.mail.Mail.{Mail}
-use Rattle.port_signal.specs.History.{items}
+use Rattle.port_signal.specs.declared.row.MarkKind.{MarkKind}
+use Rattle.port_signal.specs.Signals.{is_command}
+use Rattle.port_signal.specs.History.{items, marks, is_busy, busy_by, closed_by}
 use Rattle.driver_entry.specs.declared.life.Life.{Life}
 use Rattle.driver_entry.specs.declared.life.Life.TheVariants.{Started, Stopped}
-use Rattle.driver_entry.specs.Drivers.{Held}
-use Rattle.driver_entry.specs.History.{Opening, marks_due}
-use Rattle.driver_entry.specs.Mail.{Post, row_posts, mail_for, mails, is_gone, gone_after}
+use Rattle.driver_entry.specs.Drivers.{Own, holds}
+use Rattle.driver_entry.specs.Driven.{held_of}
+use Rattle.driver_entry.specs.History.{Opening, Lawful, is_open, is_stopped, has_stop, marks_due, busy_marks, calls}
+use Rattle.waiting_list.specs.Waiting.{Waiting, GoesFirst, NoneGoes, has_sender, may_go}
+use Rattle.waiting_list.specs.Order.{InOrder, SendersBelow}
+use Rattle.waiting_list.proofs.Leaving.{InOrder-first, InOrder-lane, of-first, of-lane}
+use Rattle.waiting_list.proofs.Senders.{SendersBelow-join, SendersBelow-front, SendersBelow-back, SendersBelow-first, SendersBelow-one_more}
 use Rattle.port_engine.specs.Box.{Box}
-use Rattle.port_engine.specs.Boxes.{box_at, Sends}
-use Rattle.port_engine.specs.Order.{InOrder, SendersBelow}
-use Rattle.port_engine.proofs.Given.{SendersBelow-push}
-use Rattle.port_engine.specs.Made.{Extends, with_mark}
-use Rattle.port_engine.specs.Body.{View, Sound, Turned, history_of, given_of}
+use Rattle.port_engine.specs.Boxes.{Moves}
+use Rattle.port_engine.specs.Late.{WereLate, late_rows}
+use Rattle.port_engine.specs.Made.{Extends, row_of_mark}
+use Rattle.port_engine.specs.Next.{CameToWait, GoesOut, must_wait}
+use Rattle.port_engine.specs.Body.{Flags, Sound}
+use Rattle.port_engine.proofs.Growing.{marked, with_late, closing, reverse-marked, reverse-late, Marked, Marked-all, HasLate, HasLate-all, busy-marked, busy-by, closed-by}
 
--- the history with the row of a task
-abbrev pub marked : Bool → Row → List Row → List Row
-marked true row past = Mark Closed ∷ row ∷ past
-marked false row past = row ∷ past
+or-left : (a b : Bool) → (a || b) ≡ false → a ≡ false
+or-left true b e = absurd cc
+or-left false b e = refl
 
-reverse-with_mark : (closes : Bool) (rows : List Row) (row : Row) → reverse (rows ++ with_mark closes row) ≡ marked closes row (reverse rows)
-reverse-with_mark true rows row = reverse-append rows (row ∷ Mark Closed ∷ [])
-reverse-with_mark false rows row = reverse-append rows (row ∷ [])
+or-right : (a b : Bool) → (a || b) ≡ false → b ≡ false
+or-right true b e = absurd cc
+or-right false b e = e
 
-or-false : (b : Bool) → (b || false) ≡ b
-or-false true = refl
-or-false false = refl
+and-not : (a b : Bool) → (a && not b) ≡ true → b ≡ false
+and-not true true e = absurd cc
+and-not true false e = refl
+and-not false b e = absurd cc
 
--- the numbers of all tasks stay when one gets its row
-moved : (past : List Row) (row : Row) (item : Item Task) (queue : List (Item Task)) → items (row ∷ past) ≡ items past ++ item ∷ []
-    → items (row ∷ past) ++ queue ≡ items past ++ item ∷ queue
-moved past row item queue e = ap (λ xs. xs ++ queue) e ∙ append_assoc (items past) (item ∷ []) queue
+-- a task that goes out, behind what is done: its number is the next of its sender, and the others keep theirs
+pub record Out (done waiting queue rest next : List (Item Task)) (x : Item Task) : Type 0 where
+  pub seq : x.seq ≡ length (of x.sender done)
+  pub order : InOrder (done ++ x ∷ []) (rest ++ next)
+  pub same : (n : ℕ) → of n ((done ++ x ∷ []) ++ (rest ++ next)) ≡ of n (done ++ (waiting ++ queue))
 
-Sound-row : (port : Opening) (stage next_stage : Life) (held next_held : Held) (past : List Row) (item : Item Task) (queue : List (Item Task))
-    (mail next_mail : List Box) (given : List ℕ) (closed stopped broken closes posted : Bool) (row : Row) (posts : List Post)
-    → Sound port stage held past (item ∷ queue) mail given closed stopped broken → broken ≡ false
-    → Extends port past item row closes next_held → (closes ≡ true → closed ≡ false) → next_stage ≡ cond closes Stopped stage
-    → Sends posted mail next_mail row posts
-    → Sound port next_stage next_held (marked closes row past) queue next_mail given (closed || closes) (stopped || closes) (not posted)
-Sound-row port stage next_stage held next_held past item queue mail next_mail given closed stopped broken true posted row posts s b e once st sent =
-    let c : closed ≡ false = once refl in
-    let t : stopped ≡ false = s.runs b ∙ c in
-    record {
-      lawful = (e.due ∙ ap (λ ds. Closed ∷ drop 1 ds) (sym e.due), (e.lawful, s.lawful));
-      settled = ap (drop 1) e.due;
-      opens = rw c e.opens;
-      marked = rw c (ap (λ ms. ms ++ Closed ∷ []) (e.marks ∙ (rw c at s.marked)));
-      life = rw t st;
-      ended = λ _. rw t refl;
-      runs = λ _. rw (c, t) refl;
-      holds = λ _. e.holds;
-      order = λ _. rw e.task ((s.order b).1);
-      numbers = λ _ n h. s.numbers b n h ∙ ap (λ is. length (of n is)) (sym (moved past row item queue e.task));
-      places = s.places ∙ sym sent.len;
-      gone = λ n h. sent.gone n (rw (← sent.len) h) ∙ ap (gone_after n row) (s.gone n (rw (← sent.len) h));
-      owner = rw sent.len s.owner;
-      senders = rw (sent.len, e.task) (SendersBelow-push (length mail) (items past) item s.senders s.waiting.0);
-      waiting = rw sent.len s.waiting.1;
-    }
-Sound-row port stage next_stage held next_held past item queue mail next_mail given closed stopped broken false posted row posts s b e once st sent =
-    record {
-      lawful = (e.lawful, s.lawful);
-      settled = e.due;
-      opens = rw (or-false closed) (e.opens ∙ s.opens);
-      marked = rw (or-false closed) (e.marks ∙ s.marked);
-      life = rw (or-false stopped) (st ∙ s.life);
-      ended = rw (or-false stopped, or-false closed) s.ended;
-      runs = λ _. rw (or-false stopped, or-false closed) (s.runs b);
-      holds = λ _. e.holds;
-      order = λ _. rw e.task ((s.order b).1);
-      numbers = λ _ n h. s.numbers b n h ∙ ap (λ is. length (of n is)) (sym (moved past row item queue e.task));
-      places = s.places ∙ sym sent.len;
-      gone = λ n h. sent.gone n (rw (← sent.len) h) ∙ ap (gone_after n row) (s.gone n (rw (← sent.len) h));
-      owner = rw sent.len s.owner;
-      senders = rw (sent.len, e.task) (SendersBelow-push (length mail) (items past) item s.senders s.waiting.0);
-      waiting = rw sent.len s.waiting.1;
-    }
+alone : (busy closed : Bool) (waiting : List (Item Task)) (x : Item Task) → (closed ≡ true → waiting ≡ []) → (closed ≡ false → must_wait busy waiting x ≡ false)
+    → has_sender x.sender waiting ≡ false
+alone busy true waiting x idle free = rw (idle refl) refl
+alone busy false waiting x idle free = or-left (has_sender x.sender waiting) (busy && is_command x.value.signal) (free refl)
 
--- the invariant after a step, from what its calls ensure
-pub Sound-step : (port : Opening) (stage next_stage : Life) (held next_held : Held) (rows next_rows : List Row) (item : Item Task) (queue next_queue : List (Item Task))
-    (mail next_mail : List Box) (given : List ℕ) (closed stopped broken closes posted : Bool) (row : Row) (posts : List Post)
-    → Sound port stage held (reverse rows) queue mail given closed stopped broken → broken ≡ false → queue ≡ item ∷ next_queue
-    → Extends port (reverse rows) item row closes next_held → (closes ≡ true → closed ≡ false) → next_stage ≡ cond closes Stopped stage
-    → next_rows ≡ rows ++ with_mark closes row → Sends posted mail next_mail row posts
-    → Sound port next_stage next_held (reverse next_rows) next_queue next_mail given (closed || closes) (stopped || closes) (not posted)
-Sound-step port stage next_stage held next_held rows next_rows item queue next_queue mail next_mail given closed stopped broken closes posted row posts s b q e once st r sent =
-    rw (r, reverse-with_mark closes rows row)
-    (Sound-row port stage next_stage held next_held (reverse rows) item next_queue mail next_mail given closed stopped broken closes posted row posts
-    (rw q at s) b e once st sent)
+pub Out-by : (busy closed : Bool) (done waiting queue rest next : List (Item Task)) (x : Item Task) → (closed ≡ true → waiting ≡ [])
+    → GoesOut busy closed waiting queue rest next x → InOrder done (waiting ++ queue) → Out done waiting queue rest next x
+Out-by busy closed done waiting queue rest next x idle (inl (g, q)) order =
+    let o = InOrder-first busy done waiting queue x rest g order in
+    rw q (record { seq = o.0; order = o.1; same = λ n. of-first n busy done waiting queue x rest g })
+Out-by busy closed done waiting queue rest next x idle (inr (none, q, w, free)) order =
+    let a = alone busy closed waiting x idle free in
+    let o = InOrder-lane done waiting next x a (subst (λ ts. InOrder done (waiting ++ ts)) q order) in
+    rw (q, w) (record { seq = o.0; order = o.1; same = λ n. of-lane n done waiting next x a })
 
-unless : Bool → ℕ → List Post → List Mail
-unless gone process posts = cond gone [] (mail_for process posts)
+-- a command goes out only where the port isn't busy
+not-both : (busy command : Bool) → (busy && command) ≡ false → command ≡ true → busy ≡ false
+not-both true true e c = absurd cc
+not-both true false e c = absurd cc
+not-both false command e c = refl
 
--- what a process was sent, after the row of a task
-mails-row : (gone : Bool) (old more : List Mail) → cond gone old (old ++ more) ≡ old ++ cond gone [] more
-mails-row true old more = sym (append-nil old)
-mails-row false old more = refl
+pub free-of : (busy closed : Bool) (waiting queue rest next : List (Item Task)) (x : Item Task) → GoesOut busy closed waiting queue rest next x
+    → closed ≡ false → is_command x.value.signal ≡ true → busy ≡ false
+free-of busy closed waiting queue rest next x (inl (g, q)) open' command =
+    not-both busy (is_command x.value.signal) (and-not (not (has_sender x.sender g.before)) (busy && is_command x.value.signal) g.goes) command
+free-of busy closed waiting queue rest next x (inr (none, q, w, free)) open' command =
+    not-both busy (is_command x.value.signal) (or-right (has_sender x.sender waiting) (busy && is_command x.value.signal) (free open')) command
 
-same-mails : (gone : Bool) (old : List Mail) → cond gone old (old ++ []) ≡ old
-same-mails true old = refl
-same-mails false old = append-nil old
+-- the senders of what goes out and of what stays
+pub below : (n : ℕ) (busy closed : Bool) (waiting queue rest next : List (Item Task)) (x : Item Task) → GoesOut busy closed waiting queue rest next x
+    → SendersBelow n waiting → SendersBelow n queue → (x.sender < n) × SendersBelow n rest × SendersBelow n next
+below n busy closed waiting queue rest next x (inl (g, q)) w c = let f = SendersBelow-first n busy waiting x rest g w in (f.0, f.1, rw q c)
+below n busy closed waiting queue rest next x (inr (none, q, e, free)) w c = let f = subst (SendersBelow n) q c in (f.0, rw e w, f.1)
 
--- the mark sends nothing
-mails-marked : (closes : Bool) (port : Opening) (process : ℕ) (row : Row) (past : List Row) → mails port process (marked closes row past) ≡ mails port process (row ∷ past)
-mails-marked true port process row past = same-mails (is_gone process (row ∷ past)) (mails port process (row ∷ past))
-mails-marked false port process row past = refl
+pub nothing-left : (busy closed : Bool) (waiting queue rest next : List (Item Task)) (x : Item Task) → GoesOut busy closed waiting queue rest next x → waiting ≡ [] → rest ≡ []
+nothing-left busy closed waiting queue rest next x (inl (g, q)) none =
+    absurd (omega (arith, length-append g.before (x ∷ g.after), ap length g.split, ap length none))
+nothing-left busy closed waiting queue rest next x (inr (n, q, e, free)) none = e ∙ none
 
-items-marked : (closes : Bool) (row : Row) (past : List Row) → items (marked closes row past) ≡ items (row ∷ past)
-items-marked true row past = refl
-items-marked false row past = refl
+one-more : (rows : List Row) (row : Row) → reverse (rows ++ row ∷ []) ≡ row ∷ reverse rows
+one-more rows row = reverse-append rows (row ∷ [])
 
--- the mail of a process after the row of a task
-mailed-row : (port : Opening) (process : ℕ) (past : List Row) (row : Row) (taken waiting next_waiting : List Mail) (gone : Bool)
-    → gone ≡ is_gone process past → next_waiting ≡ waiting ++ cond (gone_after process row gone) [] (mail_for process (row_posts port past row))
-    → taken ++ waiting ≡ mails port process past → taken ++ next_waiting ≡ mails port process (row ∷ past)
-mailed-row port process past row taken waiting next_waiting gone g w e =
-    rw (w, g) (sym (append_assoc taken waiting (cond (is_gone process (row ∷ past)) [] (mail_for process (row_posts port past row))))
-    ∙ (ap (λ ms. ms ++ cond (is_gone process (row ∷ past)) [] (mail_for process (row_posts port past row))) e
-    ∙ sym (mails-row (is_gone process (row ∷ past)) (mails port process past) (mail_for process (row_posts port past row)))))
+reverse-row : (rows : List Row) (row : Row) (ms : List MarkKind) → reverse (rows ++ row ∷ map row_of_mark ms) ≡ marked (row ∷ reverse rows) ms
+reverse-row rows row ms =
+    ap reverse (sym (append_assoc rows (row ∷ []) (map row_of_mark ms)))
+    ∙ (reverse-marked (rows ++ row ∷ []) ms ∙ ap (λ p. marked p ms) (one-more rows row))
 
--- what a turn promises, after a step that took a task
-pub Turned-step : (old new : View) (item : Item Task) (row : Row) (closes posted : Bool)
-    → new.opening ≡ old.opening → old.faults ≤ new.faults → old.broken ≡ false → new.broken ≡ not posted → old.queue ≡ item ∷ new.queue
-    → new.rows ≡ old.rows ++ with_mark closes row → items (row ∷ history_of old) ≡ items (history_of old) ++ item ∷ []
-    → Sends posted old.mail new.mail row (row_posts old.opening (history_of old) row)
-    → ((n : ℕ) → n < length old.mail → (box_at old.mail n).gone ≡ is_gone n (history_of old))
-    → Turned old new
-Turned-step old new item row closes posted o f b nb q r t sent gone = record {
-  opening = o;
-  faults = f;
-  broken = λ h. absurd cc;
-  rows = (with_mark closes row, r);
-  given = λ _. rw (r, reverse-with_mark closes old.rows row, items-marked closes row (reverse old.rows)) (moved (history_of old) row item new.queue t ∙ ap (λ is. items (history_of old) ++ is) (sym q));
-  processes = sent.len;
-  mailed = λ n process taken h e.
-      rw (r, reverse-with_mark closes old.rows row, mails-marked closes old.opening process row (reverse old.rows))
-      (mailed-row old.opening process (history_of old) row taken _ _ _ (gone process h) (sent.waiting (posted-true posted (sym nb ∙ n)) process h) e);
-} where
-  posted-true : (posted : Bool) → not posted ≡ false → posted ≡ true
-  posted-true true e = refl
-  posted-true false e = absurd cc
+-- the history after a step: the row with its marks, and then the late rows of those that waited
+pub record Grew (port : Opening) (past next : List Row) (rest waits queue : List (Item Task)) : Type 0 where
+  pub taken : List (Item Task)
+  pub split : rest ≡ taken ++ waits
+  pub grown : next ≡ with_late past taken
+  pub late : HasLate port past taken (waits ++ queue)
 
--- a turn that did nothing, or found at once that memory is wanting
-pub Turned-same : (old new : View) → new.opening ≡ old.opening → old.faults ≤ new.faults → (old.broken ≡ true → new.broken ≡ true) → new.rows ≡ old.rows
-    → (new.broken ≡ false → new.queue ≡ old.queue) → new.mail ≡ old.mail → Turned old new
-Turned-same old new o f b r q m = record {
-  opening = o;
-  faults = f;
-  broken = b;
-  rows = ([], r ∙ sym (append-nil old.rows));
-  given = λ n. rw (r, q n) refl;
-  processes = ap length m;
-  mailed = λ n process taken h e. rw (m, r) e;
+Grew-by : (port : Opening) (past : List Row) (rows next_rows : List Row) (rest waits queue : List (Item Task)) (closes : Bool)
+    → Lawful port past → marks_due port past ≡ [] → (closes ≡ true → is_open port past ≡ false) → InOrder (items past) (rest ++ queue) → reverse rows ≡ past
+    → WereLate rows next_rows rest waits → (closes ≡ false → (next_rows ≡ rows) × (waits ≡ rest)) → Grew port past (reverse next_rows) rest waits queue
+Grew-by port past rows next_rows rest waits queue true lawful due closed order is w none = record {
+  taken = w.taken;
+  split = w.split;
+  grown = ap reverse w.grown ∙ (reverse-late rows w.taken ∙ ap (λ p. with_late p w.taken) is);
+  late = HasLate-all port past w.taken (waits ++ queue) lawful due (closed refl)
+      (subst (InOrder (items past)) (ap (λ ts. ts ++ queue) w.split ∙ append_assoc w.taken waits queue) order);
+}
+Grew-by port past rows next_rows rest waits queue false lawful due closed order is w none = let n = none refl in record {
+  taken = [];
+  split = sym n.1;
+  grown = ap reverse n.0 ∙ is;
+  late = rw n.1 (record {
+    order = subst (λ ts. InOrder ts (rest ++ queue)) (sym (append-nil (items past))) order;
+    lawful = lawful;
+    settled = due;
+    opens = refl;
+    calls = refl;
+    busy = refl;
+    marks = refl;
+    items = sym (append-nil (items past));
+  });
 }
 
--- what is not wanting in the end was never wanting
-still : (old new : Bool) → (old ≡ true → new ≡ true) → new ≡ false → old ≡ false
-still true new f e = sym (f refl) ∙ e
-still false new f e = refl
+opens-case : (closes closed o : Bool) → o ≡ not closed → cond closes false o ≡ not (closed || closes)
+opens-case true true o e = refl
+opens-case true false o e = refl
+opens-case false true o e = e
+opens-case false false o e = e
 
--- two turns are one
-pub Turned-trans : (old mid new : View) → Turned old mid → Turned mid new → Turned old new
-Turned-trans old mid new a b = record {
-  opening = b.opening ∙ a.opening;
-  faults = omega (arith, a.faults, b.faults);
-  broken = λ h. b.broken (a.broken h);
-  rows = (a.rows.0 ++ b.rows.0, b.rows.1 ∙ (ap (λ rs. rs ++ b.rows.0) a.rows.1 ∙ append_assoc old.rows a.rows.0 b.rows.0));
-  given = λ n. b.given n ∙ a.given (still mid.broken new.broken b.broken n);
-  processes = b.processes ∙ a.processes;
-  mailed = λ n process taken h e.
-      rw a.opening at (b.mailed n process taken (rw a.processes h) (rw a.opening (a.mailed (still mid.broken new.broken b.broken n) process taken h e)));
+life-case : (stops stopped : Bool) (stage next : Life) → stage ≡ cond stopped Stopped Started → next ≡ cond stops Stopped stage → next ≡ cond (stopped || stops) Stopped Started
+life-case true true stage next e f = f
+life-case true false stage next e f = f
+life-case false true stage next e f = f ∙ e
+life-case false false stage next e f = f ∙ e
+
+stopped-case : (stops stopped now : Bool) → now ≡ stopped → (stops || now) ≡ (stopped || stops)
+stopped-case true true now e = refl
+stopped-case true false now e = refl
+stopped-case false true now e = e
+stopped-case false false now e = e
+
+ended-case : (stops closes stopped closed : Bool) → (stops ≡ true → closes ≡ true) → (stopped ≡ true → closed ≡ true) → (stopped || stops) ≡ true → (closed || closes) ≡ true
+ended-case true closes stopped closed s e h = rw (s refl) (or-true closed) where
+  or-true : (a : Bool) → (a || true) ≡ true
+  or-true true = refl
+  or-true false = refl
+ended-case false closes true closed s e h = rw (e refl) refl
+ended-case false closes false closed s e h = absurd cc
+
+posted-true : (sent : Bool) → not sent ≡ false → sent ≡ true
+posted-true true e = refl
+posted-true false e = absurd cc
+
+idle-case : (sent closes closed : Bool) (waits rest : List (Item Task)) → sent ≡ true → (sent ≡ true → closes ≡ true → waits ≡ []) → (closes ≡ false → waits ≡ rest)
+    → (closed ≡ true → rest ≡ []) → (closed || closes) ≡ true → waits ≡ []
+idle-case sent true closed waits rest p all none left h = all p refl
+idle-case sent false true waits rest p all none left h = none refl ∙ left refl
+idle-case sent false false waits rest p all none left h = absurd cc
+
+-- what a step of a body is made of
+pub record Stepping (port : Opening) (rows rows1 next_rows : List Row) (waiting rest waits queue next_queue : List (Item Task)) (mail next_mail : List Box) (own : Own) (queued : List ℕ)
+    (flags : Flags) (x : Item Task) (row : Row) (closes stops busy sent : Bool) (made : ℕ) : Type 0 where
+  pub goes : GoesOut flags.busy flags.closed waiting queue rest next_queue x
+  pub extends : Extends port (reverse rows) x row closes stops busy own queued
+  pub once : closes ≡ true → flags.closed ≡ false
+  pub stopping : stops ≡ true → closes ≡ true
+  pub appended : rows1 ≡ rows ++ row ∷ map row_of_mark (busy_marks flags.busy busy ++ closing closes)
+  pub late : WereLate rows1 next_rows rest waits
+  pub all : sent ≡ true → closes ≡ true → waits ≡ []
+  pub none : closes ≡ false → (next_rows ≡ rows1) × (waits ≡ rest)
+  pub moves : Moves port sent (reverse rows) (reverse next_rows) mail next_mail
+  pub counted : made ≡ length (busy_marks flags.busy busy ++ closing closes)
+  pub few : flags.count < 2 ^ 60
+  pub fewer : made ≤ 2
+
+pub marks-of : (closes : Bool) (before after : Bool) (past : List Row) (due : List MarkKind) → is_busy past ≡ before → due ≡ busy_marks (is_busy past) after ++ closing closes
+    → due ≡ busy_marks before after ++ closing closes
+marks-of closes before after past due b e = e ∙ ap (λ x. busy_marks x after ++ closing closes) b
+
+pub Grew-step : (port : Opening) (stage : Life) (own next_own : Own) (queued next_queued : List ℕ) (rows rows1 next_rows : List Row) (waiting : Waiting) (rest waits queue next_queue : List (Item Task))
+    (mail next_mail : List Box) (given : List ℕ) (flags : Flags) (x : Item Task) (row : Row) (closes stops busy sent : Bool) (made : ℕ)
+    → Sound port stage own queued (reverse rows) waiting queue mail given flags → flags.broken ≡ false
+    → Stepping port rows rows1 next_rows waiting.items rest waits queue next_queue mail next_mail next_own next_queued flags x row closes stops busy sent made
+    → Marked port (row ∷ reverse rows) (busy_marks flags.busy busy ++ closing closes)
+      × Grew port (marked (row ∷ reverse rows) (busy_marks flags.busy busy ++ closing closes)) (reverse next_rows) rest waits next_queue
+      × Out (items (reverse rows)) waiting.items queue rest next_queue x
+Grew-step port stage own next_own queued next_queued rows rows1 next_rows waiting rest waits queue next_queue mail next_mail given flags x row closes stops busy sent made s b t =
+    let past = reverse rows in
+    let e = t.extends in
+    let ms : List MarkKind = busy_marks flags.busy busy ++ closing closes in
+    let out = Out-by flags.busy flags.closed (items past) waiting.items queue rest next_queue x (s.idle b) t.goes (s.order b) in
+    let m = Marked-all port (row ∷ past) ms (e.lawful, s.lawful) (marks-of closes flags.busy busy past (marks_due port (row ∷ past)) s.busy e.due) in
+    let order : InOrder (items (marked (row ∷ past) ms)) (rest ++ next_queue) = subst (λ ts. InOrder ts (rest ++ next_queue)) (sym (m.items ∙ e.task)) out.order in
+    let closed : closes ≡ true → is_open port (marked (row ∷ past) ms) ≡ false = λ c. m.opens ∙ (e.opens ∙ ap (λ k. cond k false (is_open port past)) c) in
+    (m, Grew-by port (marked (row ∷ past) ms) rows1 next_rows rest waits next_queue closes m.lawful m.settled closed order (ap reverse t.appended ∙ reverse-row rows row ms) t.late t.none, out)
+
+-- each sender's tasks after a step
+pub same-tasks : (n : ℕ) (past : List (Item Task)) (x : Item Task) (next taken rest waits next_queue waiting queue : List (Item Task)) → next ≡ (past ++ x ∷ []) ++ taken → rest ≡ taken ++ waits
+    → of n ((past ++ x ∷ []) ++ (rest ++ next_queue)) ≡ of n (past ++ (waiting ++ queue)) → of n (next ++ (waits ++ next_queue)) ≡ of n (past ++ (waiting ++ queue))
+same-tasks n past x next taken rest waits next_queue waiting queue tasks split same =
+    ap (of n) (ap (λ ts. ts ++ (waits ++ next_queue)) tasks ∙ (append_assoc (past ++ x ∷ []) taken (waits ++ next_queue)
+    ∙ ap (λ ts. (past ++ x ∷ []) ++ ts) (sym (append_assoc taken waits next_queue) ∙ ap (λ ts. ts ++ next_queue) (sym split)))) ∙ same
+
+pub Sound-step : (port : Opening) (stage next_stage : Life) (own next_own : Own) (queued next_queued : List ℕ) (rows rows1 next_rows : List Row) (waiting next_waiting : Waiting)
+    (rest queue next_queue : List (Item Task)) (mail next_mail : List Box) (given : List ℕ) (flags : Flags) (x : Item Task) (row : Row) (closes stops busy sent : Bool) (made : ℕ)
+    → Sound port stage own queued (reverse rows) waiting queue mail given flags → flags.broken ≡ false
+    → Stepping port rows rows1 next_rows waiting.items rest next_waiting.items queue next_queue mail next_mail next_own next_queued flags x row closes stops busy sent made
+    → next_stage ≡ cond stops Stopped stage → next_waiting.senders ≡ waiting.senders
+    → Sound port next_stage next_own next_queued (reverse next_rows) next_waiting next_queue next_mail given
+        (record { count = flags.count + made; busy = busy; closed = flags.closed || closes; stopped = flags.stopped || stops; broken = not sent })
+Sound-step port stage next_stage own next_own queued next_queued rows rows1 next_rows waiting next_waiting rest queue next_queue mail next_mail given flags x row closes stops busy sent made s b t st seats =
+    let past = reverse rows in
+    let e = t.extends in
+    let ms : List MarkKind = busy_marks flags.busy busy ++ closing closes in
+    let whole = Grew-step port stage own next_own queued next_queued rows rows1 next_rows waiting rest next_waiting.items queue next_queue mail next_mail given flags x row closes stops busy sent made s b t in
+    let m = whole.0 in
+    let g = whole.1 in
+    let out = whole.2 in
+    let l = g.late in
+    let under = below (length mail) flags.busy flags.closed waiting.items queue rest next_queue x t.goes s.waiters s.comers in
+    let waits = next_waiting.items in
+    let tasks : items (reverse next_rows) ≡ (items past ++ x ∷ []) ++ g.taken = ap items g.grown ∙ (l.items ∙ ap (λ ts. ts ++ g.taken) (m.items ∙ e.task)) in
+    let all_marks : marks (reverse next_rows) ≡ marks past ++ ms = ap marks g.grown ∙ (l.marks ∙ (m.marks ∙ ap (λ k. k ++ ms) e.marks)) in
+    let all_calls : calls port (reverse next_rows) ≡ calls port (row ∷ past) = ap (calls port) g.grown ∙ (l.calls ∙ m.calls) in
+    let below_rest : SendersBelow (length mail) (g.taken ++ waits) = subst (SendersBelow (length mail)) g.split under.1 in
+    record {
+      lawful = subst (Lawful port) (sym g.grown) l.lawful;
+      settled = ap (marks_due port) g.grown ∙ l.settled;
+      opens = ap (is_open port) g.grown ∙ (l.opens ∙ (m.opens ∙ (e.opens ∙ opens-case closes flags.closed (is_open port past) s.opens)));
+      busy = ap is_busy g.grown ∙ (l.busy ∙ busy-marked (row ∷ past) flags.busy busy closes (e.same_busy ∙ s.busy));
+      count = ap length all_marks ∙ (length-append (marks past) ms ∙ omega (arith, s.count, t.counted));
+      few = omega (arith, t.few, t.fewer);
+      closed_bit = ap (λ k. closed_by (reverse k)) all_marks ∙ closed-by (marks past) flags.busy busy closes flags.closed s.closed_bit;
+      busy_bit = ap (λ k. busy_by (reverse k)) all_marks ∙ busy-by (marks past) flags.busy busy closes s.busy_bit;
+      life = life-case stops flags.stopped stage next_stage s.life st;
+      ended = λ p h. ended-case stops closes flags.stopped flags.closed t.stopping (s.ended b) h;
+      runs = λ p. ap has_stop all_calls ∙ (e.stopped ∙ stopped-case stops flags.stopped (is_stopped port past) (s.runs b));
+      idle = λ p h. idle-case sent closes flags.closed waits rest (posted-true sent p) t.all (λ c. (t.none c).1)
+          (λ c. nothing-left flags.busy flags.closed waiting.items queue rest next_queue x t.goes (s.idle b c)) h;
+      holds = λ p. e.holds ∙ ap (holds port.kind port.config) (sym all_calls);
+      order = λ p. subst (λ ts. InOrder ts (waits ++ next_queue)) (sym (ap items g.grown ∙ l.items)) l.order;
+      numbers = λ p n h. s.numbers b n h ∙ ap length (sym (same-tasks n (items past) x (items (reverse next_rows)) g.taken rest waits next_queue waiting.items queue tasks g.split (out.same n)));
+      places = s.places ∙ sym t.moves.len;
+      seats = seats ∙ (s.seats ∙ sym t.moves.len);
+      gone = t.moves.gone s.gone;
+      owner = rw t.moves.len s.owner;
+      senders = rw (t.moves.len, tasks) (SendersBelow-join (length mail) (items past ++ x ∷ []) g.taken (SendersBelow-one_more (length mail) (items past) x s.senders under.0) (SendersBelow-front (length mail) g.taken waits below_rest));
+      waiters = rw t.moves.len (SendersBelow-back (length mail) g.taken waits below_rest);
+      comers = rw t.moves.len under.2;
+    }
+
+-- a task that came to wait
+pub Sound-waits : (port : Opening) (stage : Life) (own : Own) (queued : List ℕ) (past : List Row) (waiting next_waiting : Waiting) (queue next_queue : List (Item Task)) (mail : List Box)
+    (given : List ℕ) (flags : Flags) (x : Item Task) → Sound port stage own queued past waiting queue mail given flags → flags.closed ≡ false
+    → CameToWait flags.busy waiting.items queue next_waiting.items next_queue x → next_waiting.senders ≡ waiting.senders
+    → Sound port stage own queued past next_waiting next_queue mail given flags
+Sound-waits port stage own queued past waiting next_waiting queue next_queue mail given flags x s open' came seats =
+    let all : next_waiting.items ++ next_queue ≡ waiting.items ++ queue = ap (λ ts. ts ++ next_queue) came.3 ∙ (append_assoc waiting.items (x ∷ []) next_queue ∙ ap (λ ts. waiting.items ++ ts) (sym came.1)) in
+    let c = subst (SendersBelow (length mail)) came.1 s.comers in
+    record {
+      lawful = s.lawful;
+      settled = s.settled;
+      opens = s.opens;
+      busy = s.busy;
+      count = s.count;
+      few = s.few;
+      closed_bit = s.closed_bit;
+      busy_bit = s.busy_bit;
+      life = s.life;
+      ended = s.ended;
+      runs = s.runs;
+      idle = λ p h. absurd cc;
+      holds = s.holds;
+      order = λ p. subst (InOrder (items past)) (sym all) (s.order p);
+      numbers = λ p n h. s.numbers p n h ∙ ap (λ ts. length (of n (items past ++ ts))) (sym all);
+      places = s.places;
+      seats = seats ∙ s.seats;
+      gone = s.gone;
+      owner = s.owner;
+      senders = s.senders;
+      waiters = subst (SendersBelow (length mail)) (sym came.3) (SendersBelow-one_more (length mail) waiting.items x s.waiters c.0);
+      comers = c.1;
+    }
+
+-- a body in which memory was wanting
+pub Sound-broken : (port : Opening) (stage next_stage : Life) (own next_own : Own) (queued next_queued : List ℕ) (past : List Row) (waiting next_waiting : Waiting) (queue next_queue : List (Item Task))
+    (mail : List Box) (given : List ℕ) (flags : Flags) → Sound port stage own queued past waiting queue mail given flags → next_stage ≡ stage → next_waiting.senders ≡ waiting.senders
+    → SendersBelow (length mail) next_waiting.items → SendersBelow (length mail) next_queue
+    → Sound port next_stage next_own next_queued past next_waiting next_queue mail given (record flags { broken = true })
+Sound-broken port stage next_stage own next_own queued next_queued past waiting next_waiting queue next_queue mail given flags s st seats w c = record {
+  lawful = s.lawful;
+  settled = s.settled;
+  opens = s.opens;
+  busy = s.busy;
+  count = s.count;
+  few = s.few;
+  closed_bit = s.closed_bit;
+  busy_bit = s.busy_bit;
+  life = st ∙ s.life;
+  ended = λ p. absurd cc;
+  runs = λ p. absurd cc;
+  idle = λ p. absurd cc;
+  holds = λ p. absurd cc;
+  order = λ p. absurd cc;
+  numbers = λ p. absurd cc;
+  places = s.places;
+  seats = seats ∙ s.seats;
+  gone = s.gone;
+  owner = s.owner;
+  senders = s.senders;
+  waiters = w;
+  comers = c;
 }
+
+-- what goes out makes less
+pub less-of : (busy closed : Bool) (waiting queue rest next : List (Item Task)) (x : Item Task) → GoesOut busy closed waiting queue rest next x
+    → (length rest + (2 * length next + 1) ≤ length waiting + 2 * length queue) × (length rest ≤ length waiting)
+less-of busy closed waiting queue rest next x (inl (g, q)) =
+    let a = ap length g.left ∙ length-append g.before g.after in
+    let b = ap length g.split ∙ length-append g.before (x ∷ g.after) in
+    let d = ap length q in
+    (omega arith, omega arith)
+less-of busy closed waiting queue rest next x (inr (n, q, e, free)) =
+    let a = ap length q in
+    let b = ap length e in
+    (omega arith, omega arith)

@@ -1,9 +1,11 @@
 -- The mail of all processes, by their numbers.
-use Rattle.std.specs.Prelude.{◌≡◌, ℕ, ◌<◌, List, [], ◌++◌, length, Bool, true, if◌then◌else◌, slice_index_or}
+use Rattle.std.specs.Prelude.{◌≡◌, ℕ, ◌<◌, List, [], ◌∷◌, ◌++◌, length, Bool, true, if◌then◌else◌, slice_index_or}
 use Rattle.port_signal.specs.declared.row.Row.{Row}
 use Rattle.port_signal.specs.declared.row.Row.TheVariants.{Handled, Late, Mark}
 use Rattle.port_signal.specs.History.{sender_number}
-use Rattle.driver_entry.specs.Mail.{Post, mail_for, gone_after}
+use Rattle.port_signal.specs.declared.mail.Mail.{Mail}
+use Rattle.driver_entry.specs.History.{Opening}
+use Rattle.driver_entry.specs.Mail.{Post, mail_for, mails, gone_after, is_gone}
 use Rattle.port_engine.specs.Box.{Box}
 
 -- the mail of a process
@@ -39,3 +41,14 @@ pub record Sends (posted : Bool) (old new : List Box) (row : Row) (posts : List 
   pub gone : (process : ℕ) → process < length old → (box_at new process).gone ≡ gone_after process row (box_at old process).gone
   pub waiting : posted ≡ true → (process : ℕ) → process < length old → (box_at new process).waiting
       ≡ (box_at old process).waiting ++ (if gone_after process row (box_at old process).gone then [] else mail_for process posts)
+
+-- it is known which processes have ended
+abbrev pub KnowsGone : List Box → List Row → Type 0
+KnowsGone boxes history = (process : ℕ) → process < length boxes → (box_at boxes process).gone ≡ is_gone process history
+
+-- the history grew, and where no memory was wanting each process was sent the mail of the new rows
+pub record Moves (port : Opening) (posted : Bool) (past next : List Row) (old new : List Box) : Type 0 where
+  pub len : length new ≡ length old
+  pub gone : KnowsGone old past → KnowsGone new next
+  pub mailed : posted ≡ true → KnowsGone old past → (process : ℕ) (taken : List Mail) → process < length old
+      → taken ++ (box_at old process).waiting ≡ mails port process past → taken ++ (box_at new process).waiting ≡ mails port process next

@@ -1,5 +1,7 @@
 pub mod Box
 pub mod Boxes
-pub mod Order
+pub mod Late
 pub mod Made
+pub mod Next
 pub mod Body
+pub mod Stepping

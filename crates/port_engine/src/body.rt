@@ -1,26 +1,28 @@
-ghost use Rattle.std.specs.Prelude.{◌≡◌, ◌<◌, ◌≤◌, ◌+◌, ℕ, List, [], ◌∷◌, ◌++◌, length, reverse, true, false, not, if◌then◌else◌, ◌↔◌, IsNone, IfNone, IfSome, IfOk, IfErr, OnOk, OnErr, ◌≢◌, ◌⊎◌, replicate, slice_set, vec_len, vec_capacity};
-ghost use Rattle.std.specs.Vec.{vec_capacity as capacity_of};
+ghost use Rattle.std.specs.Prelude.{◌≡◌, ◌<◌, ◌≤◌, ◌+◌, ◌*◌, ℕ, List, [], ◌∷◌, ◌++◌, length, reverse, true, false, not, if◌then◌else◌, ◌↔◌, IsNone, IfNone, IfSome, IfOk, IfErr, OnOk, OnErr, ◌≢◌, ◌⊎◌, replicate, slice_set};
 ghost use Rattle.task_queue.specs.Items.{of};
 ghost use Rattle.port_signal.specs.History.{is_closed, item, items, marks, stat_of, sender_number};
+ghost use Rattle.driver_entry.specs.Driven.{held_of};
 ghost use Rattle.driver_entry.specs.Drivers.{holds};
-ghost use Rattle.driver_entry.specs.History.{Opening, Lawful, IsFinished, is_open, calls};
-ghost use Rattle.driver_entry.specs.Mail.{row_posts};
-ghost use Rattle.port_engine.specs.Boxes.{Sends, SenderBelow, box_at};
-ghost use Rattle.port_engine.specs.Made.{with_mark};
-ghost use Rattle.port_engine.specs.Order.{SendersBelow};
-ghost use Rattle.port_engine.specs.Body.{IsOpened, Turned, given_of, history_of};
-ghost use Rattle.port_signal.specs.declared.row.Row.{Row as RowValue};
+ghost use Rattle.driver_entry.specs.History.{Lawful, IsFinished, is_open, calls};
+ghost use Rattle.waiting_list.specs.Order.{SendersBelow};
+ghost use Rattle.port_engine.specs.Boxes.{box_at};
+ghost use Rattle.port_engine.specs.Body.{IsOpened, Turned, given_by, history_of};
+ghost use Rattle.port_engine.specs.Stepping.{Waited, Went};
 
 use crate::Turn;
+use crate::appending::{append_row, late_waiting, make_room, marks_made};
 use crate::mailbox::Mailbox;
-use crate::posting::send_row;
+use crate::next::{Next, take_next};
 use crate::row::{Made, take_task};
 use driver_entry::{Config, Driver, DriverCtx, Life, StartRefusal};
-use port_signal::{Journal, Mail, MarkKind, NoMemory, Row, Rows, Sender, Task};
+use driver_queue::DriverQueue;
+use port_signal::{Journal, Mail, NoMemory, Row, Rows, Sender, Task};
 use std::alloc::Global;
 use std::collections::VecDeque;
 use std::marker::Model;
+use std::mem;
 use task_queue::Item;
+use waiting_list::WaitingList;
 
 /// What a port is opened with.
 #[derive(Drop)]
@@ -36,7 +38,7 @@ pub struct BodyEnd<D: Drop> {
     pub journal: Journal,
 }
 
-/// The body of a port: its driver, its history, the tasks that wait and the mail that wasn't taken.
+/// The body of a port: its driver with its queue, its history, the tasks that came and those that wait, and the mail that wasn't taken.
 #[derive(Drop)]
 pub struct Body<D: Driver> {
     alloc: Global,
@@ -44,11 +46,16 @@ pub struct Body<D: Driver> {
     owner: u32,
     config: Config,
     driver: D,
+    driver_queue: DriverQueue,
     rows: Vec<Row>,
+    waiting: WaitingList,
     queue: VecDeque<Item<Task>>,
     mail: Vec<Mailbox>,
     /// How many tasks each process gave.
     given: Vec<u64>,
+    /// How many marks were made.
+    marks: u64,
+    busy: bool,
     closed: bool,
     stopped: bool,
     broken: bool,
@@ -56,6 +63,7 @@ pub struct Body<D: Driver> {
 
 impl<D: Driver> Model for Body<D> {
     ghost use Rattle.std.specs.Prelude.{reverse};
+    ghost use Rattle.std.specs.List.{concat};
     ghost use Rattle.port_engine.specs.Body.{View, Sound};
 
     ghost Value = { View };
@@ -63,6 +71,7 @@ impl<D: Driver> Model for Body<D> {
     ghost view = { λ b. record {
       opening = record { number = b.number; kind = D.kind b.driver; config = b.config; owner = b.owner };
       rows = b.rows.items;
+      waiting = b.waiting.items;
       queue = b.queue.items;
       mail = b.mail.items;
       stopped = b.stopped;
@@ -71,7 +80,8 @@ impl<D: Driver> Model for Body<D> {
     } };
 
     ghost invariant = { λ b. Sound (record { number = b.number; kind = D.kind b.driver; config = b.config; owner = b.owner })
-        (D.stage b.driver) (D.held b.driver) (reverse b.rows.items) b.queue.items b.mail.items b.given.items b.closed b.stopped b.broken };
+        (D.stage b.driver) (D.own b.driver) (concat b.driver_queue.segments) (reverse b.rows.items) b.waiting b.queue.items b.mail.items b.given.items
+        (record { count = b.marks; busy = b.busy; closed = b.closed; stopped = b.stopped; broken = b.broken }) };
 }
 
 impl<D: Driver> Body<D> {
@@ -97,20 +107,28 @@ impl<D: Driver> Body<D> {
         let Ok((mail, given)) = mailboxes(alloc, processes as usize) else {
             return Err((BodyParts { driver, config }, StartRefusal::NoMemory));
         };
-        let mut ctx = DriverCtx::new(alloc, owner);
+        let Ok(waiting) = WaitingList::new(alloc, processes) else {
+            return Err((BodyParts { driver, config }, StartRefusal::NoMemory));
+        };
+        let mut ctx = DriverCtx::new(alloc, owner, DriverQueue::new(alloc));
         if let Err(refusal) = driver.start(alloc, &mut ctx, &config) {
             return Err((BodyParts { driver, config }, refusal));
         }
+        let (driver_queue, _, _) = ctx.finish();
         Ok(Body {
             alloc,
             number,
             owner,
             config,
             driver,
+            driver_queue,
             rows: Vec::new(alloc),
+            waiting,
             queue: VecDeque::new(alloc),
             mail,
             given,
+            marks: 0,
+            busy: false,
             closed: false,
             stopped: false,
             broken: false,
@@ -122,7 +140,7 @@ impl<D: Driver> Body<D> {
     pub fn give(&mut self, from: Sender, task: Task) -> Result<u64, (Task, NoMemory)>
         requires { sender_number from < length self.old.mail }
         ensures ok { IfOk result (λ seq. self.new ≡ record self.old { queue = self.old.queue ++ item from seq task ∷ [] }) }
-        ensures seq { IfOk result (λ seq. seq ≡ length (of (sender_number from) (given_of self.old))) }
+        ensures seq { IfOk result (λ seq. seq ≡ length (given_by (sender_number from) self.old)) }
         ensures err { OnErr result (self.new ≡ self.old) }
         ensures back { IfErr result (λ refused. refused.0 ≡ task) }
     {
@@ -156,20 +174,23 @@ impl<D: Driver> Body<D> {
         self.mail[process as usize].take()
     }
 
-    /// The word that tells how the port stands: four times the number of its marks, plus 2 after the closed mark.
+    /// The word that tells how the port stands: four times the number of its marks, plus 2 after the closed mark, plus 1 while it is busy.
     pub fn stat(&self) -> u64
         ensures value { result ≡ stat_of (marks (history_of self.now)) }
         ensures closed { is_closed result ≡ not (is_open self.now.opening (history_of self.now)) }
     {
-        if self.closed { 6 } else { 0 }
+        4 * self.marks + 2 * u64::from(self.closed) + u64::from(self.busy)
     }
 
-    /// Makes at most `max` steps. Each takes the first task that waits, and handles it or gives it its late row.
+    /// Makes at most `max` steps. Each handles the first waiting task that may go; where none may go, it takes the first task that
+    /// came, which is handled, gets its late row, or waits behind the others. Idle is answered where none may go and none came.
     pub fn turn(&mut self, max: u32) -> Turn
         ensures turned { Turned self.old self.new }
         ensures idle { result ≡ Turn.Idle → (self.new.queue ≡ []) × (self.new.broken ≡ false) }
-        ensures more { result ≡ Turn.More → (length self.new.queue + max ≡ length self.old.queue) × (self.old.broken ≡ false → self.new.broken ≡ false) }
+        ensures more { result ≡ Turn.More → self.old.broken ≡ false → self.new.broken ≡ false }
+        ensures less { result ≡ Turn.More → length self.new.waiting + (2 * length self.new.queue + max) ≤ length self.old.waiting + 2 * length self.old.queue }
         ensures wanting { result ≡ Turn.NoMemory → self.new.broken ≡ true }
+        ensures step { max ≡ 1 → result ≡ Turn.More → Went self.old self.new ⊎ Waited self.old self.new }
     {
         for _step in 0..max {
             match self.step() {
@@ -184,9 +205,9 @@ impl<D: Driver> Body<D> {
     /// Whether `stop` was called.
     pub fn finished(&self) -> bool
         ensures value { result ≡ self.now.stopped }
-        ensures closed { self.now.broken ≡ false → result ≡ not (is_open self.now.opening (history_of self.now)) }
         ensures lawful { Lawful self.now.opening (history_of self.now) }
-        ensures marks { marks (history_of self.now) ≡ (if is_open self.now.opening (history_of self.now) then [] else MarkKind.Closed ∷ []) }
+        ensures finished { result ≡ true → self.now.broken ≡ false → IsFinished self.now.opening (history_of self.now) }
+        ensures waiting { self.now.broken ≡ false → is_open self.now.opening (history_of self.now) ≡ false → self.now.waiting ≡ [] }
     {
         self.stopped
     }
@@ -217,7 +238,7 @@ impl<D: Driver> Body<D> {
         ensures lawful { Lawful self.opening (history_of self) }
         ensures senders { SendersBelow (length self.mail) (items (history_of self)) }
         ensures finished { self.broken ≡ false → IsFinished self.opening (history_of self) }
-        ensures holds { self.broken ≡ false → D.held result.driver ≡ holds self.opening.kind self.opening.config (calls self.opening (history_of self)) }
+        ensures holds { self.broken ≡ false → D.own result.driver ≡ (holds self.opening.kind self.opening.config (calls self.opening (history_of self))).own }
     {
         let Body { driver, rows, .. } = self;
         BodyEnd {
@@ -228,33 +249,74 @@ impl<D: Driver> Body<D> {
         }
     }
 
-    /// One step: takes the first task that waits, and handles it or gives it its late row.
+    /// One step: takes the task that goes next, and handles it or gives it its late row.
     fn step(&mut self) -> Turn
         ensures turned { Turned self.old self.new }
-        ensures idle { result ≡ Turn.Idle → (self.new ≡ self.old) × (self.old.queue ≡ []) × (self.old.broken ≡ false) }
-        ensures more { result ≡ Turn.More → (length self.new.queue + 1 ≡ length self.old.queue) × (self.new.broken ≡ false) }
+        ensures idle { result ≡ Turn.Idle → (self.old.queue ≡ []) × (self.new ≡ self.old) × (self.old.broken ≡ false) }
+        ensures more { result ≡ Turn.More → self.new.broken ≡ false }
+        ensures less { result ≡ Turn.More → length self.new.waiting + (2 * length self.new.queue + 1) ≤ length self.old.waiting + 2 * length self.old.queue }
         ensures wanting { result ≡ Turn.NoMemory → self.new.broken ≡ true }
+        ensures step { result ≡ Turn.More → Went self.old self.new ⊎ Waited self.old self.new }
     {
-        if self.broken || self.rows.reserve(2).is_err() {
-            self.broken = true;
+        if self.broken {
             return Turn::NoMemory;
         }
-        let Some(item) = self.queue.pop_front() else {
-            return Turn::Idle;
-        };
-        let Ok(made) = take_task(self.alloc, &mut self.driver, self.owner, self.closed, item) else {
+        let Ok(()) = make_room(&mut self.rows, &mut self.waiting, self.marks) else {
             self.broken = true;
             return Turn::NoMemory;
         };
-        self.closed |= made.closes;
-        self.stopped |= made.closes;
-        let sent = append_row(
+        let item = match take_next(&mut self.waiting, &mut self.queue, self.busy, self.closed) {
+            Next::Nothing => return Turn::Idle,
+            Next::Waits => return Turn::More,
+            Next::Goes(item) => item,
+        };
+        let queued = mem::replace(&mut self.driver_queue, DriverQueue::new(self.alloc));
+        let taken = take_task(
+            self.alloc,
+            &mut self.driver,
+            queued,
+            self.owner,
+            self.closed,
+            self.busy,
+            item,
+        );
+        let Made {
+            row,
+            queue,
+            closes,
+            stops,
+            busy,
+        } = match taken {
+            Ok(made) => made,
+            Err(NoMemory) => {
+                self.broken = true;
+                return Turn::NoMemory;
+            }
+        };
+        self.driver_queue = queue;
+        let posted = append_row(
             &mut self.rows,
             &mut self.mail,
             self.number,
             self.owner,
-            made,
+            row,
+            self.busy,
+            busy,
+            closes,
         );
+        let sent = late_waiting(
+            &mut self.rows,
+            &mut self.mail,
+            self.number,
+            self.owner,
+            &mut self.waiting,
+            closes,
+            posted,
+        );
+        self.marks += marks_made(self.busy, busy, closes);
+        self.busy = busy;
+        self.closed |= closes;
+        self.stopped |= stops;
         self.broken = !sent;
         if sent { Turn::More } else { Turn::NoMemory }
     }
@@ -279,37 +341,4 @@ fn mailboxes(alloc: Global, processes: usize) -> Result<(Vec<Mailbox>, Vec<u64>)
     }
     let given = vec![in alloc; 0; processes]?;
     Ok((mail, given))
-}
-
-/// Appends the row of a task, sends what it sends, and appends the closed mark where it closes the port. Returns whether memory
-/// was found for the mail.
-fn append_row(
-    rows: &mut Vec<Row>,
-    boxes: &mut Vec<Mailbox>,
-    number: u32,
-    owner: u32,
-    made: Made,
-) -> bool
-    requires room { vec_len rows.old + 2 ≤ vec_capacity rows.old }
-    requires owner { owner < length boxes.old.items }
-    requires from { SenderBelow (length boxes.old.items) made.row }
-    ensures rows { rows.new.items ≡ rows.old.items ++ with_mark made.closes made.row }
-    ensures sent { (port : Opening) (older : List RowValue) → port.number ≡ number → port.owner ≡ owner
-        → Sends result boxes.old.items boxes.new.items made.row (row_posts port older made.row) }
-{
-    let Made { row, closes } = made;
-    let at = rows.len();
-    rows.push_reserved(row);
-    let sent = send_row(boxes.as_mut_slice(), number, owner, &rows[at]);
-    push_mark(rows, closes);
-    sent
-}
-
-fn push_mark(rows: &mut Vec<Row>, closes: bool)
-    requires { vec_len rows.old + 1 ≤ vec_capacity rows.old }
-    ensures { rows.new.items ≡ rows.old.items ++ (if closes then RowValue.Mark MarkKind.Closed ∷ [] else []) }
-{
-    if closes {
-        rows.push_reserved(Row::Mark(MarkKind::Closed));
-    }
 }

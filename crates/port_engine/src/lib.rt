@@ -1,9 +1,12 @@
 //! The body of a port: its driver, its history, and the turn that takes tasks one by one.
 #![tactic(auto)]
 
+mod appending;
 mod body;
 mod mailbox;
+mod next;
 mod posting;
+mod reason;
 mod row;
 mod turn;
 

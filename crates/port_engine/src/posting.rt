@@ -1,9 +1,9 @@
-ghost use Rattle.std.specs.Prelude.{◌≡◌, ◌<◌, length, OnOk, List};
+ghost use Rattle.std.specs.Prelude.{◌≡◌, ◌<◌, length, OnOk, IfOk, List};
 ghost use Rattle.std.specs.List.{flat_map};
 ghost use Rattle.port_signal.specs.History.{sender_number};
 ghost use Rattle.port_signal.specs.declared.row.Row.{Row as RowValue};
 ghost use Rattle.driver_entry.specs.History.{Opening};
-ghost use Rattle.driver_entry.specs.Mail.{effect_posts, answer_posts, late_posts, row_posts};
+ghost use Rattle.driver_entry.specs.Mail.{answer_of, effect_posts, answer_posts, late_posts, reply_posts, row_posts};
 ghost use Rattle.port_engine.specs.Boxes.{Adds, KeepsGone, Ends, SenderBelow, Sends};
 
 use crate::mailbox::{Mailbox, post};
@@ -30,7 +30,46 @@ fn post_effect(
             };
             post(boxes, owner as usize, mail)
         }
+        Effect::Busy(_) | Effect::Reply(_) | Effect::ReplyBadarg => Ok(()),
     }
+}
+
+/// The driver's answer among the effects of a control or a call.
+fn answer_of(effects: &[Effect]) -> Result<Answer, NoMemory>
+    ensures { IfOk result (λ answer. answer ≡ answer_of effects.now) }
+{
+    for effect in effects {
+        match effect {
+            Effect::Reply(bytes) => {
+                let bytes = bytes.share()?;
+                return Ok(Answer::Bytes(bytes));
+            }
+            Effect::ReplyBadarg => return Ok(Answer::Badarg),
+            Effect::Message { .. } | Effect::Busy(_) => {}
+        }
+    }
+    Ok(Answer::Badarg)
+}
+
+/// Puts a reply to a sender's signal.
+fn post_reply(
+    boxes: &mut [Mailbox],
+    number: u32,
+    from: Sender,
+    seq: u64,
+    answer: Answer,
+) -> Result<(), NoMemory>
+    requires { sender_number from < length boxes.old }
+    ensures gone { KeepsGone boxes.old boxes.new }
+    ensures ok { OnOk result ((port : Opening) → port.number ≡ number → Adds boxes.old boxes.new (reply_posts port from seq answer)) }
+{
+    let Sender::Process(sender) = from;
+    let mail = Mail::Reply {
+        port: number,
+        seq,
+        answer,
+    };
+    post(boxes, sender as usize, mail)
 }
 
 /// Puts what the effects of a row send to the owner, in their order.
@@ -56,22 +95,23 @@ fn post_answer(
     number: u32,
     from: Sender,
     seq: u64,
+    effects: &[Effect],
     signal: &Signal,
 ) -> Result<(), NoMemory>
     requires { sender_number from < length boxes.old }
     ensures gone { KeepsGone boxes.old boxes.new }
-    ensures ok { OnOk result ((port : Opening) → port.number ≡ number → Adds boxes.old boxes.new (answer_posts port from seq signal.now)) }
+    ensures ok { OnOk result ((port : Opening) → port.number ≡ number → Adds boxes.old boxes.new (answer_posts port from seq effects.now signal.now)) }
 {
-    let Sender::Process(sender) = from;
     match signal {
-        Signal::Close => {
-            let mail = Mail::Reply {
-                port: number,
-                seq,
-                answer: Answer::True,
-            };
-            post(boxes, sender as usize, mail)
+        Signal::Control { .. } => {
+            let answer = answer_of(effects)?;
+            post_reply(boxes, number, from, seq, answer)
         }
+        Signal::Call { .. } => {
+            let answer = answer_of(effects)?;
+            post_reply(boxes, number, from, seq, answer)
+        }
+        Signal::Close => post_reply(boxes, number, from, seq, Answer::True),
         Signal::Command(_) | Signal::Gone(_) => Ok(()),
     }
 }
@@ -88,16 +128,10 @@ fn post_late(
     ensures gone { KeepsGone boxes.old boxes.new }
     ensures ok { OnOk result ((port : Opening) → port.number ≡ number → Adds boxes.old boxes.new (late_posts port from seq signal.now)) }
 {
-    let Sender::Process(sender) = from;
     match signal {
-        Signal::Close => {
-            let mail = Mail::Reply {
-                port: number,
-                seq,
-                answer: Answer::Badarg,
-            };
-            post(boxes, sender as usize, mail)
-        }
+        Signal::Control { .. } => post_reply(boxes, number, from, seq, Answer::Badarg),
+        Signal::Call { .. } => post_reply(boxes, number, from, seq, Answer::Badarg),
+        Signal::Close => post_reply(boxes, number, from, seq, Answer::Badarg),
         Signal::Command(_) | Signal::Gone(_) => Ok(()),
     }
 }
@@ -119,7 +153,7 @@ fn post_row(boxes: &mut [Mailbox], number: u32, owner: u32, row: &Row) -> Result
             ..
         } => {
             post_effects(boxes, number, owner, effects.as_slice())?;
-            post_answer(boxes, number, *from, *seq, &task.signal)?;
+            post_answer(boxes, number, *from, *seq, effects.as_slice(), &task.signal)?;
             Ok(())
         }
         Row::Late { from, seq, task } => {

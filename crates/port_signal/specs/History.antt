@@ -1,5 +1,5 @@
 -- What a history says that needs no driver. A history is the list of a port's rows, read newest row first.
-use Rattle.std.specs.Prelude.{◌≡◌, ◌==◌, ℕ, ◌+◌, ◌*◌, ◌/◌, ◌%◌, ◌≤◌, List, [], ◌∷◌, ◌++◌, length, take, reverse, Bool}
+use Rattle.std.specs.Prelude.{◌≡◌, ◌==◌, ℕ, ◌+◌, ◌*◌, ◌/◌, ◌%◌, ◌≤◌, List, [], ◌∷◌, ◌++◌, length, take, reverse, Bool, true, false, if◌then◌else◌}
 use Rattle.task_queue.specs.declared.item.Item.{Item}
 use Rattle.port_signal.specs.declared.signal.Sender.{Sender}
 use Rattle.port_signal.specs.declared.signal.Sender.TheVariants.{Process}
@@ -7,7 +7,7 @@ use Rattle.port_signal.specs.declared.signal.Task.{Task}
 use Rattle.port_signal.specs.declared.row.Row.{Row}
 use Rattle.port_signal.specs.declared.row.Row.TheVariants.{Handled, Late, Mark}
 use Rattle.port_signal.specs.declared.row.MarkKind.{MarkKind}
-use Rattle.port_signal.specs.declared.row.MarkKind.TheVariants.{Closed}
+use Rattle.port_signal.specs.declared.row.MarkKind.TheVariants.{Busy, Free, Closed}
 
 -- the number of a sender's end of the port's queue
 abbrev pub sender_number : Sender → ℕ
@@ -31,18 +31,36 @@ marks (Handled from seq task outside effects ∷ older) = marks older
 marks (Late from seq task ∷ older) = marks older
 marks (Mark kind ∷ older) = marks older ++ kind ∷ []
 
--- what the mark adds to a STAT word that isn't closed
-abbrev pub bit_of : MarkKind → ℕ
-bit_of Closed = 2
+-- whether the port is busy after these marks, newest first: the last of the marks busy and free is busy
+abbrev pub busy_by : List MarkKind → Bool
+busy_by [] = false
+busy_by (Busy ∷ older) = true
+busy_by (Free ∷ older) = false
+busy_by (Closed ∷ older) = busy_by older
 
--- the closed and busy bits after these marks, newest first: 2 after a closed mark
-abbrev pub bits_of : List MarkKind → ℕ
-bits_of [] = 0
-bits_of (Closed ∷ older) = 2
+-- whether a closed mark is among these, newest first
+abbrev pub closed_by : List MarkKind → Bool
+closed_by [] = false
+closed_by (Busy ∷ older) = closed_by older
+closed_by (Free ∷ older) = closed_by older
+closed_by (Closed ∷ older) = true
 
--- the STAT word after these marks: four times their number, and the closed and busy bits
+-- whether the port is busy, by its history
+abbrev pub is_busy : List Row → Bool
+is_busy [] = false
+is_busy (Handled from seq task outside effects ∷ older) = is_busy older
+is_busy (Late from seq task ∷ older) = is_busy older
+is_busy (Mark Busy ∷ older) = true
+is_busy (Mark Free ∷ older) = false
+is_busy (Mark Closed ∷ older) = is_busy older
+
+-- a STAT word of so many marks: four times their number, plus 2 where a closed mark is among them, plus 1 where the port is busy
+abbrev pub stat_word : ℕ → Bool → Bool → ℕ
+stat_word count closed busy = 4 * count + ((if closed then 2 else 0) + (if busy then 1 else 0))
+
+-- the STAT word after these marks, oldest first
 abbrev pub stat_of : List MarkKind → ℕ
-stat_of marks = 4 * length marks + bits_of (reverse marks)
+stat_of marks = stat_word (length marks) (closed_by (reverse marks)) (busy_by (reverse marks))
 
 -- the STAT word is one that these marks led through
 abbrev pub AgreesWith : List MarkKind → ℕ → Type 0

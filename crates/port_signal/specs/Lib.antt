@@ -1,3 +1,4 @@
 pub mod Name
 pub mod ReasonFault
+pub mod Signals
 pub mod History

@@ -13,6 +13,8 @@ pub enum Mail {
 /// What a port replies.
 #[derive(Drop)]
 pub enum Answer {
+    /// What a driver answered to a control or a call.
+    Bytes(Piece),
     True,
     Badarg,
 }

@@ -23,11 +23,22 @@ pub enum Outside {
 pub enum Effect {
     /// Data for the port's owner, as by `driver_output`.
     Message { flag: Flag, bytes: Piece },
+    /// Whether the port takes no commands from now on, as by `set_busy_port`.
+    Busy(bool),
+    /// The bytes that answer a control or a call.
+    Reply(Piece),
+    /// A control or a call that isn't served.
+    ReplyBadarg,
 }
 
 /// A change of a port's state that its STAT word shows.
 #[derive(Clone, Copy, Debug, PartialEq, Eq)]
 pub enum MarkKind {
+    /// The port takes no commands from now on.
+    Busy,
+    /// The port takes commands again.
+    Free,
+    /// The port is no longer open.
     Closed,
 }
 

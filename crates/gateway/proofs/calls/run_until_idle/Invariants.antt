@@ -1,4 +1,4 @@
-use Rattle.std.proofs.Common.{◌≡◌, length, false}
+use Rattle.std.proofs.Common.{◌≡◌, ◌+◌, ◌*◌, length, false}
 use Rattle.port_engine.specs.Body.{Turned}
 use Rattle.gateway.proofs.calls.run_until_idle.Given as goal
 
@@ -6,6 +6,6 @@ use Rattle.gateway.proofs.calls.run_until_idle.Given as goal
 abbrev pub invariant-loop : goal.invariant-loop
 invariant-loop g l = Turned l.fn.body l.body × (l.body.broken ≡ false)
 
--- fewer tasks wait after each turn that was full
+-- each turn that was full made less
 abbrev pub decreases-loop : goal.decreases-loop
-decreases-loop g l = length l.body.queue
+decreases-loop g l = length l.body.waiting + 2 * length l.body.queue

@@ -45,7 +45,7 @@ returns-in-Ok-report_of_port-clause-headline g c =
       processes = record { name = c.process-item.result.name; receipts = c.in-Ok-serve_port.told.receipts.items; mails = c.in-Ok-serve_port.told.mails.items } ∷ [];
     } in
     rw c.in-Ok-report_of_port.ensures (
-    subst (λ (plan : Plan). Headline g.D.Driver.kind g.D.Driver.held plan (slice_set c.args.hosts.now.items c.in-Some.at c.serve_port.new.host) report) (sym (plan-one plan c.process-item.result decl processes ports))
+    subst (λ (plan : Plan). Headline g.D.Driver.kind g.D.Driver.own plan (slice_set c.args.hosts.now.items c.in-Some.at c.serve_port.new.host) report) (sym (plan-one plan c.process-item.result decl processes ports))
     (Headline-one _ _ c.process-item.result decl plan.steps c.args.hosts.now.items c.in-Some.at c.serve_port.new.host _ _ _
     within (λ k d l. (c.requires k d l).0) keeps
     (kind-named _ _ _ _ c.args.hosts.now.items c.in-Some.at c.index_mut.result.now c.serve_port.new.host decl plan.steps _ _ _ within c.index_mut.ensures.value
@@ -64,4 +64,4 @@ returns-in-Ok-report_of_port-clause-ended g c =
     let opening : Opening = record { number = 0; kind = g.D.Driver.kind keeps.driver; config = decl.config; owner = 0 } in
     let port : PortReport = record { name = decl.name; driver = decl.driver; owner = decl.owner; config = decl.config; journal = c.in-Ok-serve_port.told.journal } in
     rw c.in-Ok-report_of_port.ensures (
-    all-ended port (HasEnded-closed opening port (sym (only-zero decl.owner owned)) keeps.port_keeps.finished.stopped))
+    all-ended port (HasEnded-closed opening port (sym (only-zero decl.owner owned)) keeps.port_keeps.finished.closed))

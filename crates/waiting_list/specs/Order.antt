@@ -1,4 +1,4 @@
--- The numbers of tasks that wait.
+-- The numbers and the senders of tasks, behind those that went before them.
 use Rattle.std.specs.Prelude.{ℕ, ◌<◌, ◌≡◌, List, [], ◌∷◌, ◌++◌, length}
 use Rattle.task_queue.specs.declared.item.Item.{Item}
 use Rattle.task_queue.specs.Items.{of}
@@ -9,7 +9,7 @@ abbrev pub InOrder : List (Item Task) → List (Item Task) → Type 0
 InOrder before [] = Unit {0}
 InOrder before (item ∷ later) = (item.seq ≡ length (of item.sender before)) × InOrder (before ++ item ∷ []) later
 
--- the sender of each task is one of so many processes
+-- the sender of each task is one of so many
 abbrev pub SendersBelow : ℕ → List (Item Task) → Type 0
-SendersBelow processes [] = Unit {0}
-SendersBelow processes (item ∷ later) = (item.sender < processes) × SendersBelow processes later
+SendersBelow senders [] = Unit {0}
+SendersBelow senders (item ∷ later) = (item.sender < senders) × SendersBelow senders later

@@ -1,0 +1,15 @@
+use Rattle.std.proofs.Common.{◌≡◌, ◌∷◌, length, reverse, arith, ap, ◌∙◌, [], sym, subst}
+use Rattle.std.proofs.lemmas.Grind.{common_steps}
+use Rattle.std.proofs.lemmas.List.{with_items_is, reverse-append}
+use Rattle.port_engine.specs.Boxes.{Moves}
+use Rattle.port_engine.proofs.Moving.{Moves-row}
+use Rattle.port_engine.proofs.appending.push_row.Goals as goal
+
+pub returns-clause-moves : goal.returns-clause-moves
+returns-clause-moves c = λ port n o.
+    let past = reverse c.args.rows.now.items in
+    let e : c.index.result.now ≡ c.args.row = grind (arith, common_steps) in
+    let sent = rw (e, c.as_mut_slice.ensures.value) at (c.send_row.ensures port past n o) in
+    let l : length c.send_row.new.boxes ≡ c.args.boxes.now.len = omega (arith, sent.len) in
+    let grown = ap reverse c.push_reserved.ensures.items ∙ reverse-append c.args.rows.now.items (c.args.row ∷ []) in
+    rw (with_items_is c.args.boxes.now c.send_row.new.boxes l, grown) (Moves-row port _ past c.args.row _ _ sent)

@@ -1,0 +1,18 @@
+//! Tasks that a port took and didn't handle yet.
+//!
+//! A task waits where the port is busy and it is a command, as the Erlang/OTP manual of erl_driver says of
+//! `set_busy_port`, and where an earlier task of its sender waits, so that each sender's tasks keep their order. Which
+//! task goes first is said of the list alone: the first in the order in which they came that has no earlier one of its
+//! sender, and isn't a command or finds the port not busy.
+#![tactic(auto)]
+
+mod arrival;
+mod list;
+mod queues;
+#[cfg(test)]
+mod tests;
+
+pub use list::WaitingList;
+pub use no_memory::NoMemory;
+pub use port_signal::Task;
+pub use task_queue::Item;
