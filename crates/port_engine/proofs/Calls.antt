@@ -70,9 +70,9 @@ Closes-stopped port caller reason earlier old_own new_own context kind k now end
       stopped = refl;
       outside = refl;
     }) where
-  at-once : (port : Opening) (caller : ℕ) (reason : List ℕ) (earlier : List Call) → (is_kill reason || is_drained port earlier) ≡ true
-      → closing_calls port caller (Some reason) earlier ≡ call_of callback.Stop port.owner [] ∷ []
-  at-once port caller reason earlier s = rw (s, s) refl
+      at-once : (port : Opening) (caller : ℕ) (reason : List ℕ) (earlier : List Call) → (is_kill reason || is_drained port earlier) ≡ true
+          → closing_calls port caller (Some reason) earlier ≡ call_of callback.Stop port.owner [] ∷ []
+      at-once port caller reason earlier s = rw (s, s) refl
 
 abbrev flush_call : ℕ → Call
 flush_call caller = call_of callback.Flush caller []

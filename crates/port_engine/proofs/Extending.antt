@@ -36,7 +36,7 @@ pub Extends-handled : (port : Opening) (older : List Row) (sender seq : ℕ) (ta
     → is_open port older ≡ true → marks_due port older ≡ [] → is_busy older ≡ busy → (is_command task.signal ≡ true → busy ≡ false)
     → seq ≡ length (of sender (items older)) → held_of before queue ≡ holds port.kind port.config (calls port older)
     → Extends port older (item (Process sender) seq task) (Handled (Process sender) seq task last.outside last.effects)
-        (is_some (closing_reason port older (Process sender) task.signal)) stops (busy_after busy last.effects) after last.queue
+    (is_some (closing_reason port older (Process sender) task.signal)) stops (busy_after busy last.effects) after last.queue
 Extends-handled port older sender seq task done last before between after queue stops busy called shut caller opened due b free order held =
     let reason : Option (List ℕ) = closing_reason port older (Process sender) task.signal in
     let f = called.follows port.config (calls port older) held in
@@ -59,13 +59,13 @@ Extends-handled port older sender seq task done last before between after queue 
       due = rw b (ap (λ ms. busy_marks busy (busy_after busy last.effects) ++ ms) (closed-as reason));
       holds = s.holds ∙ ap (λ cs. holds port.kind port.config cs) (sym (append_assoc closing call (calls port older)));
     }) where
-  or-false : (x : Bool) → (x || false) ≡ x
-  or-false true = refl
-  or-false false = refl
+      or-false : (x : Bool) → (x || false) ≡ x
+      or-false true = refl
+      or-false false = refl
 
-  closed-as : (r : Option (List ℕ)) → Rattle.driver_entry.specs.History.closed_marks r ≡ cond (is_some r) (Rattle.port_signal.specs.declared.row.MarkKind.TheVariants.Closed ∷ []) []
-  closed-as None = refl
-  closed-as (Some r) = refl
+      closed-as : (r : Option (List ℕ)) → Rattle.driver_entry.specs.History.closed_marks r ≡ cond (is_some r) (Rattle.port_signal.specs.declared.row.MarkKind.TheVariants.Closed ∷ []) []
+      closed-as None = refl
+      closed-as (Some r) = refl
 
 -- the same from what the calls of the driver ensure
 pub handled-extends : (port : Opening) (older : List Row) (sender seq : ℕ) (task : Task) (kind next_kind : Kind) (before between after : Own) (fresh done last : Context)

@@ -186,8 +186,8 @@ pub Grew-step : (port : Opening) (stage : Life) (own next_own : Own) (queued nex
     → Sound port stage own queued (reverse rows) waiting queue mail given flags → flags.broken ≡ false
     → Stepping port rows rows1 next_rows waiting.items rest waits queue next_queue mail next_mail next_own next_queued flags x row closes stops busy sent made
     → Marked port (row ∷ reverse rows) (busy_marks flags.busy busy ++ closing closes)
-      × Grew port (marked (row ∷ reverse rows) (busy_marks flags.busy busy ++ closing closes)) (reverse next_rows) rest waits next_queue
-      × Out (items (reverse rows)) waiting.items queue rest next_queue x
+    × Grew port (marked (row ∷ reverse rows) (busy_marks flags.busy busy ++ closing closes)) (reverse next_rows) rest waits next_queue
+    × Out (items (reverse rows)) waiting.items queue rest next_queue x
 Grew-step port stage own next_own queued next_queued rows rows1 next_rows waiting rest waits queue next_queue mail next_mail given flags x row closes stops busy sent made s b t =
     let past = reverse rows in
     let e = t.extends in
@@ -211,7 +211,7 @@ pub Sound-step : (port : Opening) (stage next_stage : Life) (own next_own : Own)
     → Stepping port rows rows1 next_rows waiting.items rest next_waiting.items queue next_queue mail next_mail next_own next_queued flags x row closes stops busy sent made
     → next_stage ≡ cond stops Stopped stage → next_waiting.senders ≡ waiting.senders
     → Sound port next_stage next_own next_queued (reverse next_rows) next_waiting next_queue next_mail given
-        (record { count = flags.count + made; busy = busy; closed = flags.closed || closes; stopped = flags.stopped || stops; broken = not sent })
+    (record { count = flags.count + made; busy = busy; closed = flags.closed || closes; stopped = flags.stopped || stops; broken = not sent })
 Sound-step port stage next_stage own next_own queued next_queued rows rows1 next_rows waiting next_waiting rest queue next_queue mail next_mail given flags x row closes stops busy sent made s b t st seats =
     let past = reverse rows in
     let e = t.extends in

@@ -18,11 +18,7 @@ use waiting_list::WaitingList;
 const MAX_MARKS: u64 = 0x1000_0000_0000_0000;
 
 /// Makes room for what one step can need: a row with two marks, a late row for each task that waits, and a place among these.
-pub fn make_room(
-    rows: &mut Vec<Row>,
-    waiting: &mut WaitingList,
-    marks: u64,
-) -> Result<(), NoMemory>
+pub fn make_room(rows: &mut Vec<Row>, waiting: &mut WaitingList, marks: u64) -> Result<(), NoMemory>
     ensures rows { rows.new.items ≡ rows.old.items }
     ensures waiting { waiting.new.items ≡ waiting.old.items }
     ensures senders { waiting.new.senders ≡ waiting.old.senders }

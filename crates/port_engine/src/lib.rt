@@ -14,4 +14,6 @@ pub use body::{Body, BodyEnd, BodyParts};
 pub use turn::Turn;
 
 #[cfg(test)]
+mod busy_tests;
+#[cfg(test)]
 mod tests;

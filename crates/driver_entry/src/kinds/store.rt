@@ -90,12 +90,7 @@ fn put(ctx: &mut DriverCtx, bytes: &Piece) -> Result<ReplyTo, NoMemory>
 }
 
 /// Answers a control.
-fn control(
-    alloc: Global,
-    ctx: &mut DriverCtx,
-    op: u32,
-    bytes: &Piece,
-) -> Result<ReplyTo, NoMemory>
+fn control(alloc: Global, ctx: &mut DriverCtx, op: u32, bytes: &Piece) -> Result<ReplyTo, NoMemory>
     ensures answers { IfOk result (Answers op bytes.now ctx.old ctx.new) }
     ensures room { KeepsRoom ctx.old ctx.new }
 {
