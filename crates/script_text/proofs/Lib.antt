@@ -1,0 +1,10 @@
+pub mod Fronts
+pub mod Values
+pub mod Levels
+pub mod Turns
+pub mod Names
+pub mod Found
+pub mod FoundData
+pub mod Again
+pub mod AgainData
+pub mod Exact

@@ -1,0 +1,106 @@
+//! TEXTs: bytes in double quotes, some of them escaped.
+
+ghost use Rattle.std.specs.Prelude.{◌≡◌, ◌<◌, ◌≤◌, ◌+◌, ◌*◌, ◌-◌, ℕ, List, Some, None, length, option_map, IfOk, IfSome};
+ghost use Rattle.port_terms.specs.declared.values.TheConstants.{MAX_ITEMS};
+ghost use Rattle.script_text.specs.Texts.{SpellsText};
+ghost use Rattle.script_text.specs.InFront.{InFront};
+ghost use Rattle.script_text.specs.PartFault.{Reads, Gives};
+ghost use Rattle.script_text.specs.Reading.{hex_value, hexadecimal_at, escape_at, byte_at, content_at, text_at};
+
+use crate::fault::PartFault;
+use crate::tokens::after;
+use port_terms::{MAX_ITEMS, Octets, octets};
+use std::alloc::Global;
+
+/// The TEXT in front of the bytes, and what stands behind it. Bytes of a TEXT stand for themselves, or are escaped as `\n`, `\r`,
+/// `\t`, `\\`, `\"` or `\xHH` with two digits from `0` to `9` and from `a` to `f`. It has at most 262,143 bytes.
+pub fn read_text(alloc: Global, bytes: &[u8]) -> Result<(Octets, &[u8]), PartFault>
+    // What is read is spelled so.
+    ensures found { IfOk result (λ x. InFront SpellsText x.0 bytes.now x.1.now) }
+    // What is spelled so is read, unless memory runs out.
+    ensures only { (content rest : List ℕ) → InFront SpellsText content bytes.now rest → Gives (λ x. x.0) (λ x. x.1.now) result content rest }
+{
+    text(alloc, bytes)
+}
+
+/// The TEXT in front, and what stands behind it.
+#[tactic(auto, unfolding(crate::specs::Reading::text_at))]
+pub(crate) fn text(alloc: Global, bytes: &[u8]) -> Result<(Octets, &[u8]), PartFault>
+    ensures reads { Reads (λ x. (x.0, x.1.now)) result (text_at bytes.now) }
+    ensures few { IfOk result (λ x. length x.0 ≤ MAX_ITEMS) }
+{
+    let inner = after(b'"', bytes).ok_or(PartFault::Bad)?;
+    content(alloc, inner)
+}
+
+/// The bytes that a text spells up to its closing quote, and what stands behind that.
+fn content(alloc: Global, bytes: &[u8]) -> Result<(Octets, &[u8]), PartFault>
+    ensures reads { Reads (λ x. (x.0, x.1.now)) result (content_at (MAX_ITEMS + 1) bytes.now) }
+    ensures few { IfOk result (λ x. length x.0 ≤ MAX_ITEMS) }
+{
+    let mut content = Vec::new(alloc);
+    let mut rest = bytes;
+    for _ in 0..MAX_ITEMS + 1 {
+        if let Some(behind) = after(b'"', rest) {
+            return Ok((octets(content), behind));
+        }
+        let Some((byte, behind)) = byte(rest) else {
+            return Err(PartFault::Bad);
+        };
+        content.push(byte)?;
+        rest = behind;
+    }
+    Err(PartFault::Bad)
+}
+
+/// The byte that the content of a text spells in front, and what stands behind it.
+#[tactic(auto, unfolding(crate::specs::Reading::byte_at))]
+fn byte(content: &[u8]) -> Option<(u8, &[u8])>
+    ensures { option_map (λ x. (x.0, x.1.now)) result ≡ byte_at content.now }
+{
+    match content {
+        [] | [b'"', ..] => None,
+        [b'\\', rest @ ..] => escape(rest),
+        [byte, rest @ ..] => Some((*byte, rest)),
+    }
+}
+
+/// The byte of an escape, behind its backslash.
+fn escape(bytes: &[u8]) -> Option<(u8, &[u8])>
+    ensures { option_map (λ x. (x.0, x.1.now)) result ≡ escape_at bytes.now }
+{
+    let [kind, rest @ ..] = bytes else {
+        return None;
+    };
+    match kind {
+        b'n' => Some((b'\n', rest)),
+        b'r' => Some((b'\r', rest)),
+        b't' => Some((b'\t', rest)),
+        b'\\' => Some((b'\\', rest)),
+        b'"' => Some((b'"', rest)),
+        b'x' => hexadecimal(rest),
+        _ => None,
+    }
+}
+
+/// The byte of two hexadecimal digits.
+fn hexadecimal(bytes: &[u8]) -> Option<(u8, &[u8])>
+    ensures { option_map (λ x. (x.0, x.1.now)) result ≡ hexadecimal_at bytes.now }
+{
+    let [high, low, rest @ ..] = bytes else {
+        return None;
+    };
+    Some((16 * hex_value(*high)? + hex_value(*low)?, rest))
+}
+
+/// The number below 16 that a hexadecimal digit stands for.
+fn hex_value(digit: u8) -> Option<u8>
+    ensures value { result ≡ hex_value digit }
+    ensures small { IfSome result (λ value. value < 16) }
+{
+    match digit {
+        b'0'..=b'9' => Some(digit - b'0'),
+        b'a'..=b'f' => Some(digit - b'a' + 10),
+        _ => None,
+    }
+}
