@@ -125,7 +125,7 @@ const BAD: [(&str, u32); 17] = [
 fn scripts_print_their_reports(rt: HostRuntime) -> Result<(), Fail> {
     let alloc = rt.alloc();
     for (script, wanted) in RUNS {
-        let (cause, written) = end_of_script(alloc, script.as_bytes())?;
+        let (cause, written) = end_of_script(&rt, alloc, script.as_bytes())?;
         assert_eq!(rt; cause, Cause::Done);
         assert_eq!(rt; str::from_utf8(written.as_slice())?, wanted);
     }
@@ -136,7 +136,7 @@ fn scripts_print_their_reports(rt: HostRuntime) -> Result<(), Fail> {
 fn bad_scripts_print_nothing(rt: HostRuntime) -> Result<(), Fail> {
     let alloc = rt.alloc();
     for (script, line) in BAD {
-        let (cause, written) = end_of_script(alloc, script.as_bytes())?;
+        let (cause, written) = end_of_script(&rt, alloc, script.as_bytes())?;
         let fault = ScriptFault::BadLine { line };
         assert_eq!(rt; cause, Cause::Script { fault });
         assert!(rt; written.is_empty());
@@ -158,7 +158,7 @@ fn command_of(alloc: Global, len: usize) -> Result<Vec<u8>, Fail> {
 #[test]
 fn a_command_has_at_most_262143_bytes(rt: HostRuntime) -> Result<(), Fail> {
     let alloc = rt.alloc();
-    let (cause, written) = end_of_script(alloc, command_of(alloc, 262_143)?.as_slice())?;
+    let (cause, written) = end_of_script(&rt, alloc, command_of(alloc, 262_143)?.as_slice())?;
     assert_eq!(rt; cause, Cause::Done);
     assert_eq!(rt;
         str::from_utf8(written.as_slice())?,
@@ -166,7 +166,7 @@ fn a_command_has_at_most_262143_bytes(rt: HostRuntime) -> Result<(), Fail> {
          port p driver=echo commands=1 late=0 bytes=262143 end=normal\n\
          process a commands=1 dropped=0 suspended=0 data=1 sha256=69dbf0273ec892997c5c9ab8d595c8ce79d7656db64a88a0c38304de37f5f2d8\n"
     );
-    let (cause, written) = end_of_script(alloc, command_of(alloc, 262_144)?.as_slice())?;
+    let (cause, written) = end_of_script(&rt, alloc, command_of(alloc, 262_144)?.as_slice())?;
     let fault = ScriptFault::BadLine { line: 3 };
     assert_eq!(rt; cause, Cause::Script { fault });
     assert!(rt; written.is_empty());

@@ -6,6 +6,7 @@ use driver_entry::{Driver, Echo, Life};
 use gateway_script::ScriptFault;
 use outside::{MemFiles, MemPoll, MemSink, OpenGate};
 use std::alloc::Global;
+use std::sync::Wait;
 use std::test::Fail;
 
 /// A process that hands three bytes to its port and closes it.
@@ -36,7 +37,8 @@ fn holding(alloc: Global, script: &[u8]) -> Result<MemFiles, Fail> {
 }
 
 /// Runs the words over the files, with so many echo drivers.
-fn run(
+fn run<R: Sync + Wait>(
+    rt: &R,
     alloc: Global,
     words: &[&str],
     files: &mut MemFiles,
@@ -50,7 +52,7 @@ fn run(
     let drivers = echoes(alloc, count)?;
     let poll = MemPoll::new(alloc);
     Ok(gateway(
-        &(),
+        rt,
         alloc,
         owned.as_slice(),
         files,
@@ -62,18 +64,27 @@ fn run(
 }
 
 /// The status and the cause of a run of this script, with so many echo drivers.
-fn end_of(alloc: Global, script: &[u8], count: usize) -> Result<(u8, Cause), Fail> {
+fn end_of<R: Sync + Wait>(
+    rt: &R,
+    alloc: Global,
+    script: &[u8],
+    count: usize,
+) -> Result<(u8, Cause), Fail> {
     let mut files = holding(alloc, script)?;
     let mut out = MemSink::new(alloc);
-    let Ended { status, cause, .. } = run(alloc, &["run", "s"], &mut files, &mut out, count)?;
+    let Ended { status, cause, .. } = run(rt, alloc, &["run", "s"], &mut files, &mut out, count)?;
     Ok((status, cause))
 }
 
 /// The cause of a run of this script with one echo driver, and what it wrote.
-pub fn end_of_script(alloc: Global, script: &[u8]) -> Result<(Cause, Vec<u8>), Fail> {
+pub fn end_of_script<R: Sync + Wait>(
+    rt: &R,
+    alloc: Global,
+    script: &[u8],
+) -> Result<(Cause, Vec<u8>), Fail> {
     let mut files = holding(alloc, script)?;
     let mut out = MemSink::new(alloc);
-    let Ended { cause, .. } = run(alloc, &["run", "s"], &mut files, &mut out, 1)?;
+    let Ended { cause, .. } = run(rt, alloc, &["run", "s"], &mut files, &mut out, 1)?;
     let mut written = Vec::new(alloc);
     written.extend_from_slice(out.bytes())?;
     Ok((cause, written))
@@ -84,7 +95,7 @@ fn a_command_and_a_close_print_three_lines(rt: HostRuntime) -> Result<(), Fail> 
     let alloc = rt.alloc();
     let mut files = holding(alloc, ABC)?;
     let mut out = MemSink::new(alloc);
-    let ended = run(alloc, &["run", "s"], &mut files, &mut out, 1)?;
+    let ended = run(&rt, alloc, &["run", "s"], &mut files, &mut out, 1)?;
     assert_eq!(rt; ended.status, 0);
     assert_eq!(rt; ended.cause, Cause::Done);
     assert_eq!(rt; str::from_utf8(out.bytes())?, ABC_REPORT);
@@ -98,7 +109,7 @@ fn the_driver_comes_back_stopped(rt: HostRuntime) -> Result<(), Fail> {
     let alloc = rt.alloc();
     let mut files = holding(alloc, ABC)?;
     let mut out = MemSink::new(alloc);
-    let ended = run(alloc, &["run", "s"], &mut files, &mut out, 2)?;
+    let ended = run(&rt, alloc, &["run", "s"], &mut files, &mut out, 2)?;
     let lives = [(Some(0), Life::Stopped), (None, Life::Fresh)];
     assert_eq!(rt; ended.drivers.len(), 2);
     for (host, (port, life)) in ended.drivers.iter().zip(lives) {
@@ -113,7 +124,7 @@ fn an_empty_script_prints_its_report(rt: HostRuntime) -> Result<(), Fail> {
     let alloc = rt.alloc();
     let mut files = holding(alloc, b"")?;
     let mut out = MemSink::new(alloc);
-    let ended = run(alloc, &["run", "s"], &mut files, &mut out, 0)?;
+    let ended = run(&rt, alloc, &["run", "s"], &mut files, &mut out, 0)?;
     assert_eq!(rt; ended.status, 0);
     assert_eq!(rt;
         str::from_utf8(out.bytes())?,
@@ -134,7 +145,7 @@ fn words_that_are_not_served_are_told_by_place(rt: HostRuntime) -> Result<(), Fa
     ] {
         let mut files = holding(alloc, ABC)?;
         let mut out = MemSink::new(alloc);
-        let ended = run(alloc, words, &mut files, &mut out, 1)?;
+        let ended = run(&rt, alloc, words, &mut files, &mut out, 1)?;
         assert_eq!(rt; ended.status, 1);
         assert_eq!(rt; ended.cause, Cause::Usage { at });
         assert!(rt; out.bytes().is_empty());
@@ -147,7 +158,7 @@ fn a_script_that_is_not_held_is_a_read_fault(rt: HostRuntime) -> Result<(), Fail
     let alloc = rt.alloc();
     let mut files = holding(alloc, ABC)?;
     let mut out = MemSink::new(alloc);
-    let ended = run(alloc, &["run", "t"], &mut files, &mut out, 1)?;
+    let ended = run(&rt, alloc, &["run", "t"], &mut files, &mut out, 1)?;
     assert_eq!(rt; ended.status, 3);
     assert_eq!(rt; ended.cause, Cause::ReadFault { line: 0 });
     assert!(rt; out.bytes().is_empty());
@@ -160,7 +171,7 @@ fn a_read_that_fails_is_a_read_fault(rt: HostRuntime) -> Result<(), Fail> {
     let mut files = holding(alloc, ABC)?;
     files.fail_read(0)?;
     let mut out = MemSink::new(alloc);
-    let ended = run(alloc, &["run", "s"], &mut files, &mut out, 1)?;
+    let ended = run(&rt, alloc, &["run", "s"], &mut files, &mut out, 1)?;
     assert_eq!(rt; ended.status, 3);
     assert_eq!(rt; ended.cause, Cause::ReadFault { line: 0 });
     assert!(rt; out.bytes().is_empty());
@@ -175,7 +186,7 @@ fn a_put_that_fails_is_a_write_fault(rt: HostRuntime) -> Result<(), Fail> {
         let mut out = MemSink::new(alloc);
         out.fail_put(0)?;
         out.take_before_failing(count);
-        let ended = run(alloc, &["run", "s"], &mut files, &mut out, 1)?;
+        let ended = run(&rt, alloc, &["run", "s"], &mut files, &mut out, 1)?;
         assert_eq!(rt; ended.status, 4);
         assert_eq!(rt; ended.cause, Cause::WriteFault);
         assert!(rt; ended.report.is_some());
@@ -192,7 +203,7 @@ fn a_script_has_at_most_1048576_bytes(rt: HostRuntime) -> Result<(), Fail> {
         (1_048_577, (10, Cause::Limit { line: 0 })),
     ] {
         let script = vec![in alloc; b'\n'; len]?;
-        assert_eq!(rt; end_of(alloc, script.as_slice(), 0)?, wanted);
+        assert_eq!(rt; end_of(&rt, alloc, script.as_slice(), 0)?, wanted);
     }
     Ok(())
 }
@@ -201,7 +212,7 @@ fn a_script_has_at_most_1048576_bytes(rt: HostRuntime) -> Result<(), Fail> {
 fn a_bad_line_is_told(rt: HostRuntime) -> Result<(), Fail> {
     let fault = ScriptFault::BadLine { line: 1 };
     assert_eq!(rt;
-        end_of(rt.alloc(), b"bad\n", 1)?,
+        end_of(&rt, rt.alloc(), b"bad\n", 1)?,
         (2, Cause::Script { fault })
     );
     Ok(())
@@ -210,7 +221,7 @@ fn a_bad_line_is_told(rt: HostRuntime) -> Result<(), Fail> {
 #[test]
 fn a_port_wants_a_driver(rt: HostRuntime) -> Result<(), Fail> {
     let cause = Cause::NoDriver { line: 2, handed: 0 };
-    assert_eq!(rt; end_of(rt.alloc(), ABC, 0)?, (5, cause));
+    assert_eq!(rt; end_of(&rt, rt.alloc(), ABC, 0)?, (5, cause));
     Ok(())
 }
 
