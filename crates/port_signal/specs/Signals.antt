@@ -1,12 +1,38 @@
 -- What a signal is.
 use Rattle.std.specs.Prelude.{Bool, true, false}
 use Rattle.port_signal.specs.declared.signal.Signal.{Signal}
-use Rattle.port_signal.specs.declared.signal.Signal.TheVariants.{Command, Control, Call, Close, Gone}
+use Rattle.port_signal.specs.declared.signal.Signal.TheVariants.{Command, OwnerCommand, Control, Call, Close, OwnerClose, Connect, OwnerConnect, Link, Unlink, Monitor, Demonitor, Exit, Gone}
 
--- the signal is a command, which waits while the port is busy
+-- the signal is a command, in either form, which waits while the port is busy
 abbrev pub is_command : Signal → Bool
 is_command (Command payload) = true
+is_command (OwnerCommand payload) = true
 is_command (Control op bytes) = false
 is_command (Call op bytes) = false
 is_command Close = false
+is_command OwnerClose = false
+is_command (Connect process) = false
+is_command (OwnerConnect process) = false
+is_command Link = false
+is_command Unlink = false
+is_command (Monitor number) = false
+is_command (Demonitor number) = false
+is_command (Exit reason) = false
 is_command (Gone reason) = false
+
+-- the signal tells that its sender has ended
+abbrev pub is_end : Signal → Bool
+is_end (Command payload) = false
+is_end (OwnerCommand payload) = false
+is_end (Control op bytes) = false
+is_end (Call op bytes) = false
+is_end Close = false
+is_end OwnerClose = false
+is_end (Connect process) = false
+is_end (OwnerConnect process) = false
+is_end Link = false
+is_end Unlink = false
+is_end (Monitor number) = false
+is_end (Demonitor number) = false
+is_end (Exit reason) = false
+is_end (Gone reason) = true

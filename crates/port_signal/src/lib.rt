@@ -7,6 +7,7 @@
 
 mod items;
 mod mail;
+mod monitor;
 mod name;
 mod receipt;
 mod row;
@@ -15,7 +16,8 @@ mod spelling;
 
 pub use io_vector::{Flag, IoVec, Piece};
 pub use items::{Items, Log, MAX_ITEMS};
-pub use mail::{Answer, Mail, Mails};
+pub use mail::{Answer, Mail, Mails, Post};
+pub use monitor::Monitor;
 pub use name::{MAX_NAME, Reason, ReasonFault};
 pub use no_memory::NoMemory;
 pub use receipt::{Outcome, Receipt, Receipts};

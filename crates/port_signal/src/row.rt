@@ -25,6 +25,8 @@ pub enum Effect {
     Message { flag: Flag, bytes: Piece },
     /// Whether the port takes no commands from now on, as by `set_busy_port`.
     Busy(bool),
+    /// The driver is told of the end of this process, as by `driver_monitor_process`.
+    Watch(u32),
     /// The bytes that answer a control or a call.
     Reply(Piece),
     /// A control or a call that isn't served.

@@ -12,12 +12,30 @@ pub enum Sender {
 pub enum Signal {
     /// Data for the driver, as by `port_command`.
     Command(IoVec),
+    /// Data for the driver, as by `Port ! {Owner, {command, Data}}`. From another process than the owner it is a bad signal.
+    OwnerCommand(IoVec),
     /// An operation of the driver on some bytes, as by `port_control`. It is answered.
     Control { op: u32, bytes: Piece },
     /// An operation of the driver on the external form of a term, as by `port_call`. It is answered.
     Call { op: u32, bytes: Piece },
     /// Asks the port to close, as by `port_close`. It is answered.
     Close,
+    /// Asks the port to close, as by `Port ! {Owner, close}`. The sender is told when the driver was stopped.
+    OwnerClose,
+    /// Makes this process the owner, as by `port_connect`. It is answered.
+    Connect(u32),
+    /// Makes this process the owner, as by `Port ! {Owner, {connect, Process}}`. The sender is told.
+    OwnerConnect(u32),
+    /// Links the sender to the port, as by `link`.
+    Link,
+    /// Takes the sender's link away, as by `unlink`.
+    Unlink,
+    /// Monitors the port under this number, which the sender chose, as by `monitor`.
+    Monitor(u64),
+    /// Takes the sender's monitor of this number away, as by `demonitor`.
+    Demonitor(u64),
+    /// An exit signal, as by `exit(Port, Reason)`.
+    Exit(Reason),
     /// The sender has ended for this reason.
     Gone(Reason),
 }

@@ -1,0 +1,58 @@
+-- The processes that are linked to a port, and the monitors of it, as lists in rising order, each once.
+use Rattle.std.specs.Prelude.{◌==◌, ℕ, List, [], ◌∷◌, ◌++◌, Bool, true, false, not, ◌&&◌, ◌||◌, if◌then◌else◌, nat_lt, map, filter}
+use Rattle.port_signal.specs.declared.monitor.Monitor.{Monitor}
+use Rattle.port_signal.specs.declared.mail.Post.{Post}
+use Rattle.port_signal.specs.declared.mail.Mail.TheVariants.{Exit, Down}
+
+-- the process is among these
+abbrev pub has : ℕ → List ℕ → Bool
+has process [] = false
+has process (other ∷ others) = (other == process) || has process others
+
+-- with this process, at its place
+abbrev pub with_process : ℕ → List ℕ → List ℕ
+with_process process [] = process ∷ []
+with_process process (other ∷ others) =
+    if nat_lt process other then process ∷ other ∷ others
+    else (if other == process then other ∷ others else other ∷ with_process process others)
+
+abbrev pub without_process : ℕ → List ℕ → List ℕ
+without_process process others = filter (λ other. not (other == process)) others
+
+-- monitors are ordered by process and number
+abbrev pub is_before : Monitor → Monitor → Bool
+is_before m other = nat_lt m.process other.process || (m.process == other.process && nat_lt m.number other.number)
+
+abbrev pub is_same : Monitor → Monitor → Bool
+is_same m other = m.process == other.process && m.number == other.number
+
+-- the monitor is among these
+abbrev pub has_monitor : Monitor → List Monitor → Bool
+has_monitor m [] = false
+has_monitor m (other ∷ others) = is_same m other || has_monitor m others
+
+-- with this monitor, at its place
+abbrev pub with_monitor : Monitor → List Monitor → List Monitor
+with_monitor m [] = m ∷ []
+with_monitor m (other ∷ others) =
+    if is_before m other then m ∷ other ∷ others
+    else (if is_same m other then other ∷ others else other ∷ with_monitor m others)
+
+abbrev pub without_monitor : Monitor → List Monitor → List Monitor
+without_monitor m others = filter (λ other. not (is_same m other)) others
+
+-- without the monitors of a process
+abbrev pub without_watcher : ℕ → List Monitor → List Monitor
+without_watcher process others = filter (λ other. not (other.process == process)) others
+
+-- an exit signal of the port of this number
+abbrev pub exit_post : ℕ → List ℕ → ℕ → Post
+exit_post port reason process = record { to = process; mail = Exit port reason }
+
+-- what a monitor of the port is told
+abbrev pub down_post : ℕ → List ℕ → Monitor → Post
+down_post port reason m = record { to = m.process; mail = Down port m.number reason }
+
+-- what the end of a port sends: exit signals to the linked processes, and then what the monitors are told, each in rising order
+abbrev pub end_posts : ℕ → List ℕ → List ℕ → List Monitor → List Post
+end_posts port reason linked monitors = map (exit_post port reason) linked ++ map (down_post port reason) monitors
