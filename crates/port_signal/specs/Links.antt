@@ -3,6 +3,7 @@ use Rattle.std.specs.Prelude.{◌==◌, ℕ, List, [], ◌∷◌, ◌++◌, Bool
 use Rattle.port_signal.specs.declared.monitor.Monitor.{Monitor}
 use Rattle.port_signal.specs.declared.mail.Post.{Post}
 use Rattle.port_signal.specs.declared.mail.Mail.TheVariants.{Exit, Down}
+use Rattle.port_signal.specs.Reasons.{is_normal}
 
 -- the process is among these
 abbrev pub has : ℕ → List ℕ → Bool
@@ -56,3 +57,11 @@ down_post port reason m = record { to = m.process; mail = Down port m.number rea
 -- what the end of a port sends: exit signals to the linked processes, and then what the monitors are told, each in rising order
 abbrev pub end_posts : ℕ → List ℕ → List ℕ → List Monitor → List Post
 end_posts port reason linked monitors = map (exit_post port reason) linked ++ map (down_post port reason) monitors
+
+-- an exit signal closes the port where its reason is a failure, or where the owner sends it
+abbrev pub exit_closes : ℕ → ℕ → List ℕ → Bool
+exit_closes owner process reason = not (is_normal reason) || (process == owner)
+
+-- the end of a process closes the port where it is the owner, or where it is linked and its reason is a failure
+abbrev pub end_closes : ℕ → List ℕ → ℕ → List ℕ → Bool
+end_closes owner linked process reason = (process == owner) || (has process linked && not (is_normal reason))
