@@ -1,5 +1,5 @@
 -- What a tally counts, call by call.
-use Rattle.std.proofs.Common.{◌≡◌, ℕ, ◌+◌, ◌<◌, List, [], ◌∷◌, ◌++◌, length, refl, sym, ap, ◌∙◌, zero-add, arith, if◌then◌else◌, ◌==◌, codes}
+use Rattle.std.proofs.Common.{◌≡◌, ℕ, ◌+◌, ◌<◌, List, [], ◌∷◌, ◌++◌, length, refl, sym, ap, subst, ◌∙◌, zero-add, arith, if◌then◌else◌, ◌==◌, codes}
 use Rattle.std.specs.Prelude.{pos}
 use Rattle.std.specs.Int.{w64, to_be_bytes}
 use Rattle.std.specs.Str.{IsAscii, chars}
@@ -8,11 +8,11 @@ use Rattle.std.proofs.lemmas.List.Sums.{sum_by-cons}
 use Rattle.std.proofs.lemmas.Str.{chars-IsAscii}
 use Rattle.port_signal.specs.declared.row.Outside.{Outside}
 use Rattle.port_signal.specs.declared.row.Effect.{Effect}
-use Rattle.port_signal.specs.declared.row.Effect.TheVariants.{Reply, ReplyBadarg}
+use Rattle.port_signal.specs.declared.row.Effect.TheVariants.{Watch, Reply, ReplyBadarg}
 use Rattle.port_signal.proofs.Names.{IsAscii-fault_from}
 use Rattle.driver_entry.specs.declared.config.Config.{Config}
 use Rattle.driver_entry.specs.Context.{Context}
-use Rattle.driver_entry.specs.Callbacks.{Callback}
+use Rattle.driver_entry.specs.Callbacks.{Callback, Control}
 use Rattle.driver_entry.specs.Drivers.{Tally, Call, Counted, holds, commands, command_bytes, command_count, command_length, effects_of, tally_effects}
 use Rattle.driver_entry.specs.Driven.{call_of, held_of, Did}
 
@@ -31,7 +31,7 @@ counts-more c b queue config earlier call e =
 
 -- a tally that was asked goes on with the same numbers
 pub Did-asked : (callback : Callback) (c b : ℕ) (context : Context) (answer : Effect) → command_count callback ≡ 0 → command_length callback ≡ 0
-    → ((earlier : List Call) → c ≡ commands earlier → b ≡ command_bytes earlier → answer ∷ [] ≡ tally_effects (commands earlier) (command_bytes earlier) callback)
+    → ((earlier : List Call) → c ≡ commands earlier → b ≡ command_bytes earlier → answer ∷ [] ≡ tally_effects context.caller (commands earlier) (command_bytes earlier) callback)
     → Did Tally callback (Counted c b) (Counted c b) context context (answer ∷ [])
 Did-asked callback c b context answer zc zb asked = record {
   answers = [];
@@ -41,6 +41,22 @@ Did-asked callback c b context answer zc zb asked = record {
       record {
         holds = (ap (λ x. held_of x context.queue) (let p : c ≡ command_count callback + c = omega (arith, zc) in let q : b ≡ command_length callback + b = omega (arith, zb) in rw (← p, ← q) refl)) ∙ counts-more c b context.queue config earlier (call_of callback context.caller []) e;
         effects = ap (λ es. context.effects ++ es) (asked earlier n.0 n.1);
+        answered = refl;
+      };
+}
+
+-- a tally that recorded something beside its answer goes on with the same numbers
+pub Did-watched : (op : ℕ) (bytes : List ℕ) (c b : ℕ) (old new : Context) (answer : Effect) → op ≡ 2 → new.outside ≡ old.outside → new.queue ≡ old.queue
+    → new.effects ++ answer ∷ [] ≡ old.effects ++ Watch old.caller ∷ Reply [] ∷ []
+    → Did Tally (Control op bytes) (Counted c b) (Counted c b) old new (answer ∷ [])
+Did-watched op bytes c b old new answer two o q e = record {
+  answers = [];
+  recorded = o ∙ sym (append-nil old.outside);
+  follows = λ config earlier h. record {
+        holds = rw q (subst (λ n. held_of (Counted n b) old.queue ≡ holds Tally config (call_of (Control op bytes) old.caller [] ∷ earlier)) (zero-add c)
+            (subst (λ n. held_of (Counted (0 + c) n) old.queue ≡ holds Tally config (call_of (Control op bytes) old.caller [] ∷ earlier)) (zero-add b)
+            (counts-more c b old.queue config earlier (call_of (Control op bytes) old.caller []) h)));
+        effects = rw two e;
         answered = refl;
       };
 }

@@ -7,15 +7,16 @@ use Rattle.std.specs.Cmp.Lexicographic.{pointwise}
 use Rattle.task_queue.specs.Items.{of}
 use Rattle.port_signal.specs.declared.signal.Sender.{Sender}
 use Rattle.port_signal.specs.declared.signal.Signal.{Signal}
-use Rattle.port_signal.specs.declared.signal.Signal.TheVariants.{Command, Control, Call as CallSignal, Close, Gone}
+use Rattle.port_signal.specs.declared.signal.Signal.TheVariants.{Command, OwnerCommand, Control, Call as CallSignal, Close, OwnerClose, Connect, OwnerConnect, Link, Unlink, Monitor, Demonitor, Exit, Gone}
 use Rattle.port_signal.specs.declared.signal.Task.{Task}
 use Rattle.port_signal.specs.declared.row.Outside.{Outside}
 use Rattle.port_signal.specs.declared.row.Effect.{Effect}
-use Rattle.port_signal.specs.declared.row.Effect.TheVariants.{Message, Busy as SetBusy, Reply, ReplyBadarg}
+use Rattle.port_signal.specs.declared.row.Effect.TheVariants.{Message, Busy as SetBusy, Watch, Reply, ReplyBadarg}
 use Rattle.port_signal.specs.declared.row.Row.{Row}
 use Rattle.port_signal.specs.declared.row.Row.TheVariants.{Handled, Late, Mark}
 use Rattle.port_signal.specs.declared.row.MarkKind.{MarkKind}
 use Rattle.port_signal.specs.declared.row.MarkKind.TheVariants.{Busy, Free, Closed}
+use Rattle.port_signal.specs.Reasons.{is_kill, told_reason}
 use Rattle.port_signal.specs.Signals.{is_command}
 use Rattle.port_signal.specs.History.{items, is_busy, sender_number}
 use Rattle.driver_entry.specs.declared.config.Config.{Config}
@@ -23,29 +24,7 @@ use Rattle.driver_entry.specs.Context.{is_empty}
 use Rattle.driver_entry.specs.Callbacks as callback
 use Rattle.driver_entry.specs.Drivers.{Kind, Call, holds, effects_of, IsAnswered}
 use Rattle.driver_entry.specs.Driven.{call_of}
-
--- what was fixed when a port was opened: its number, the kind of its driver, its config and its opener, the first owner
-pub record Opening : Type 0 where
-  pub number : ℕ
-  pub kind : Kind
-  pub config : Config
-  pub owner : ℕ
-
--- the reason `kill`, with which nothing that is queued is flushed
-abbrev pub is_kill : List ℕ → Bool
-is_kill reason = pointwise nat_eq reason (codes "kill")
-
--- the reason that linked processes are told: `kill` is told as `killed`
-abbrev pub told_reason : List ℕ → List ℕ
-told_reason reason = if is_kill reason then codes "killed" else reason
-
--- the reason for which a signal of this sender closes an open port, if it does
-abbrev pub closing_reason : Opening → List Row → Sender → Signal → Option (List ℕ)
-closing_reason port older from (Command payload) = None
-closing_reason port older from (Control op bytes) = None
-closing_reason port older from (CallSignal op bytes) = None
-closing_reason port older from Close = Some (codes "normal")
-closing_reason port older from (Gone reason) = if sender_number from == port.owner then Some reason else None
+use Rattle.driver_entry.specs.Owners.{Opening, closing_reason, is_watched, owner_of}
 
 -- the reason of the closing row, the first handled row whose signal closes the port
 abbrev pub close_reason : Opening → List Row → Option (List ℕ)
@@ -63,13 +42,30 @@ end_reason port history = option_map told_reason (close_reason port history)
 abbrev pub is_open : Opening → List Row → Bool
 is_open port history = is_none (close_reason port history)
 
--- the call of a handled signal, if it has one
-abbrev pub signal_calls : Sender → List Outside → Signal → List Call
-signal_calls from outside (Command payload) = call_of (callback.Outputv (concat payload)) (sender_number from) outside ∷ []
-signal_calls from outside (Control op bytes) = call_of (callback.Control op bytes) (sender_number from) outside ∷ []
-signal_calls from outside (CallSignal op bytes) = call_of (callback.Call op bytes) (sender_number from) outside ∷ []
-signal_calls from outside Close = []
-signal_calls from outside (Gone reason) = []
+-- the call of a handled signal of the owner or of another, if it has one; the driver may watch its sender
+abbrev pub signal_calls : Bool → Bool → Sender → List Outside → Signal → List Call
+signal_calls owns watched from outside (Command payload) = call_of (callback.Outputv (concat payload)) (sender_number from) outside ∷ []
+signal_calls owns watched from outside (OwnerCommand payload) = if owns then call_of (callback.Outputv (concat payload)) (sender_number from) outside ∷ [] else []
+signal_calls owns watched from outside (Control op bytes) = call_of (callback.Control op bytes) (sender_number from) outside ∷ []
+signal_calls owns watched from outside (CallSignal op bytes) = call_of (callback.Call op bytes) (sender_number from) outside ∷ []
+signal_calls owns watched from outside Close = []
+signal_calls owns watched from outside OwnerClose = []
+signal_calls owns watched from outside (Connect process) = []
+signal_calls owns watched from outside (OwnerConnect process) = []
+signal_calls owns watched from outside Link = []
+signal_calls owns watched from outside Unlink = []
+signal_calls owns watched from outside (Monitor number) = []
+signal_calls owns watched from outside (Demonitor number) = []
+signal_calls owns watched from outside (Exit reason) = []
+signal_calls owns watched from outside (Gone reason) = if watched then call_of (callback.ProcessExit (sender_number from)) (sender_number from) outside ∷ [] else []
+
+-- the sender is the owner
+abbrev pub owns : Opening → List Row → Sender → Bool
+owns port older from = sender_number from == owner_of port older
+
+-- the call of a handled signal after the older rows, if it has one
+abbrev pub task_calls : Opening → List Row → Sender → List Outside → Signal → List Call
+task_calls port older from outside signal = signal_calls (owns port older from) (is_watched (sender_number from) older) from outside signal
 
 -- nothing is queued after the calls
 abbrev pub is_drained : Opening → List Call → Bool
@@ -93,8 +89,8 @@ closing_calls port caller reason earlier =
 -- the calls of a row after earlier ones, newest first: that of its signal, and where it closes the port `flush` and `stop`
 abbrev pub row_calls : Opening → List Row → List Call → Row → List Call
 row_calls port older earlier (Handled from seq task outside effects) =
-    closing_calls port (sender_number from) (closing_reason port older from task.signal) (signal_calls from outside task.signal ++ earlier)
-    ++ signal_calls from outside task.signal
+    closing_calls port (sender_number from) (closing_reason port older from task.signal) (task_calls port older from outside task.signal ++ earlier)
+    ++ task_calls port older from outside task.signal
 row_calls port older earlier (Late from seq task) = []
 row_calls port older earlier (Mark kind) = []
 
@@ -108,6 +104,7 @@ is_stop callback.Start = false
 is_stop (callback.Outputv bytes) = false
 is_stop (callback.Control op bytes) = false
 is_stop (callback.Call op bytes) = false
+is_stop (callback.ProcessExit process) = false
 is_stop callback.Flush = false
 is_stop callback.Stop = true
 
@@ -135,6 +132,7 @@ abbrev pub busy_after : Bool → List Effect → Bool
 busy_after busy [] = busy
 busy_after busy (Message flag bytes ∷ effects) = busy_after busy effects
 busy_after busy (SetBusy now ∷ effects) = busy_after now effects
+busy_after busy (Watch process ∷ effects) = busy_after busy effects
 busy_after busy (Reply bytes ∷ effects) = busy_after busy effects
 busy_after busy (ReplyBadarg ∷ effects) = busy_after busy effects
 

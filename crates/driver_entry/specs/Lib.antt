@@ -4,6 +4,9 @@ pub mod Replies
 pub mod Store
 pub mod Tally
 pub mod Drivers
+pub mod Refusals
+pub mod Refusing
 pub mod Driven
+pub mod Owners
 pub mod History
 pub mod Mail

@@ -6,7 +6,7 @@ use Rattle.port_signal.specs.declared.row.Effect.TheVariants.{Reply, ReplyBadarg
 use Rattle.driver_entry.specs.declared.reply.ReplyTo.{ReplyTo}
 use Rattle.driver_entry.specs.Context.{Context}
 use Rattle.driver_entry.specs.Replies.{reply_effect}
-use Rattle.driver_entry.specs.Callbacks.{Callback, Start, Outputv, Control, Call, Flush, Stop}
+use Rattle.driver_entry.specs.Callbacks.{Callback, Start, Outputv, Control, Call, ProcessExit, Flush, Stop}
 
 -- the number in the first 4 of these bytes
 abbrev pub number : List ℕ → ℕ
@@ -33,6 +33,7 @@ queue_after Start queue = queue
 queue_after (Outputv bytes) queue = queue ++ bytes
 queue_after (Control op bytes) queue = queue_controlled op bytes queue
 queue_after (Call op bytes) queue = queue
+queue_after (ProcessExit process) queue = queue
 queue_after Flush queue = []
 queue_after Stop queue = queue
 

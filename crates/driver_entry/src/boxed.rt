@@ -64,6 +64,15 @@ impl Driver for Box<dyn Driver + Send> {
         (**self).call(alloc, ctx, op, bytes)
     }
 
+    fn process_exit(
+        &mut self,
+        alloc: Global,
+        ctx: &mut DriverCtx,
+        process: u32,
+    ) -> Result<(), NoMemory> {
+        (**self).process_exit(alloc, ctx, process)
+    }
+
     fn flush(&mut self, alloc: Global, ctx: &mut DriverCtx) -> Result<(), NoMemory> {
         (**self).flush(alloc, ctx)
     }

@@ -1,6 +1,6 @@
 ghost use Rattle.std.specs.Prelude.{◌≡◌, ◌<◌, ◌≤◌, ◌++◌, ◌∷◌, [], drop, length, OnOk, OnErr, IfErr};
 ghost use Rattle.std.specs.List.{concat};
-ghost use Rattle.port_signal.specs.declared.row.Effect.TheVariants.{Busy, Message};
+ghost use Rattle.port_signal.specs.declared.row.Effect.TheVariants.{Busy, Message, Watch};
 ghost use Rattle.driver_queue.specs.EnqFault.{EnqFails};
 ghost use Rattle.driver_entry.specs.Context.{is_empty};
 ghost use Rattle.driver_entry.specs.Replies.{reply_effect};
@@ -99,6 +99,16 @@ impl DriverCtx {
         ensures err { OnErr result (self.new ≡ self.old) }
     {
         self.effects.push(Effect::Busy(busy))?;
+        Ok(())
+    }
+
+    /// Has the driver told of the end of a process: `driver_monitor_process` of erl_driver.
+    pub fn watch(&mut self, process: u32) -> Result<(), NoMemory>
+        requires { length self.old.effects < 1048576 }
+        ensures ok { OnOk result (self.new ≡ record self.old { effects = self.old.effects ++ Watch process ∷ [] }) }
+        ensures err { OnErr result (self.new ≡ self.old) }
+    {
+        self.effects.push(Effect::Watch(process))?;
         Ok(())
     }
 

@@ -1,8 +1,9 @@
-ghost use Rattle.std.specs.Prelude.{◌≡◌, ◌≤◌, ◌∷◌, ℕ, [], length, OnOk, OnErr, IfOk};
+ghost use Rattle.std.specs.Prelude.{◌≡◌, ◌≤◌, ◌∷◌, ℕ, [], None, length, OnOk, OnErr, IfOk, IfErr};
 ghost use Rattle.std.specs.List.{concat};
-ghost use Rattle.driver_entry.specs.Callbacks.{Outputv, Control, Call, Flush};
+ghost use Rattle.driver_entry.specs.Callbacks.{Outputv, Control, Call, ProcessExit, Flush};
 ghost use Rattle.driver_entry.specs.Drivers.{Kind, Own, is_soft, kind_name};
 ghost use Rattle.driver_entry.specs.Driven.{Did, Began, Ended, KeepsRoom};
+ghost use Rattle.driver_entry.specs.Refusals.{Refuses, refusal_of};
 ghost use Rattle.driver_entry.specs.Replies.{reply_effect};
 
 use crate::{Config, DriverCtx, Life, ReplyTo, StartRefusal};
@@ -54,7 +55,9 @@ pub trait Driver: Drop {
         ensures kind { kind self.new ≡ kind self.old }
         ensures faults { faults self.old ≤ faults self.new }
         ensures started { OnOk result (stage self.new ≡ Life.Started) }
+        ensures starts { OnOk result (refusal_of (kind self.old) ≡ None) }
         ensures refused { OnErr result (stage self.new ≡ Life.Stopped) }
+        ensures refusal { IfErr result (Refuses (kind self.old)) }
         ensures room { KeepsRoom ctx.old ctx.new }
         ensures began { OnOk result (Began (kind self.old) config.now (own self.new) ctx.old ctx.new) };
 
@@ -107,6 +110,22 @@ pub trait Driver: Drop {
         ensures stage { stage self.new ≡ Life.Started }
         ensures room { KeepsRoom ctx.old ctx.new }
         ensures did { IfOk result (λ answer. Did (kind self.old) (Call op bytes.now) (own self.old) (own self.new) ctx.old ctx.new (reply_effect answer ∷ [])) };
+
+    /// Is told of the end of a process that it watches: `process_exit` of driver_entry.
+    fn process_exit(
+        &mut self,
+        alloc: Global,
+        ctx: &mut DriverCtx,
+        process: u32,
+    ) -> Result<(), NoMemory>
+        requires started { stage self.old ≡ Life.Started }
+        requires outside { length ctx.old.outside ≤ 524288 }
+        requires effects { length ctx.old.effects ≤ 524288 }
+        ensures kind { kind self.new ≡ kind self.old }
+        ensures faults { faults self.old ≤ faults self.new }
+        ensures stage { stage self.new ≡ Life.Started }
+        ensures room { KeepsRoom ctx.old ctx.new }
+        ensures did { OnOk result (Did (kind self.old) (ProcessExit process) (own self.old) (own self.new) ctx.old ctx.new []) };
 
     /// Sends or puts away what is queued, as its port closes: `flush` of driver_entry.
     fn flush(&mut self, alloc: Global, ctx: &mut DriverCtx) -> Result<(), NoMemory>

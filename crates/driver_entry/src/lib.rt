@@ -16,7 +16,7 @@ mod reply;
 pub use config::Config;
 pub use context::DriverCtx;
 pub use driver::Driver;
-pub use kinds::{Echo, Store, Tally, Valve, ValveSoft};
+pub use kinds::{Echo, Refuse, Refused, Store, Tally, Valve, ValveSoft};
 pub use life::{Life, StartRefusal};
 pub use reply::ReplyTo;
 

@@ -6,8 +6,12 @@ pub enum Life {
     Stopped,
 }
 
-/// Why a driver did not start.
+/// Why a driver did not start: `ERL_DRV_ERROR_GENERAL`, `ERL_DRV_ERROR_ERRNO` and `ERL_DRV_ERROR_BADARG` of driver_entry, or want of
+/// memory.
 #[derive(Clone, Copy, Debug, PartialEq, Eq)]
 pub enum StartRefusal {
+    General,
+    Errno,
+    Badarg,
     NoMemory,
 }

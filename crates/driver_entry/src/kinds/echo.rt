@@ -106,6 +106,15 @@ impl Driver for Echo {
         answer(op, bytes)
     }
 
+    fn process_exit(
+        &mut self,
+        _alloc: Global,
+        _ctx: &mut DriverCtx,
+        _process: u32,
+    ) -> Result<(), NoMemory> {
+        Ok(())
+    }
+
     fn flush(&mut self, _alloc: Global, _ctx: &mut DriverCtx) -> Result<(), NoMemory> {
         Ok(())
     }

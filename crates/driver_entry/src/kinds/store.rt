@@ -177,6 +177,15 @@ impl Driver for Store {
         Ok(ReplyTo::Badarg)
     }
 
+    fn process_exit(
+        &mut self,
+        _alloc: Global,
+        _ctx: &mut DriverCtx,
+        _process: u32,
+    ) -> Result<(), NoMemory> {
+        Ok(())
+    }
+
     fn flush(&mut self, _alloc: Global, ctx: &mut DriverCtx) -> Result<(), NoMemory> {
         let all = ctx.queue().to_piece()?;
         ctx.send(Flag::Plain, &all)?;

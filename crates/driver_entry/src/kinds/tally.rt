@@ -1,11 +1,12 @@
-ghost use Rattle.std.specs.Prelude.{◌≡◌, ◌==◌, ◌+◌, ◌^◌, ◌<◌, ◌≤◌, ◌++◌, length, IfOk, IfSome, if◌then◌else◌, OnOk};
+ghost use Rattle.std.specs.Prelude.{◌≡◌, ◌==◌, ◌+◌, ◌^◌, ◌<◌, ◌≤◌, ◌++◌, ◌∷◌, [], length, IfOk, IfSome, if◌then◌else◌, OnOk};
 ghost use Rattle.std.specs.Int.{w64, to_be_bytes};
-ghost use Rattle.port_signal.specs.declared.row.Effect.TheVariants.{Reply, ReplyBadarg};
+ghost use Rattle.port_signal.specs.declared.row.Effect.TheVariants.{Watch, Reply, ReplyBadarg};
 ghost use Rattle.driver_entry.specs.Drivers.{Tally as TallyKind, Counted, tally_term};
+ghost use Rattle.driver_entry.specs.Driven.{KeepsRoom};
 ghost use Rattle.driver_entry.specs.Replies.{reply_effect};
 
 use crate::{Config, Driver, DriverCtx, Life, ReplyTo, StartRefusal};
-use port_signal::{IoVec, NoMemory, Piece, Reason};
+use port_signal::{Flag, IoVec, NoMemory, Piece, Reason};
 use port_terms::{AtomFault, Term, atom, encode, terms};
 use std::alloc::Global;
 use std::marker::Model;
@@ -14,7 +15,8 @@ use std::marker::Model;
 const MAX_COUNT: u64 = 0x7fff_ffff_ffff_ffff;
 
 /// A driver that counts commands and their bytes. Control 1 answers both numbers in 8 bytes each, the most significant first; call 1
-/// answers the term `{tally, Commands, Bytes}`.
+/// answers the term `{tally, Commands, Bytes}`. Control 2 has it watch the caller: when a process that it watches ends, it sends the
+/// number of that process to the owner, in one byte.
 #[derive(Drop)]
 pub struct Tally {
     life: Life,
@@ -87,6 +89,18 @@ fn term(alloc: Global, commands: u64, bytes: u64) -> Result<Piece, NoMemory>
     Piece::of_vec(form)
 }
 
+/// Watches the process that called.
+fn watch_caller(ctx: &mut DriverCtx) -> Result<ReplyTo, NoMemory>
+    requires { length ctx.old.effects < 1048576 }
+    ensures outside { ctx.new.outside ≡ ctx.old.outside }
+    ensures queue { ctx.new.queue ≡ ctx.old.queue }
+    ensures effects { IfOk result (λ answer. ctx.new.effects ++ reply_effect answer ∷ [] ≡ ctx.old.effects ++ Watch ctx.old.caller ∷ Reply [] ∷ []) }
+    ensures room { KeepsRoom ctx.old ctx.new }
+{
+    ctx.watch(ctx.caller())?;
+    Ok(ReplyTo::Bytes(Piece::empty()))
+}
+
 impl Driver for Tally {
     ghost kind = { λ _. TallyKind };
 
@@ -138,12 +152,16 @@ impl Driver for Tally {
     fn control(
         &mut self,
         alloc: Global,
-        _ctx: &mut DriverCtx,
+        ctx: &mut DriverCtx,
         op: u32,
         _bytes: &Piece,
     ) -> Result<ReplyTo, NoMemory> {
         if op == 1 {
             return Ok(ReplyTo::Bytes(both(alloc, self.commands, self.bytes)?));
+        }
+        if op == 2 {
+            let answer = watch_caller(ctx)?;
+            return Ok(answer);
         }
         Ok(ReplyTo::Badarg)
     }
@@ -159,6 +177,16 @@ impl Driver for Tally {
             return Ok(ReplyTo::Bytes(term(alloc, self.commands, self.bytes)?));
         }
         Ok(ReplyTo::Badarg)
+    }
+
+    fn process_exit(
+        &mut self,
+        alloc: Global,
+        ctx: &mut DriverCtx,
+        process: u32,
+    ) -> Result<(), NoMemory> {
+        let told = Piece::of_slice(alloc, &[(process % 256) as u8])?;
+        ctx.send(Flag::Plain, &told)
     }
 
     fn flush(&mut self, _alloc: Global, _ctx: &mut DriverCtx) -> Result<(), NoMemory> {

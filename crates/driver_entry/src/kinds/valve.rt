@@ -129,6 +129,15 @@ impl Driver for Valve {
         Ok(ReplyTo::Badarg)
     }
 
+    fn process_exit(
+        &mut self,
+        _alloc: Global,
+        _ctx: &mut DriverCtx,
+        _process: u32,
+    ) -> Result<(), NoMemory> {
+        Ok(())
+    }
+
     fn flush(&mut self, _alloc: Global, _ctx: &mut DriverCtx) -> Result<(), NoMemory> {
         Ok(())
     }
@@ -222,6 +231,15 @@ impl Driver for ValveSoft {
         _bytes: &Piece,
     ) -> Result<ReplyTo, NoMemory> {
         Ok(ReplyTo::Badarg)
+    }
+
+    fn process_exit(
+        &mut self,
+        _alloc: Global,
+        _ctx: &mut DriverCtx,
+        _process: u32,
+    ) -> Result<(), NoMemory> {
+        Ok(())
     }
 
     fn flush(&mut self, _alloc: Global, _ctx: &mut DriverCtx) -> Result<(), NoMemory> {

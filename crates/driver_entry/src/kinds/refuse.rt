@@ -1,0 +1,133 @@
+ghost use Rattle.std.specs.Prelude.{◌≡◌};
+ghost use Rattle.driver_entry.specs.Refusing.{kind_of};
+ghost use Rattle.driver_entry.specs.Drivers.{Nothing};
+
+use crate::{Config, Driver, DriverCtx, Life, ReplyTo, StartRefusal};
+use port_signal::{IoVec, NoMemory, Piece, Reason};
+use std::alloc::Global;
+use std::marker::Model;
+
+/// How a driver refuses to start.
+#[derive(Clone, Copy, Debug, PartialEq, Eq)]
+pub enum Refused {
+    General,
+    Errno,
+    Badarg,
+}
+
+/// A driver that never starts: `refuse1` with a general error, `refuse2` with one of the system, `refuse3` for its argument.
+#[derive(Drop)]
+pub struct Refuse {
+    refused: Refused,
+    life: Life,
+}
+
+impl Model for Refuse {
+    ghost use Rattle.driver_entry.specs.Refusing.{Refuser};
+
+    ghost Value = { Refuser };
+
+    ghost view = { λ r. record { refused = r.refused; life = r.life } };
+}
+
+impl Refuse {
+    /// A fresh driver that refuses so.
+    pub fn new(refused: Refused) -> Refuse
+        ensures { result ≡ record { refused = refused; life = Life.Fresh } }
+    {
+        Refuse {
+            refused,
+            life: Life::Fresh,
+        }
+    }
+}
+
+impl Driver for Refuse {
+    ghost kind = { λ r. kind_of r.refused };
+
+    ghost own = { λ _. Nothing };
+
+    ghost stage = { λ r. r.life };
+
+    ghost faults = { λ _. 0 };
+
+    fn name(&self) -> Reason {
+        let name = match self.refused {
+            Refused::General => Reason::of_bytes(b"refuse1"),
+            Refused::Errno => Reason::of_bytes(b"refuse2"),
+            Refused::Badarg => Reason::of_bytes(b"refuse3"),
+        };
+        match name {
+            Ok(name) => name,
+            Err(_) => unreachable!(),
+        }
+    }
+
+    fn soft_busy(&self) -> bool {
+        false
+    }
+
+    fn life(&self) -> Life {
+        self.life
+    }
+
+    fn start(
+        &mut self,
+        _alloc: Global,
+        _ctx: &mut DriverCtx,
+        _config: &Config,
+    ) -> Result<(), StartRefusal> {
+        self.life = Life::Stopped;
+        match self.refused {
+            Refused::General => Err(StartRefusal::General),
+            Refused::Errno => Err(StartRefusal::Errno),
+            Refused::Badarg => Err(StartRefusal::Badarg),
+        }
+    }
+
+    fn outputv(
+        &mut self,
+        _alloc: Global,
+        _ctx: &mut DriverCtx,
+        _payload: &IoVec,
+    ) -> Result<(), NoMemory> {
+        Ok(())
+    }
+
+    fn control(
+        &mut self,
+        _alloc: Global,
+        _ctx: &mut DriverCtx,
+        _op: u32,
+        _bytes: &Piece,
+    ) -> Result<ReplyTo, NoMemory> {
+        Ok(ReplyTo::Badarg)
+    }
+
+    fn call(
+        &mut self,
+        _alloc: Global,
+        _ctx: &mut DriverCtx,
+        _op: u32,
+        _bytes: &Piece,
+    ) -> Result<ReplyTo, NoMemory> {
+        Ok(ReplyTo::Badarg)
+    }
+
+    fn process_exit(
+        &mut self,
+        _alloc: Global,
+        _ctx: &mut DriverCtx,
+        _process: u32,
+    ) -> Result<(), NoMemory> {
+        Ok(())
+    }
+
+    fn flush(&mut self, _alloc: Global, _ctx: &mut DriverCtx) -> Result<(), NoMemory> {
+        Ok(())
+    }
+
+    fn stop(&mut self) {
+        self.life = Life::Stopped;
+    }
+}
