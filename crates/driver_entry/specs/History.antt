@@ -167,6 +167,10 @@ pub record LawfulEffects (port : Opening) (older : List Row) (row : Row) (record
   pub effects : recorded ≡ effects_after port.kind port.config (calls port older) (row_calls port older (calls port older) row)
   pub answered : AllAnswered port.kind port.config (calls port older) (row_calls port older (calls port older) row)
 
+-- where a row's signal has no call, the outside was asked nothing
+abbrev pub IsAsked : Opening → List Row → Sender → List Outside → Signal → Type 0
+IsAsked port older from outside signal = task_calls port older from outside signal ≡ [] → outside ≡ []
+
 -- a command is handled only where the port isn't busy
 abbrev pub LawfulBusy : List Row → Signal → Type 0
 LawfulBusy older signal = is_command signal ≡ true → is_busy older ≡ false
@@ -175,6 +179,7 @@ LawfulBusy older signal = is_command signal ≡ true → is_busy older ≡ false
 abbrev pub LawfulRow : Opening → List Row → Row → Type 0
 LawfulRow port older (Handled from seq task outside effects) =
     LawfulTask port older from seq true × LawfulBusy older task.signal × LawfulEffects port older (Handled from seq task outside effects) effects
+    × IsAsked port older from outside task.signal
 LawfulRow port older (Late from seq task) = LawfulTask port older from seq false
 LawfulRow port older (Mark kind) = marks_due port older ≡ kind ∷ drop 1 (marks_due port older)
 

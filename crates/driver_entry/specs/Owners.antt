@@ -112,7 +112,7 @@ linked port [] = port.owner ∷ []
 linked port (Handled from seq task outside effects ∷ older) =
     if is_some (closes_for (owner_of port older) (linked port older) from task.signal) then []
     else links_after port older (owner_of port older) from task.signal (linked port older)
-linked port (Late from seq task ∷ older) = linked port older
+linked port (Late from seq task ∷ older) = if is_end task.signal then without_process (sender_number from) (linked port older) else linked port older
 linked port (Mark kind ∷ older) = linked port older
 
 -- the reason for which a signal closes an open port, if it does
@@ -145,7 +145,7 @@ abbrev pub monitors : Opening → List Row → List Monitor
 monitors port [] = []
 monitors port (Handled from seq task outside effects ∷ older) =
     if is_some (closing_reason port older from task.signal) then [] else monitors_after from task.signal (monitors port older)
-monitors port (Late from seq task ∷ older) = monitors port older
+monitors port (Late from seq task ∷ older) = if is_end task.signal then without_watcher (sender_number from) (monitors port older) else monitors port older
 monitors port (Mark kind ∷ older) = monitors port older
 
 -- the driver asked for this process's end

@@ -11,7 +11,9 @@ use Rattle.driver_entry.specs.declared.config.Config.{Config}
 use Rattle.driver_entry.specs.Context.{Context, is_empty}
 use Rattle.driver_entry.specs.Drivers.{Kind, Call, Own, Held, holds, effects_of}
 use Rattle.driver_entry.specs.Driven.{Did, Ended, held_of, call_of}
-use Rattle.driver_entry.specs.History.{Opening, AllAnswered, effects_after, signal_calls, has_stop, is_stop, is_kill, is_drained, closing_calls, flush_calls, stop_calls}
+use Rattle.port_signal.specs.Reasons.{is_kill}
+use Rattle.driver_entry.specs.Owners.{Opening}
+use Rattle.driver_entry.specs.History.{AllAnswered, effects_after, signal_calls, has_stop, is_stop, is_drained, closing_calls, flush_calls, stop_calls}
 use Rattle.driver_entry.specs.Callbacks as callback
 use Rattle.port_engine.specs.Made.{Called, Closes, ShutDown}
 
@@ -33,12 +35,23 @@ pub stop-append : (xs ys : List Call) → has_stop (xs ++ ys) ≡ (has_stop xs |
 stop-append xs ys = list_any-append (λ call. is_stop call.callback) xs ys
 
 -- the call of a signal is no stop
-pub no-stop : (from : Sender) (outside : List Outside) (s : Signal) → has_stop (signal_calls from outside s) ≡ false
-no-stop from outside (signal.Command payload) = refl
-no-stop from outside (signal.Control op bytes) = refl
-no-stop from outside (signal.Call op bytes) = refl
-no-stop from outside signal.Close = refl
-no-stop from outside (signal.Gone reason) = refl
+pub no-stop : (owns watched : Bool) (from : Sender) (outside : List Outside) (s : Signal) → has_stop (signal_calls owns watched from outside s) ≡ false
+no-stop owns watched from outside (signal.Command payload) = refl
+no-stop true watched from outside (signal.OwnerCommand payload) = refl
+no-stop false watched from outside (signal.OwnerCommand payload) = refl
+no-stop owns watched from outside (signal.Control op bytes) = refl
+no-stop owns watched from outside (signal.Call op bytes) = refl
+no-stop owns watched from outside signal.Close = refl
+no-stop owns watched from outside signal.OwnerClose = refl
+no-stop owns watched from outside (signal.Connect process) = refl
+no-stop owns watched from outside (signal.OwnerConnect process) = refl
+no-stop owns watched from outside signal.Link = refl
+no-stop owns watched from outside signal.Unlink = refl
+no-stop owns watched from outside (signal.Monitor number) = refl
+no-stop owns watched from outside (signal.Demonitor number) = refl
+no-stop owns watched from outside (signal.Exit reason) = refl
+no-stop owns true from outside (signal.Gone reason) = refl
+no-stop owns false from outside (signal.Gone reason) = refl
 
 -- what is queued tells whether the calls left something
 drained : (port : Opening) (earlier : List Call) (own : Own) (queue : List ℕ) → held_of own queue ≡ holds port.kind port.config earlier

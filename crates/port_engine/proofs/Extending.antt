@@ -1,5 +1,5 @@
 -- A handled row and a late one keep the laws.
-use Rattle.std.proofs.Common.{◌≡◌, ℕ, List, [], ◌∷◌, ◌++◌, length, Bool, true, false, not, ◌||◌, cond, Option, Some, None, is_some, is_none, refl, sym, ap, ◌∙◌, append_assoc, subst}
+use Rattle.std.proofs.Common.{◌≡◌, ℕ, List, [], ◌∷◌, ◌++◌, length, Bool, true, false, not, ◌||◌, cond, eqb, Option, Some, None, is_some, is_none, refl, sym, ap, ◌∙◌, append_assoc, subst}
 use Rattle.std.proofs.lemmas.List.{append-nil}
 use Rattle.task_queue.specs.declared.item.Item.{Item}
 use Rattle.task_queue.specs.Items.{of}
@@ -14,9 +14,12 @@ use Rattle.port_signal.specs.History.{items, item, is_busy}
 use Rattle.driver_entry.specs.Context.{Context}
 use Rattle.driver_entry.specs.Drivers.{Kind, Call, Own, holds}
 use Rattle.driver_entry.specs.Driven.{held_of}
-use Rattle.driver_entry.specs.History.{Opening, LawfulEffects, busy_after, busy_marks, closing_reason, closing_calls, close_reason, is_open, is_stopped, has_stop, marks_due, calls, signal_calls, effects_after}
+use Rattle.driver_entry.specs.Owners.{Opening, closes_for, closing_reason, is_watched, owner_of}
+use Rattle.links_owner.specs.Ties.{Ties}
+use Rattle.port_engine.specs.Tied.{Tied}
+use Rattle.driver_entry.specs.History.{LawfulEffects, owns, task_calls, busy_after, busy_marks, closing_calls, close_reason, is_open, is_stopped, has_stop, marks_due, calls, signal_calls, effects_after}
 use Rattle.port_engine.specs.Late.{late_row}
-use Rattle.port_engine.specs.Made.{Called, Closes, ShutDown, Extends}
+use Rattle.port_engine.specs.Made.{Called, Closes, Ending, ShutDown, Extends}
 use Rattle.port_engine.proofs.Calls.{effects-append, answered-append, stop-append, no-stop}
 
 -- an open port stays open exactly where the row has no reason to close it
@@ -29,18 +32,23 @@ or-assoc : (a b c : Bool) → ((a || b) || c) ≡ (a || (b || c))
 or-assoc true b c = refl
 or-assoc false b c = refl
 
+-- what a handled task leaves: its row keeps the laws, and closes the port and stops the driver as is said
+pub record HasRow (port : Opening) (older : List Row) (x : Item Task) (row : Row) (reason : Option (List ℕ)) (stops busy : Bool) (own : Own) (queue : List ℕ) : Type 0 where
+  pub extends : Extends port older x row (is_some reason) stops busy own queue
+  pub ending : Ending port older row reason stops
+
 -- the row of a handled task
 pub Extends-handled : (port : Opening) (older : List Row) (sender seq : ℕ) (task : Task) (done last : Context) (before between after : Own) (queue : List ℕ)
-    (stops busy : Bool) → Called port.kind (Process sender) task.signal before between queue done
+    (stops busy : Bool) → Called port.kind (owns port older (Process sender)) (is_watched sender older) (Process sender) task.signal before between queue done
     → ShutDown port.kind (closing_reason port older (Process sender) task.signal) stops between after done last → done.caller ≡ sender
     → is_open port older ≡ true → marks_due port older ≡ [] → is_busy older ≡ busy → (is_command task.signal ≡ true → busy ≡ false)
     → seq ≡ length (of sender (items older)) → held_of before queue ≡ holds port.kind port.config (calls port older)
-    → Extends port older (item (Process sender) seq task) (Handled (Process sender) seq task last.outside last.effects)
-    (is_some (closing_reason port older (Process sender) task.signal)) stops (busy_after busy last.effects) after last.queue
+    → HasRow port older (item (Process sender) seq task) (Handled (Process sender) seq task last.outside last.effects)
+    (closing_reason port older (Process sender) task.signal) stops (busy_after busy last.effects) after last.queue
 Extends-handled port older sender seq task done last before between after queue stops busy called shut caller opened due b free order held =
     let reason : Option (List ℕ) = closing_reason port older (Process sender) task.signal in
     let f = called.follows port.config (calls port older) held in
-    let call : List Call = signal_calls (Process sender) done.outside task.signal in
+    let call : List Call = task_calls port older (Process sender) done.outside task.signal in
     let earlier : List Call = call ++ calls port older in
     let closing : List Call = closing_calls port sender reason earlier in
     let s : Closes port closing stops earlier after done last =
@@ -49,15 +57,20 @@ Extends-handled port older sender seq task done last before between after queue 
       effects = s.effects ∙ (ap (λ es. es ++ effects_after port.kind port.config earlier closing) f.1 ∙ sym (effects-append port.kind port.config (calls port older) closing call));
       answered = answered-append port.kind port.config (calls port older) closing call f.2 s.answered;
     } in
-    subst (λ (out : List Outside). Extends port older (item (Process sender) seq task) (Handled (Process sender) seq task out last.effects) (is_some reason) stops (busy_after busy last.effects) after last.queue) (sym s.outside) (record {
-      lawful = (record { order = order; lifetime = opened; marks = due }, λ c. b ∙ free c, laws);
+    let stop : has_stop (closing ++ call) ≡ stops =
+    stop-append closing call ∙ (ap (λ x. has_stop closing || x) (no-stop (owns port older (Process sender)) (is_watched sender older) (Process sender) done.outside task.signal) ∙ (or-false (has_stop closing) ∙ s.stopped)) in
+    subst (λ (out : List Outside). HasRow port older (item (Process sender) seq task) (Handled (Process sender) seq task out last.effects) reason stops (busy_after busy last.effects) after last.queue) (sym s.outside) (record {
+      ending = (refl, stop);
+      extends = record {
+      lawful = (record { order = order; lifetime = opened; marks = due }, λ c. b ∙ free c, laws, called.asked);
       task = refl;
       marks = refl;
       same_busy = refl;
       opens = none-after (close_reason port older) reason opened;
-      stopped = stop-append (closing ++ call) (calls port older) ∙ ap (λ x. x || has_stop (calls port older)) (stop-append closing call ∙ (ap (λ x. has_stop closing || x) (no-stop (Process sender) done.outside task.signal) ∙ (or-false (has_stop closing) ∙ s.stopped)));
+      stopped = stop-append (closing ++ call) (calls port older) ∙ ap (λ x. x || has_stop (calls port older)) stop;
       due = rw b (ap (λ ms. busy_marks busy (busy_after busy last.effects) ++ ms) (closed-as reason));
       holds = s.holds ∙ ap (λ cs. holds port.kind port.config cs) (sym (append_assoc closing call (calls port older)));
+      };
     }) where
       or-false : (x : Bool) → (x || false) ≡ x
       or-false true = refl
@@ -68,25 +81,33 @@ Extends-handled port older sender seq task done last before between after queue 
       closed-as (Some r) = refl
 
 -- the same from what the calls of the driver ensure
-pub handled-extends : (port : Opening) (older : List Row) (sender seq : ℕ) (task : Task) (kind next_kind : Kind) (before between after : Own) (fresh done last : Context)
-    (queue last_queue : List ℕ) (reason : Option (List ℕ)) (closes stops busy now : Bool) (outside : List Outside) (effects : List Effect)
+pub handled-extends : (port : Opening) (older : List Row) (ties : Ties) (sender seq : ℕ) (task : Task) (kind next_kind : Kind) (before between after : Own) (fresh done last : Context)
+    (queue last_queue : List ℕ) (reason : Option (List ℕ)) (own_flag watched stops busy now : Bool) (outside : List Outside) (effects : List Effect)
+    → Tied port older ties → own_flag ≡ eqb sender ties.owner → watched ≡ is_watched sender older
     → fresh ≡ record { caller = sender; queue = queue; outside = []; effects = [] }
-    → Called kind (Process fresh.caller) task.signal before between fresh.queue done → done.caller ≡ fresh.caller
+    → Called kind own_flag watched (Process fresh.caller) task.signal before between fresh.queue done → done.caller ≡ fresh.caller
     → next_kind ≡ kind → ShutDown next_kind reason stops between after done last
-    → reason ≡ closing_reason port older (Process sender) task.signal → closes ≡ is_some reason
+    → reason ≡ closes_for ties.owner ties.linked (Process sender) task.signal
     → last_queue ≡ last.queue → outside ≡ last.outside → effects ≡ last.effects → now ≡ busy_after busy effects → port.kind ≡ kind
     → is_open port older ≡ true → marks_due port older ≡ [] → is_busy older ≡ busy → (is_command task.signal ≡ true → busy ≡ false)
     → seq ≡ length (of sender (items older)) → held_of before queue ≡ holds port.kind port.config (calls port older)
-    → Extends port older (item (Process sender) seq task) (Handled (Process sender) seq task outside effects) closes stops now after last_queue
-handled-extends port older sender seq task kind next_kind before between after fresh done last queue last_queue reason closes stops busy now outside effects
-    starts called caller kinds shut why closing q o f n k opened due b free order held =
+    → HasRow port older (item (Process sender) seq task) (Handled (Process sender) seq task outside effects) reason stops now after last_queue
+handled-extends port older ties sender seq task kind next_kind before between after fresh done last queue last_queue reason own_flag watched stops busy now outside effects
+    tied own_is watch_is starts called caller kinds shut why q o f n k opened due b free order held =
     let context : Context = record { caller = sender; queue = queue; outside = []; effects = [] } in
-    let called' : Called port.kind (Process sender) task.signal before between queue done =
-    subst (λ m. Called m (Process sender) task.signal before between queue done) (sym k) (subst (λ (x : Context). Called kind (Process x.caller) task.signal before between x.queue done) starts called) in
+    let mine : own_flag ≡ owns port older (Process sender) = own_is ∙ ap (λ p. eqb sender p) tied.owner in
+    let reason_is : reason ≡ closing_reason port older (Process sender) task.signal =
+    why ∙ (ap (λ p. closes_for p ties.linked (Process sender) task.signal) tied.owner ∙ ap (λ ps. closes_for (owner_of port older) ps (Process sender) task.signal) tied.linked) in
+    let called1 : Called kind own_flag watched (Process sender) task.signal before between queue done =
+    subst (λ (x : Context). Called kind own_flag watched (Process x.caller) task.signal before between x.queue done) starts called in
+    let called' : Called port.kind (owns port older (Process sender)) (is_watched sender older) (Process sender) task.signal before between queue done =
+    subst (λ m. Called m (owns port older (Process sender)) (is_watched sender older) (Process sender) task.signal before between queue done) (sym k)
+    (subst (λ w. Called kind (owns port older (Process sender)) w (Process sender) task.signal before between queue done) watch_is
+    (subst (λ w. Called kind w watched (Process sender) task.signal before between queue done) mine called1)) in
     let shut' : ShutDown port.kind (closing_reason port older (Process sender) task.signal) stops between after done last =
-    subst (λ r. ShutDown port.kind r stops between after done last) why (subst (λ m. ShutDown m reason stops between after done last) (kinds ∙ sym k) shut) in
+    subst (λ r. ShutDown port.kind r stops between after done last) reason_is (subst (λ m. ShutDown m reason stops between after done last) (kinds ∙ sym k) shut) in
     let whole = Extends-handled port older sender seq task done last before between after queue stops busy called' shut' (caller ∙ ap (λ x. x.caller) starts) opened due b free order held in
-    rw (closing, n, f, o, q, why) whole
+    rw (n, f, o, q, reason_is) whole
 
 same-busy : (busy : Bool) → busy_marks busy busy ≡ []
 same-busy true = refl

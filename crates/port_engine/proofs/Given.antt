@@ -12,7 +12,7 @@ use Rattle.port_signal.specs.declared.row.Row.{Row}
 use Rattle.port_signal.specs.History.{items}
 use Rattle.driver_entry.specs.declared.life.Life.{Life}
 use Rattle.driver_entry.specs.Drivers.{Own}
-use Rattle.driver_entry.specs.History.{Opening}
+use Rattle.driver_entry.specs.Owners.{Opening}
 use Rattle.port_engine.specs.Box.{Box}
 use Rattle.waiting_list.specs.Waiting.{Waiting}
 use Rattle.waiting_list.specs.Order.{InOrder, SendersBelow}

@@ -11,7 +11,8 @@ use Rattle.port_signal.specs.declared.row.MarkKind.TheVariants.{Busy, Free, Clos
 use Rattle.port_signal.specs.History.{items, marks, is_busy, busy_by, closed_by}
 use Rattle.driver_entry.specs.Drivers.{Call}
 use Rattle.port_signal.specs.declared.signal.Sender.TheVariants.{Process}
-use Rattle.driver_entry.specs.History.{Opening, Lawful, LawfulTask, is_open, marks_due, calls, busy_marks}
+use Rattle.driver_entry.specs.Owners.{Opening}
+use Rattle.driver_entry.specs.History.{Lawful, LawfulTask, is_open, marks_due, calls, busy_marks}
 use Rattle.waiting_list.specs.Order.{InOrder}
 use Rattle.port_engine.specs.Late.{late_row, late_rows}
 use Rattle.port_engine.specs.Made.{row_of_mark}

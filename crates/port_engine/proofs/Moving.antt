@@ -5,8 +5,10 @@ use Rattle.port_signal.specs.declared.row.Row.{Row}
 use Rattle.port_signal.specs.declared.row.Row.TheVariants.{Mark}
 use Rattle.port_signal.specs.declared.row.MarkKind.{MarkKind}
 use Rattle.port_signal.specs.declared.mail.Mail.{Mail}
-use Rattle.driver_entry.specs.History.{Opening}
-use Rattle.driver_entry.specs.Mail.{Post, row_posts, mail_for, mails, is_gone, gone_after}
+use Rattle.driver_entry.specs.Owners.{Opening}
+use Rattle.port_signal.specs.declared.mail.Post.{Post}
+use Rattle.driver_entry.specs.Owners.{is_gone, gone_after}
+use Rattle.driver_entry.specs.Mail.{row_posts, mail_for, mails}
 use Rattle.port_engine.specs.Box.{Box}
 use Rattle.port_engine.specs.Boxes.{box_at, KnowsGone, Moves, Sends}
 use Rattle.port_engine.specs.Made.{row_of_mark}

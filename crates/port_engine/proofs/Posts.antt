@@ -7,9 +7,10 @@ use Rattle.std.specs.List.{flat_map}
 use Rattle.std.proofs.lemmas.List.Elements.{filter-append}
 use Rattle.port_signal.specs.declared.mail.Mail.{Mail}
 use Rattle.port_signal.specs.declared.row.Row.{Row}
-use Rattle.driver_entry.specs.Mail.{Post, mail_for}
+use Rattle.port_signal.specs.declared.mail.Post.{Post}
+use Rattle.driver_entry.specs.Mail.{mail_for}
 use Rattle.port_engine.specs.Box.{Box}
-use Rattle.port_engine.specs.Boxes.{box_at, Adds, Ends, KeepsGone, Sends}
+use Rattle.port_engine.specs.Boxes.{box_at, Adds, Ends, KeepsGone, Marks, Sends}
 
 pub mail_for-append : (process : ℕ) (posts more : List Post) → mail_for process (posts ++ more) ≡ mail_for process posts ++ mail_for process more
 mail_for-append process posts more =
@@ -55,6 +56,12 @@ Sends-by posted old ended new row posts e k a = record {
   len = k.len ∙ e.len;
   gone = λ process h. k.gone process ∙ ap (λ b. b.gone) (e.boxes process h);
   waiting = λ p process h. (a p).waiting process (rw e.len h) ∙ rw (e.boxes process h) refl;
+}
+
+pub Marks-by : (old ended new : List Box) (row : Row) → Ends old ended row → KeepsGone ended new → Marks old new row
+Marks-by old ended new row e k = record {
+  len = k.len ∙ e.len;
+  gone = λ process h. k.gone process ∙ ap (λ b. b.gone) (e.boxes process h);
 }
 
 -- what holds of a call that succeeded

@@ -13,7 +13,8 @@ use Rattle.driver_entry.specs.declared.life.Life.{Life}
 use Rattle.driver_entry.specs.declared.life.Life.TheVariants.{Started, Stopped}
 use Rattle.driver_entry.specs.Drivers.{Own, holds}
 use Rattle.driver_entry.specs.Driven.{held_of}
-use Rattle.driver_entry.specs.History.{Opening, Lawful, is_open, is_stopped, has_stop, marks_due, busy_marks, calls}
+use Rattle.driver_entry.specs.Owners.{Opening}
+use Rattle.driver_entry.specs.History.{Lawful, is_open, is_stopped, has_stop, marks_due, busy_marks, calls}
 use Rattle.waiting_list.specs.Waiting.{Waiting, GoesFirst, NoneGoes, has_sender, may_go}
 use Rattle.waiting_list.specs.Order.{InOrder, SendersBelow}
 use Rattle.waiting_list.proofs.Leaving.{InOrder-first, InOrder-lane, of-first, of-lane}

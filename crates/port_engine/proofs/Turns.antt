@@ -9,7 +9,8 @@ use Rattle.port_signal.specs.declared.mail.Mail.{Mail}
 use Rattle.port_signal.specs.History.{items, is_busy}
 use Rattle.driver_entry.specs.declared.life.Life.{Life}
 use Rattle.driver_entry.specs.Drivers.{Own}
-use Rattle.driver_entry.specs.History.{Opening, is_open, busy_marks}
+use Rattle.driver_entry.specs.Owners.{Opening}
+use Rattle.driver_entry.specs.History.{is_open, busy_marks}
 use Rattle.driver_entry.specs.Mail.{mails}
 use Rattle.waiting_list.specs.Waiting.{Waiting}
 use Rattle.port_engine.specs.Box.{Box}

@@ -11,8 +11,11 @@ use Rattle.driver_entry.specs.declared.life.Life.TheVariants.{Started, Stopped}
 use Rattle.driver_entry.specs.declared.config.Config.{Config}
 use Rattle.driver_entry.specs.Drivers.{Kind, Own, holds}
 use Rattle.driver_entry.specs.Driven.{held_of}
-use Rattle.driver_entry.specs.History.{Opening, Lawful, is_open, is_stopped, marks_due, calls}
-use Rattle.driver_entry.specs.Mail.{is_gone, mails}
+use Rattle.driver_entry.specs.Owners.{Opening, is_gone}
+use Rattle.driver_entry.specs.History.{Lawful, is_open, is_stopped, marks_due, calls}
+use Rattle.driver_entry.specs.Mail.{mails}
+use Rattle.links_owner.specs.Ties.{Ties}
+use Rattle.port_engine.specs.Tied.{Tied, Watches}
 use Rattle.port_engine.specs.Box.{Box}
 use Rattle.port_engine.specs.Boxes.{box_at}
 use Rattle.waiting_list.specs.Waiting.{Waiting}
@@ -53,7 +56,7 @@ pub record Flags : Type 0 where
   pub broken : Bool
 
 -- what always holds of a body
-pub record Sound (port : Opening) (stage : Life) (own : Own) (queued : List ℕ) (past : List Row) (waiting : Waiting) (queue : List (Item Task)) (mail : List Box) (given : List ℕ) (flags : Flags) : Type 0 where
+pub record Sound (port : Opening) (stage : Life) (own : Own) (queued : List ℕ) (past : List Row) (waiting : Waiting) (queue : List (Item Task)) (mail : List Box) (ties : Ties) (watched : List Bool) (given : List ℕ) (flags : Flags) : Type 0 where
   pub lawful : Lawful port past
   pub settled : marks_due port past ≡ []
   pub opens : is_open port past ≡ not flags.closed
@@ -72,14 +75,18 @@ pub record Sound (port : Opening) (stage : Life) (own : Own) (queued : List ℕ)
   pub places : length given ≡ length mail
   pub seats : waiting.senders ≡ length mail
   pub gone : (n : ℕ) → n < length mail → (box_at mail n).gone ≡ is_gone n past
-  pub owner : port.owner < length mail
+  pub processes : port.processes ≡ length mail
+  pub known : length ties.gone ≡ length mail
+  pub watching : length watched ≡ length mail
+  pub tied : flags.broken ≡ false → Tied port past ties
+  pub watches : Watches past watched
   pub senders : SendersBelow (length mail) (items past)
   pub waiters : SendersBelow (length mail) waiting.items
   pub comers : SendersBelow (length mail) queue
 
 -- a body that was just opened: nothing was given and no process has ended
 pub record IsOpened (number : ℕ) (kind : Kind) (config : Config) (owner processes faults : ℕ) (v : View) : Type 0 where
-  pub opening : v.opening ≡ record { number = number; kind = kind; config = config; owner = owner }
+  pub opening : v.opening ≡ record { number = number; processes = processes; kind = kind; config = config; owner = owner }
   pub rows : v.rows ≡ []
   pub waiting : v.waiting ≡ []
   pub queue : v.queue ≡ []

@@ -4,8 +4,11 @@ use Rattle.port_signal.specs.declared.row.Row.{Row}
 use Rattle.port_signal.specs.declared.row.Row.TheVariants.{Handled, Late, Mark}
 use Rattle.port_signal.specs.History.{sender_number}
 use Rattle.port_signal.specs.declared.mail.Mail.{Mail}
-use Rattle.driver_entry.specs.History.{Opening}
-use Rattle.driver_entry.specs.Mail.{Post, mail_for, mails, gone_after, is_gone}
+use Rattle.port_signal.specs.declared.mail.Post.{Post}
+use Rattle.driver_entry.specs.Owners.{Opening, gone_after, is_gone}
+use Rattle.driver_entry.specs.Mail.{mail_for, mails}
+use Rattle.links_owner.specs.Ties.{Ties}
+use Rattle.port_engine.specs.Tied.{Tied}
 use Rattle.port_engine.specs.Box.{Box}
 
 -- the mail of a process
@@ -35,6 +38,11 @@ pub record Ends (old new : List Box) (row : Row) : Type 0 where
   pub len : length new ≡ length old
   pub boxes : (process : ℕ) → process < length old → box_at new process ≡ record (box_at old process) { gone = gone_after process row (box_at old process).gone }
 
+-- it is known after the row which processes have ended
+pub record Marks (old new : List Box) (row : Row) : Type 0 where
+  pub len : length new ≡ length old
+  pub gone : (process : ℕ) → process < length old → (box_at new process).gone ≡ gone_after process row (box_at old process).gone
+
 -- the row told which process has ended, and the mail that it sends was put where no memory was wanting
 pub record Sends (posted : Bool) (old new : List Box) (row : Row) (posts : List Post) : Type 0 where
   pub len : length new ≡ length old
@@ -46,9 +54,12 @@ pub record Sends (posted : Bool) (old new : List Box) (row : Row) (posts : List 
 abbrev pub KnowsGone : List Box → List Row → Type 0
 KnowsGone boxes history = (process : ℕ) → process < length boxes → (box_at boxes process).gone ≡ is_gone process history
 
--- the history grew, and where no memory was wanting each process was sent the mail of the new rows
-pub record Moves (port : Opening) (posted : Bool) (past next : List Row) (old new : List Box) : Type 0 where
+-- the history grew; where no memory was wanting the ties are those of the new history, and each process was sent the mail of the
+-- new rows
+pub record Moves (port : Opening) (posted : Bool) (past next : List Row) (old new : List Box) (old_ties new_ties : Ties) : Type 0 where
   pub len : length new ≡ length old
+  pub seats : length new_ties.gone ≡ length old_ties.gone
   pub gone : KnowsGone old past → KnowsGone new next
-  pub mailed : posted ≡ true → KnowsGone old past → (process : ℕ) (taken : List Mail) → process < length old
+  pub tied : posted ≡ true → Tied port past old_ties → Tied port next new_ties
+  pub mailed : posted ≡ true → KnowsGone old past → Tied port past old_ties → (process : ℕ) (taken : List Mail) → process < length old
       → taken ++ (box_at old process).waiting ≡ mails port process past → taken ++ (box_at new process).waiting ≡ mails port process next

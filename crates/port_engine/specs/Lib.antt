@@ -1,3 +1,4 @@
+pub mod Tied
 pub mod Box
 pub mod Boxes
 pub mod Late

@@ -1,16 +1,18 @@
 //! The rows of a step, and the mail that they send.
-ghost use Rattle.std.specs.Prelude.{◌≡◌, ◌<◌, ◌≤◌, ◌+◌, ◌^◌, ℕ, List, [], ◌∷◌, ◌++◌, length, map, reverse, true, false, if◌then◌else◌, OnOk, vec_len, vec_capacity};
-ghost use Rattle.driver_entry.specs.History.{Opening, busy_marks};
+ghost use Rattle.std.specs.Prelude.{◌≡◌, ◌<◌, ◌≤◌, ◌+◌, ◌^◌, ℕ, List, [], ◌∷◌, ◌++◌, length, map, reverse, true, false, if◌then◌else◌, is_some, OnOk, vec_len, vec_capacity};
+ghost use Rattle.driver_entry.specs.Owners.{Opening};
+ghost use Rattle.driver_entry.specs.History.{busy_marks};
 ghost use Rattle.waiting_list.specs.Order.{SendersBelow};
 ghost use Rattle.port_engine.specs.Boxes.{Moves, SenderBelow};
 ghost use Rattle.port_engine.specs.Late.{WereLate, late_row};
-ghost use Rattle.port_engine.specs.Made.{row_of_mark};
+ghost use Rattle.port_engine.specs.Made.{Ending, row_of_mark};
 ghost use Rattle.port_signal.specs.declared.row.Row.{Row as RowValue};
 
 use crate::mailbox::Mailbox;
-use crate::posting::send_row;
 use crate::row::late_row;
-use port_signal::{MarkKind, NoMemory, Row, Task};
+use crate::sending::send_row;
+use links_owner::Links;
+use port_signal::{MarkKind, NoMemory, Reason, Row, Task};
 use task_queue::Item;
 use waiting_list::WaitingList;
 
@@ -68,23 +70,26 @@ fn push_marks(rows: &mut Vec<Row>, before: bool, after: bool, closes: bool)
 fn push_row(
     rows: &mut Vec<Row>,
     boxes: &mut Vec<Mailbox>,
+    links: &mut Links,
     number: u32,
-    owner: u32,
     row: Row,
+    reason: &Option<Reason>,
+    stops: bool,
 ) -> bool
     requires room { vec_len rows.old + 1 ≤ vec_capacity rows.old }
-    requires owner { owner < length boxes.old.items }
+    requires places { length links.old.gone ≡ length boxes.old.items }
     requires from { SenderBelow (length boxes.old.items) row }
     ensures rows { rows.new.items ≡ rows.old.items ++ row ∷ [] }
     ensures len { vec_len rows.new ≡ vec_len rows.old + 1 }
     ensures capacity { vec_capacity rows.new ≡ vec_capacity rows.old }
     ensures boxes { length boxes.new.items ≡ length boxes.old.items }
-    ensures moves { (port : Opening) → port.number ≡ number → port.owner ≡ owner
-        → Moves port result (reverse rows.old.items) (reverse rows.new.items) boxes.old.items boxes.new.items }
+    ensures seats { length links.new.gone ≡ length links.old.gone }
+    ensures moves { (port : Opening) → port.number ≡ number → Ending port (reverse rows.old.items) row reason.now stops
+        → Moves port result (reverse rows.old.items) (reverse rows.new.items) boxes.old.items boxes.new.items links.old links.new }
 {
     let at = rows.len();
     rows.push_reserved(row);
-    send_row(boxes.as_mut_slice(), number, owner, &rows[at])
+    send_row(boxes.as_mut_slice(), links, number, &rows[at], reason, stops)
 }
 
 /// Appends the row of a task, sends what it sends, and appends the marks that follow it. Returns whether memory was found for the
@@ -92,25 +97,27 @@ fn push_row(
 pub fn append_row(
     rows: &mut Vec<Row>,
     boxes: &mut Vec<Mailbox>,
+    links: &mut Links,
     number: u32,
-    owner: u32,
     row: Row,
+    reason: &Option<Reason>,
+    stops: bool,
     before: bool,
     after: bool,
-    closes: bool,
 ) -> bool
     requires room { vec_len rows.old + 3 ≤ vec_capacity rows.old }
-    requires owner { owner < length boxes.old.items }
+    requires places { length links.old.gone ≡ length boxes.old.items }
     requires from { SenderBelow (length boxes.old.items) row }
-    ensures rows { rows.new.items ≡ rows.old.items ++ row ∷ map row_of_mark (busy_marks before after ++ (if closes then MarkKind.Closed ∷ [] else [])) }
+    ensures rows { rows.new.items ≡ rows.old.items ++ row ∷ map row_of_mark (busy_marks before after ++ (if is_some reason.now then MarkKind.Closed ∷ [] else [])) }
     ensures len { vec_len rows.new ≤ vec_len rows.old + 3 }
     ensures capacity { vec_capacity rows.new ≡ vec_capacity rows.old }
     ensures boxes { length boxes.new.items ≡ length boxes.old.items }
-    ensures moves { (port : Opening) → port.number ≡ number → port.owner ≡ owner
-        → Moves port result (reverse rows.old.items) (reverse rows.new.items) boxes.old.items boxes.new.items }
+    ensures seats { length links.new.gone ≡ length links.old.gone }
+    ensures moves { (port : Opening) → port.number ≡ number → Ending port (reverse rows.old.items) row reason.now stops
+        → Moves port result (reverse rows.old.items) (reverse rows.new.items) boxes.old.items boxes.new.items links.old links.new }
 {
-    let posted = push_row(rows, boxes, number, owner, row);
-    push_marks(rows, before, after, closes);
+    let posted = push_row(rows, boxes, links, number, row, reason, stops);
+    push_marks(rows, before, after, reason.is_some());
     posted
 }
 
@@ -119,14 +126,14 @@ pub fn append_row(
 pub fn late_waiting(
     rows: &mut Vec<Row>,
     boxes: &mut Vec<Mailbox>,
+    links: &mut Links,
     number: u32,
-    owner: u32,
     waiting: &mut WaitingList,
     closes: bool,
     posted: bool,
 ) -> bool
     requires room { vec_len rows.old + length waiting.old.items ≤ vec_capacity rows.old }
-    requires owner { owner < length boxes.old.items }
+    requires places { length links.old.gone ≡ length boxes.old.items }
     requires senders { SendersBelow (length boxes.old.items) waiting.old.items }
     ensures late { WereLate rows.old.items rows.new.items waiting.old.items waiting.new.items }
     ensures seats { waiting.new.senders ≡ waiting.old.senders }
@@ -134,14 +141,15 @@ pub fn late_waiting(
     ensures none { closes ≡ false → (rows.new.items ≡ rows.old.items) × (waiting.new.items ≡ waiting.old.items) × (result ≡ posted) }
     ensures posted { result ≡ true → posted ≡ true }
     ensures boxes { length boxes.new.items ≡ length boxes.old.items }
-    ensures moves { (port : Opening) → port.number ≡ number → port.owner ≡ owner
-        → Moves port result (reverse rows.old.items) (reverse rows.new.items) boxes.old.items boxes.new.items }
+    ensures known { length links.new.gone ≡ length links.old.gone }
+    ensures moves { (port : Opening) → port.number ≡ number
+        → Moves port result (reverse rows.old.items) (reverse rows.new.items) boxes.old.items boxes.new.items links.old links.new }
 {
     if !(closes && posted) {
         return posted;
     }
     while let Some(item) = waiting.take_first(false) {
-        if !push_row(rows, boxes, number, owner, late_row(item)) {
+        if !push_row(rows, boxes, links, number, late_row(item), &None, false) {
             return false;
         }
     }

@@ -14,8 +14,10 @@ use crate::appending::{append_row, late_waiting, make_room, marks_made};
 use crate::mailbox::Mailbox;
 use crate::next::{Next, take_next};
 use crate::row::{Made, take_task};
+use crate::watching::{is_watched, note_watches};
 use driver_entry::{Config, Driver, DriverCtx, Life, StartRefusal};
 use driver_queue::DriverQueue;
+use links_owner::Links;
 use port_signal::{Journal, Mail, NoMemory, Row, Rows, Sender, Task};
 use std::alloc::Global;
 use std::collections::VecDeque;
@@ -38,12 +40,15 @@ pub struct BodyEnd<D: Drop> {
     pub journal: Journal,
 }
 
-/// The body of a port: its driver with its queue, its history, the tasks that came and those that wait, and the mail that wasn't taken.
+/// The body of a port: its driver with its queue, its history, what ties it to the processes, the tasks that came and those that wait,
+/// and the mail that wasn't taken.
 #[derive(Drop)]
 pub struct Body<D: Driver> {
     alloc: Global,
     number: u32,
-    owner: u32,
+    processes: u32,
+    /// The first owner.
+    opener: u32,
     config: Config,
     driver: D,
     driver_queue: DriverQueue,
@@ -51,6 +56,9 @@ pub struct Body<D: Driver> {
     waiting: WaitingList,
     queue: VecDeque<Item<Task>>,
     mail: Vec<Mailbox>,
+    links: Links,
+    /// For each process, whether the driver watches it.
+    watched: Vec<bool>,
     /// How many tasks each process gave.
     given: Vec<u64>,
     /// How many marks were made.
@@ -69,7 +77,7 @@ impl<D: Driver> Model for Body<D> {
     ghost Value = { View };
 
     ghost view = { λ b. record {
-      opening = record { number = b.number; kind = D.kind b.driver; config = b.config; owner = b.owner };
+      opening = record { number = b.number; processes = b.processes; kind = D.kind b.driver; config = b.config; owner = b.opener };
       rows = b.rows.items;
       waiting = b.waiting.items;
       queue = b.queue.items;
@@ -79,8 +87,8 @@ impl<D: Driver> Model for Body<D> {
       faults = D.faults b.driver;
     } };
 
-    ghost invariant = { λ b. Sound (record { number = b.number; kind = D.kind b.driver; config = b.config; owner = b.owner })
-        (D.stage b.driver) (D.own b.driver) (concat b.driver_queue.segments) (reverse b.rows.items) b.waiting b.queue.items b.mail.items b.given.items
+    ghost invariant = { λ b. Sound (record { number = b.number; processes = b.processes; kind = D.kind b.driver; config = b.config; owner = b.opener })
+        (D.stage b.driver) (D.own b.driver) (concat b.driver_queue.segments) (reverse b.rows.items) b.waiting b.queue.items b.mail.items b.links b.watched.items b.given.items
         (record { count = b.marks; busy = b.busy; closed = b.closed; stopped = b.stopped; broken = b.broken }) };
 }
 
@@ -104,7 +112,15 @@ impl<D: Driver> Body<D> {
         ensures stage { IfErr result (λ refused. (D.stage refused.0.driver ≡ Life.Fresh) ⊎ (D.stage refused.0.driver ≡ Life.Stopped)) }
     {
         let BodyParts { mut driver, config } = parts;
-        let Ok((mail, given)) = mailboxes(alloc, processes as usize) else {
+        let Ok(Seats {
+            mail,
+            given,
+            watched,
+        }) = empty_seats(alloc, processes as usize)
+        else {
+            return Err((BodyParts { driver, config }, StartRefusal::NoMemory));
+        };
+        let Ok(links) = Links::new(alloc, owner, processes) else {
             return Err((BodyParts { driver, config }, StartRefusal::NoMemory));
         };
         let Ok(waiting) = WaitingList::new(alloc, processes) else {
@@ -118,7 +134,8 @@ impl<D: Driver> Body<D> {
         Ok(Body {
             alloc,
             number,
-            owner,
+            processes,
+            opener: owner,
             config,
             driver,
             driver_queue,
@@ -126,6 +143,8 @@ impl<D: Driver> Body<D> {
             waiting,
             queue: VecDeque::new(alloc),
             mail,
+            links,
+            watched,
             given,
             marks: 0,
             busy: false,
@@ -275,7 +294,8 @@ impl<D: Driver> Body<D> {
             self.alloc,
             &mut self.driver,
             queued,
-            self.owner,
+            &self.links,
+            is_watched(&self.watched, item.sender),
             self.closed,
             self.busy,
             item,
@@ -283,7 +303,7 @@ impl<D: Driver> Body<D> {
         let Made {
             row,
             queue,
-            closes,
+            reason,
             stops,
             busy,
         } = match taken {
@@ -294,21 +314,24 @@ impl<D: Driver> Body<D> {
             }
         };
         self.driver_queue = queue;
+        note_watches(self.watched.as_mut_slice(), &row);
+        let closes = reason.is_some();
         let posted = append_row(
             &mut self.rows,
             &mut self.mail,
+            &mut self.links,
             self.number,
-            self.owner,
             row,
+            &reason,
+            stops,
             self.busy,
             busy,
-            closes,
         );
         let sent = late_waiting(
             &mut self.rows,
             &mut self.mail,
+            &mut self.links,
             self.number,
-            self.owner,
             &mut self.waiting,
             closes,
             posted,
@@ -330,15 +353,26 @@ fn process_of(sender: Sender) -> u32
     }
 }
 
-/// No mail for each of so many processes, and the count of the tasks that each gave.
-fn mailboxes(alloc: Global, processes: usize) -> Result<(Vec<Mailbox>, Vec<u64>), NoMemory>
-    ensures mail { IfOk result (λ made. made.0.items ≡ replicate processes (record { gone = false; waiting = [] })) }
-    ensures given { IfOk result (λ made. made.1.items ≡ replicate processes 0) }
+/// What a port keeps for each process.
+struct Seats {
+    mail: Vec<Mailbox>,
+    given: Vec<u64>,
+    watched: Vec<bool>,
+}
+
+/// For each of so many processes: no mail, no task given, and no watch.
+fn empty_seats(alloc: Global, processes: usize) -> Result<Seats, NoMemory>
+    ensures mail { IfOk result (λ made. made.mail.items ≡ replicate processes (record { gone = false; waiting = [] })) }
+    ensures given { IfOk result (λ made. made.given.items ≡ replicate processes 0) }
+    ensures watched { IfOk result (λ made. made.watched.items ≡ replicate processes false) }
 {
     let mut mail = Vec::with_capacity(alloc, processes)?;
     for _place in 0..processes {
         mail.push_reserved(Mailbox::new(alloc));
     }
-    let given = vec![in alloc; 0; processes]?;
-    Ok((mail, given))
+    Ok(Seats {
+        mail,
+        given: vec![in alloc; 0; processes]?,
+        watched: vec![in alloc; false; processes]?,
+    })
 }

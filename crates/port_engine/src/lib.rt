@@ -8,7 +8,9 @@ mod next;
 mod posting;
 mod reason;
 mod row;
+mod sending;
 mod turn;
+mod watching;
 
 pub use body::{Body, BodyEnd, BodyParts};
 pub use turn::Turn;

@@ -1,5 +1,5 @@
 ghost use Rattle.std.specs.Prelude.{◌≡◌, ◌↔◌, ◌<◌, [], ◌∷◌, ◌++◌, length, true, false, if◌then◌else◌, IsNone, IfSome, IfNone, OnOk, OnErr, slice_index_or, slice_set};
-ghost use Rattle.driver_entry.specs.Mail.{Post};
+
 ghost use Rattle.port_engine.specs.Boxes.{Adds, KeepsGone, box_at};
 
 use port_signal::{Mail, NoMemory};
@@ -72,10 +72,10 @@ impl Mailbox {
 }
 
 /// Puts one mail.
-pub fn post(boxes: &mut [Mailbox], to: usize, mail: Mail) -> Result<(), NoMemory>
+pub fn post(boxes: &mut [Mailbox], to: u32, mail: Mail) -> Result<(), NoMemory>
     requires { to < length boxes.old }
     ensures ok { OnOk result (Adds boxes.old boxes.new (record { to = to; mail = mail } ∷ [])) }
     ensures gone { KeepsGone boxes.old boxes.new }
 {
-    boxes[to].put(mail)
+    boxes[to as usize].put(mail)
 }

@@ -2,7 +2,7 @@ ghost use Rattle.std.specs.Prelude.{◌≡◌, ◌<◌, false, true, length};
 ghost use Rattle.waiting_list.specs.Order.{SendersBelow};
 ghost use Rattle.port_engine.specs.Next.{Takes, must_wait};
 
-use port_signal::{Signal, Task};
+use port_signal::Task;
 use std::collections::VecDeque;
 use task_queue::Item;
 use waiting_list::WaitingList;
@@ -49,5 +49,5 @@ fn must_wait(waiting: &WaitingList, item: &Item<Task>, busy: bool) -> bool
     requires { item.now.sender < waiting.now.senders }
     ensures { result ≡ must_wait busy waiting.now.items item.now }
 {
-    waiting.has_sender(item.sender) || (busy && matches!(item.value.signal, Signal::Command(_)))
+    waiting.has_sender(item.sender) || (busy && item.value.signal.is_command())
 }

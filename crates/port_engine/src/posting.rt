@@ -1,13 +1,18 @@
-ghost use Rattle.std.specs.Prelude.{◌≡◌, ◌<◌, length, OnOk, IfOk, List};
+//! The mail of a row, part by part.
+ghost use Rattle.std.specs.Prelude.{◌≡◌, ◌==◌, ◌<◌, ◌∷◌, ℕ, Bool, [], not, length, if◌then◌else◌, is_some, All, OnOk, IfOk};
 ghost use Rattle.std.specs.List.{flat_map};
 ghost use Rattle.port_signal.specs.History.{sender_number};
-ghost use Rattle.port_signal.specs.declared.row.Row.{Row as RowValue};
-ghost use Rattle.driver_entry.specs.History.{Opening};
-ghost use Rattle.driver_entry.specs.Mail.{answer_of, effect_posts, answer_posts, late_posts, reply_posts, row_posts};
-ghost use Rattle.port_engine.specs.Boxes.{Adds, KeepsGone, Ends, SenderBelow, Sends};
+ghost use Rattle.port_signal.specs.Links.{down_post, exit_post};
+ghost use Rattle.driver_entry.specs.Owners.{monitor_of};
+ghost use Rattle.driver_entry.specs.Mail.{answer_of, answer_posts, bad_signal_posts, closed_posts, effect_posts, late_posts, reply_posts};
+ghost use Rattle.links_owner.specs.Ties.{is_here};
+ghost use Rattle.port_engine.specs.Boxes.{Adds, KeepsGone};
+ghost use Rattle.port_engine.specs.Tied.{ended_posts};
 
 use crate::mailbox::{Mailbox, post};
-use port_signal::{Answer, Effect, Mail, NoMemory, Row, Sender, Signal};
+use crate::reason::{badsig, noproc, told_reason};
+use links_owner::Links;
+use port_signal::{Answer, Effect, Mail, NoMemory, Post, Reason, Sender, Signal};
 
 /// Puts what an effect sends to the owner.
 fn post_effect(
@@ -18,7 +23,7 @@ fn post_effect(
 ) -> Result<(), NoMemory>
     requires { owner < length boxes.old }
     ensures gone { KeepsGone boxes.old boxes.new }
-    ensures ok { OnOk result ((port : Opening) → port.number ≡ number → Adds boxes.old boxes.new (effect_posts port owner effect.now)) }
+    ensures ok { OnOk result (Adds boxes.old boxes.new (effect_posts number owner effect.now)) }
 {
     match effect {
         Effect::Message { flag, bytes } => {
@@ -28,10 +33,27 @@ fn post_effect(
                 flag: *flag,
                 bytes,
             };
-            post(boxes, owner as usize, mail)
+            post(boxes, owner, mail)
         }
-        Effect::Busy(_) | Effect::Reply(_) | Effect::ReplyBadarg => Ok(()),
+        Effect::Busy(_) | Effect::Watch(_) | Effect::Reply(_) | Effect::ReplyBadarg => Ok(()),
     }
+}
+
+/// Puts what the effects of a row send to the owner, in their order.
+pub fn post_effects(
+    boxes: &mut [Mailbox],
+    number: u32,
+    owner: u32,
+    effects: &[Effect],
+) -> Result<(), NoMemory>
+    requires { owner < length boxes.old }
+    ensures gone { KeepsGone boxes.old boxes.new }
+    ensures ok { OnOk result (Adds boxes.old boxes.new (flat_map (effect_posts number owner) effects.now)) }
+{
+    for effect in effects {
+        post_effect(boxes, number, owner, effect)?;
+    }
+    Ok(())
 }
 
 /// The driver's answer among the effects of a control or a call.
@@ -45,7 +67,7 @@ fn answer_of(effects: &[Effect]) -> Result<Answer, NoMemory>
                 return Ok(Answer::Bytes(bytes));
             }
             Effect::ReplyBadarg => return Ok(Answer::Badarg),
-            Effect::Message { .. } | Effect::Busy(_) => {}
+            Effect::Message { .. } | Effect::Busy(_) | Effect::Watch(_) => {}
         }
     }
     Ok(Answer::Badarg)
@@ -61,7 +83,7 @@ fn post_reply(
 ) -> Result<(), NoMemory>
     requires { sender_number from < length boxes.old }
     ensures gone { KeepsGone boxes.old boxes.new }
-    ensures ok { OnOk result ((port : Opening) → port.number ≡ number → Adds boxes.old boxes.new (reply_posts port from seq answer)) }
+    ensures ok { OnOk result (Adds boxes.old boxes.new (reply_posts number from seq answer)) }
 {
     let Sender::Process(sender) = from;
     let mail = Mail::Reply {
@@ -69,124 +91,229 @@ fn post_reply(
         seq,
         answer,
     };
-    post(boxes, sender as usize, mail)
+    post(boxes, sender, mail)
 }
 
-/// Puts what the effects of a row send to the owner, in their order.
-fn post_effects(
+/// Puts the driver's answer to a control or a call.
+fn post_driver_reply(
+    boxes: &mut [Mailbox],
+    number: u32,
+    from: Sender,
+    seq: u64,
+    effects: &[Effect],
+) -> Result<(), NoMemory>
+    requires { sender_number from < length boxes.old }
+    ensures gone { KeepsGone boxes.old boxes.new }
+    ensures ok { OnOk result (Adds boxes.old boxes.new (reply_posts number from seq (answer_of effects.now))) }
+{
+    let answer = answer_of(effects)?;
+    post_reply(boxes, number, from, seq, answer)
+}
+
+/// Puts an exit signal.
+fn post_exit(
+    boxes: &mut [Mailbox],
+    number: u32,
+    reason: Reason,
+    to: u32,
+) -> Result<(), NoMemory>
+    requires { to < length boxes.old }
+    ensures gone { KeepsGone boxes.old boxes.new }
+    ensures ok { OnOk result (Adds boxes.old boxes.new (exit_post number reason to ∷ [])) }
+{
+    let mail = Mail::Exit {
+        port: number,
+        reason,
+    };
+    post(boxes, to, mail)
+}
+
+/// Puts what a monitor of a port that ended before is told.
+fn post_no_port(
+    boxes: &mut [Mailbox],
+    number: u32,
+    from: Sender,
+    monitor: u64,
+) -> Result<(), NoMemory>
+    requires { sender_number from < length boxes.old }
+    ensures gone { KeepsGone boxes.old boxes.new }
+    ensures ok { OnOk result (Adds boxes.old boxes.new (down_post number (codes "noproc") (monitor_of from monitor) ∷ [])) }
+{
+    let Sender::Process(sender) = from;
+    let mail = Mail::Down {
+        port: number,
+        monitor,
+        reason: noproc(),
+    };
+    post(boxes, sender, mail)
+}
+
+/// Tells the owner of an owner form, unless it could be done.
+fn post_bad_signal(
     boxes: &mut [Mailbox],
     number: u32,
     owner: u32,
-    effects: &[Effect],
+    done: bool,
 ) -> Result<(), NoMemory>
     requires { owner < length boxes.old }
     ensures gone { KeepsGone boxes.old boxes.new }
-    ensures ok { OnOk result ((port : Opening) → port.number ≡ number → Adds boxes.old boxes.new (flat_map (effect_posts port owner) effects.now)) }
+    ensures ok { OnOk result (Adds boxes.old boxes.new (if done then [] else bad_signal_posts number owner)) }
 {
-    for effect in effects {
-        post_effect(boxes, number, owner, effect)?;
+    if done {
+        return Ok(());
+    }
+    post_exit(boxes, number, badsig(), owner)
+}
+
+/// Answers a connect.
+fn post_connect(
+    boxes: &mut [Mailbox],
+    number: u32,
+    from: Sender,
+    seq: u64,
+    here: bool,
+) -> Result<(), NoMemory>
+    requires { sender_number from < length boxes.old }
+    ensures gone { KeepsGone boxes.old boxes.new }
+    ensures ok { OnOk result (Adds boxes.old boxes.new (reply_posts number from seq (if here then Answer.True else Answer.Badarg))) }
+{
+    let answer = if here { Answer::True } else { Answer::Badarg };
+    post_reply(boxes, number, from, seq, answer)
+}
+
+/// Answers an owner's connect, or tells the owner that it can't be done.
+fn post_owner_connect(
+    boxes: &mut [Mailbox],
+    number: u32,
+    owner: u32,
+    from: Sender,
+    done: bool,
+) -> Result<(), NoMemory>
+    requires owner { owner < length boxes.old }
+    requires from { sender_number from < length boxes.old }
+    ensures gone { KeepsGone boxes.old boxes.new }
+    ensures ok { OnOk result (Adds boxes.old boxes.new (if done then record { to = sender_number from; mail = Mail.Connected number } ∷ [] else bad_signal_posts number owner)) }
+{
+    if !done {
+        return post_exit(boxes, number, badsig(), owner);
+    }
+    let Sender::Process(sender) = from;
+    post(boxes, sender, Mail::Connected(number))
+}
+
+/// Puts what a handled signal sends after the effects of its row.
+pub fn post_answer(
+    boxes: &mut [Mailbox],
+    links: &Links,
+    number: u32,
+    from: Sender,
+    seq: u64,
+    effects: &[Effect],
+    signal: &Signal,
+) -> Result<(), NoMemory>
+    requires from { sender_number from < length boxes.old }
+    requires places { length links.now.gone ≡ length boxes.old }
+    ensures gone { KeepsGone boxes.old boxes.new }
+    ensures ok { OnOk result ((here : ℕ → Bool) → ((process : ℕ) → here process ≡ is_here process links.now.gone)
+        → Adds boxes.old boxes.new (answer_posts number links.now.owner (sender_number from == links.now.owner) here from seq effects.now signal.now)) }
+{
+    let owner = links.owner();
+    let Sender::Process(sender) = from;
+    let owns = sender == owner;
+    match signal {
+        Signal::OwnerCommand(_) | Signal::OwnerClose => post_bad_signal(boxes, number, owner, owns),
+        Signal::Control { .. } | Signal::Call { .. } => {
+            post_driver_reply(boxes, number, from, seq, effects)
+        }
+        Signal::Close => post_reply(boxes, number, from, seq, Answer::True),
+        Signal::Connect(process) => {
+            post_connect(boxes, number, from, seq, !links.is_gone(*process))
+        }
+        Signal::OwnerConnect(process) => {
+            let done = owns && !links.is_gone(*process);
+            post_owner_connect(boxes, number, owner, from, done)
+        }
+        Signal::Command(_) | Signal::Link | Signal::Unlink => Ok(()),
+        Signal::Monitor(_) | Signal::Demonitor(_) | Signal::Exit(_) | Signal::Gone(_) => Ok(()),
+    }
+}
+
+/// Puts what a late signal sends.
+pub fn post_late(
+    boxes: &mut [Mailbox],
+    number: u32,
+    from: Sender,
+    seq: u64,
+    signal: &Signal,
+) -> Result<(), NoMemory>
+    requires { sender_number from < length boxes.old }
+    ensures gone { KeepsGone boxes.old boxes.new }
+    ensures ok { OnOk result (Adds boxes.old boxes.new (late_posts number from seq signal.now)) }
+{
+    let Sender::Process(sender) = from;
+    match signal {
+        Signal::Control { .. } | Signal::Call { .. } | Signal::Close | Signal::Connect(_) => {
+            post_reply(boxes, number, from, seq, Answer::Badarg)
+        }
+        Signal::Link => post_exit(boxes, number, noproc(), sender),
+        Signal::Monitor(monitor) => post_no_port(boxes, number, from, *monitor),
+        Signal::Command(_) | Signal::OwnerCommand(_) => Ok(()),
+        Signal::OwnerClose | Signal::OwnerConnect(_) => Ok(()),
+        Signal::Unlink | Signal::Demonitor(_) | Signal::Exit(_) | Signal::Gone(_) => Ok(()),
+    }
+}
+
+/// Puts these, in their order.
+fn post_all(boxes: &mut [Mailbox], posts: Vec<Post>) -> Result<(), NoMemory>
+    requires { All (λ post. post.to < length boxes.old) posts.items }
+    ensures gone { KeepsGone boxes.old boxes.new }
+    ensures ok { OnOk result (Adds boxes.old boxes.new posts.items) }
+{
+    for Post { to, mail } in posts {
+        post(boxes, to, mail)?;
     }
     Ok(())
 }
 
-/// Puts the reply to a handled signal, if it has one.
-fn post_answer(
+/// Takes all links and monitors out where the port closes for a reason, and puts what they are told.
+pub fn post_end(
+    boxes: &mut [Mailbox],
+    links: &mut Links,
+    number: u32,
+    reason: &Option<Reason>,
+) -> Result<(), NoMemory>
+    requires places { length links.old.gone ≡ length boxes.old }
+    ensures gone { KeepsGone boxes.old boxes.new }
+    ensures seats { length links.new.gone ≡ length links.old.gone }
+    ensures ok { OnOk result (Adds boxes.old boxes.new (ended_posts number reason.now links.old)) }
+    ensures ties { OnOk result (links.new ≡ (if is_some reason.now then record links.old { linked = []; monitors = [] } else links.old)) }
+{
+    let Some(reason) = reason else {
+        return Ok(());
+    };
+    let posts = links.end(number, &told_reason(reason))?;
+    post_all(boxes, posts)?;
+    Ok(())
+}
+
+/// Tells the sender of an owner's close that it was done, in the row that stops the driver.
+pub fn post_closed(
     boxes: &mut [Mailbox],
     number: u32,
     from: Sender,
-    seq: u64,
-    effects: &[Effect],
+    stops: bool,
     signal: &Signal,
 ) -> Result<(), NoMemory>
     requires { sender_number from < length boxes.old }
     ensures gone { KeepsGone boxes.old boxes.new }
-    ensures ok { OnOk result ((port : Opening) → port.number ≡ number → Adds boxes.old boxes.new (answer_posts port from seq effects.now signal.now)) }
+    ensures ok { OnOk result (Adds boxes.old boxes.new (closed_posts number stops from signal.now)) }
 {
-    match signal {
-        Signal::Control { .. } => {
-            let answer = answer_of(effects)?;
-            post_reply(boxes, number, from, seq, answer)
-        }
-        Signal::Call { .. } => {
-            let answer = answer_of(effects)?;
-            post_reply(boxes, number, from, seq, answer)
-        }
-        Signal::Close => post_reply(boxes, number, from, seq, Answer::True),
-        Signal::Command(_) | Signal::Gone(_) => Ok(()),
+    let Signal::OwnerClose = signal else {
+        return Ok(());
+    };
+    if !stops {
+        return Ok(());
     }
-}
-
-/// Puts the reply to a late signal, if it has one.
-fn post_late(
-    boxes: &mut [Mailbox],
-    number: u32,
-    from: Sender,
-    seq: u64,
-    signal: &Signal,
-) -> Result<(), NoMemory>
-    requires { sender_number from < length boxes.old }
-    ensures gone { KeepsGone boxes.old boxes.new }
-    ensures ok { OnOk result ((port : Opening) → port.number ≡ number → Adds boxes.old boxes.new (late_posts port from seq signal.now)) }
-{
-    match signal {
-        Signal::Control { .. } => post_reply(boxes, number, from, seq, Answer::Badarg),
-        Signal::Call { .. } => post_reply(boxes, number, from, seq, Answer::Badarg),
-        Signal::Close => post_reply(boxes, number, from, seq, Answer::Badarg),
-        Signal::Command(_) | Signal::Gone(_) => Ok(()),
-    }
-}
-
-/// Puts what a row sends, in its order.
-fn post_row(boxes: &mut [Mailbox], number: u32, owner: u32, row: &Row) -> Result<(), NoMemory>
-    requires owner { owner < length boxes.old }
-    requires from { SenderBelow (length boxes.old) row.now }
-    ensures gone { KeepsGone boxes.old boxes.new }
-    ensures ok { OnOk result ((port : Opening) (older : List RowValue) → port.number ≡ number → port.owner ≡ owner
-        → Adds boxes.old boxes.new (row_posts port older row.now)) }
-{
-    match row {
-        Row::Handled {
-            from,
-            seq,
-            task,
-            effects,
-            ..
-        } => {
-            post_effects(boxes, number, owner, effects.as_slice())?;
-            post_answer(boxes, number, *from, *seq, effects.as_slice(), &task.signal)?;
-            Ok(())
-        }
-        Row::Late { from, seq, task } => {
-            post_late(boxes, number, *from, *seq, &task.signal)?;
-            Ok(())
-        }
-        Row::Mark(_) => Ok(()),
-    }
-}
-
-/// Marks the sender as ended where the row tells so.
-fn end_sender(boxes: &mut [Mailbox], row: &Row)
-    requires { SenderBelow (length boxes.old) row.now }
-    ensures { Ends boxes.old boxes.new row.now }
-{
-    match row {
-        Row::Handled { from, task, .. } | Row::Late { from, task, .. } => {
-            let Sender::Process(sender) = *from;
-            if let Signal::Gone(_) = &task.signal {
-                boxes[sender as usize].close();
-            }
-        }
-        Row::Mark(_) => {}
-    }
-}
-
-/// Marks the sender as ended where the row tells so, and puts what the row sends. Returns whether memory was found.
-pub fn send_row(boxes: &mut [Mailbox], number: u32, owner: u32, row: &Row) -> bool
-    requires owner { owner < length boxes.old }
-    requires from { SenderBelow (length boxes.old) row.now }
-    ensures { (port : Opening) (older : List RowValue) → port.number ≡ number → port.owner ≡ owner
-        → Sends result boxes.old boxes.new row.now (row_posts port older row.now) }
-{
-    end_sender(boxes, row);
-    post_row(boxes, number, owner, row).is_ok()
+    let Sender::Process(sender) = from;
+    post(boxes, sender, Mail::Closed(number))
 }

@@ -1,4 +1,4 @@
-ghost use Rattle.std.specs.Prelude.{◌≡◌, ◌<◌, ◌≤◌, ◌+◌, ℕ, not, List, [], ◌∷◌, ◌++◌, length, true, false, if◌then◌else◌, is_some, IfOk, OnOk, OnErr, Some, None};
+ghost use Rattle.std.specs.Prelude.{◌≡◌, ◌==◌, ◌<◌, ◌≤◌, ◌+◌, ℕ, Bool, not, List, [], ◌∷◌, ◌++◌, length, true, false, if◌then◌else◌, is_some, IfOk, OnOk, OnErr, Some, None};
 ghost use Rattle.std.specs.List.{concat};
 ghost use Rattle.port_signal.specs.Signals.{is_command};
 ghost use Rattle.port_signal.specs.History.{items, is_busy, sender_number};
@@ -7,38 +7,51 @@ ghost use Rattle.task_queue.specs.Items.{of};
 ghost use Rattle.driver_entry.specs.Context.{Context};
 ghost use Rattle.driver_entry.specs.Drivers.{Own, holds};
 ghost use Rattle.driver_entry.specs.Driven.{Did, Ended, call_of, held_of};
-ghost use Rattle.driver_entry.specs.History.{Opening, busy_after, closing_reason, is_kill, is_open, marks_due, calls};
+ghost use Rattle.driver_entry.specs.Owners.{Opening, closes_for, is_watched};
+ghost use Rattle.driver_entry.specs.History.{busy_after, is_open, marks_due, calls};
 ghost use Rattle.port_engine.specs.Boxes.{SenderBelow};
-ghost use Rattle.port_engine.specs.Made.{Called, Extends, ShutDown};
 ghost use Rattle.port_engine.specs.Late.{late_row};
+ghost use Rattle.port_engine.specs.Made.{Called, Ending, Extends, ShutDown};
+ghost use Rattle.port_engine.specs.Tied.{Tied};
 
 use crate::reason::{is_kill, normal};
 use driver_entry::{Driver, DriverCtx, Life};
 use driver_queue::DriverQueue;
-use port_signal::{Effect, NoMemory, Reason, Row, Sender, Signal, Task};
+use links_owner::Links;
+use port_signal::{Effect, IoVec, NoMemory, Reason, Row, Sender, Signal, Task};
 use std::alloc::Global;
 use task_queue::Item;
 
-/// The row of a task that was taken, the driver's queue after it, whether it closes the port, whether the driver was stopped, and
-/// whether the port is busy then.
+/// What taking a task made: its row, the driver's queue then, the reason for which the row closes the port, if it does, whether the
+/// driver was stopped, and whether the port is busy then.
 pub struct Made {
     pub row: Row,
     pub queue: DriverQueue,
-    pub closes: bool,
+    pub reason: Option<Reason>,
     pub stops: bool,
     pub busy: bool,
 }
 
+fn reason_if(closes: bool, reason: &Reason) -> Option<Reason>
+    ensures { result ≡ (if closes then Some reason.now else None) }
+{
+    if closes { Some(reason.same()) } else { None }
+}
+
 /// The reason for which a signal closes an open port, if it does.
-pub fn reason_to_close(owner: u32, from: Sender, signal: &Signal) -> Option<Reason>
-    ensures { (port : Opening) (older : List Row) → port.owner ≡ owner → result ≡ closing_reason port older from signal.now }
+pub fn reason_to_close(links: &Links, from: Sender, signal: &Signal) -> Option<Reason>
+    ensures { result ≡ closes_for links.now.owner links.now.linked from signal.now }
 {
     let Sender::Process(sender) = from;
     match signal {
-        Signal::Command(_) | Signal::Control { .. } | Signal::Call { .. } => None,
         Signal::Close => Some(normal()),
-        Signal::Gone(reason) if sender == owner => Some(reason.same()),
-        Signal::Gone(_) => None,
+        Signal::OwnerClose => reason_if(sender == links.owner(), &normal()),
+        Signal::Exit(reason) => reason_if(links.exit_closes(sender, reason), reason),
+        Signal::Gone(reason) => reason_if(links.end_closes(sender, reason), reason),
+        Signal::Command(_) | Signal::OwnerCommand(_) => None,
+        Signal::Control { .. } | Signal::Call { .. } => None,
+        Signal::Connect(_) | Signal::OwnerConnect(_) => None,
+        Signal::Link | Signal::Unlink | Signal::Monitor(_) | Signal::Demonitor(_) => None,
     }
 }
 
@@ -55,11 +68,63 @@ pub fn busy_after(busy: bool, effects: &[Effect]) -> bool
     now
 }
 
-/// Calls the driver's callback for a signal, if it has one.
+/// Gives the driver the data of an owner's command, where the owner sent it.
+fn call_outputv<D: Driver>(
+    alloc: Global,
+    driver: &mut D,
+    ctx: &mut DriverCtx,
+    owns: bool,
+    payload: &IoVec,
+) -> Result<(), NoMemory>
+    requires started { D.stage driver.old ≡ Life.Started }
+    requires outside { ctx.old.outside ≡ [] }
+    requires effects { ctx.old.effects ≡ [] }
+    ensures kind { D.kind driver.new ≡ D.kind driver.old }
+    ensures faults { D.faults driver.old ≤ D.faults driver.new }
+    ensures stage { D.stage driver.new ≡ Life.Started }
+    ensures caller { ctx.new.caller ≡ ctx.old.caller }
+    ensures outside { length ctx.new.outside ≤ 262144 }
+    ensures effects { length ctx.new.effects ≤ 262144 }
+    ensures called { OnOk result ((watched : Bool) → Called (D.kind driver.old) owns watched (Sender.Process ctx.old.caller) (Signal.OwnerCommand payload.now) (D.own driver.old) (D.own driver.new) ctx.old.queue ctx.new) }
+{
+    if !owns {
+        return Ok(());
+    }
+    driver.outputv(alloc, ctx, payload)
+}
+
+/// Tells the driver of the end of the caller, where it watches it.
+fn call_process_exit<D: Driver>(
+    alloc: Global,
+    driver: &mut D,
+    ctx: &mut DriverCtx,
+    watched: bool,
+) -> Result<(), NoMemory>
+    requires started { D.stage driver.old ≡ Life.Started }
+    requires outside { ctx.old.outside ≡ [] }
+    requires effects { ctx.old.effects ≡ [] }
+    ensures kind { D.kind driver.new ≡ D.kind driver.old }
+    ensures faults { D.faults driver.old ≤ D.faults driver.new }
+    ensures stage { D.stage driver.new ≡ Life.Started }
+    ensures caller { ctx.new.caller ≡ ctx.old.caller }
+    ensures outside { length ctx.new.outside ≤ 262144 }
+    ensures effects { length ctx.new.effects ≤ 262144 }
+    ensures called { OnOk result ((owns : Bool) (reason : List ℕ) → Called (D.kind driver.old) owns watched (Sender.Process ctx.old.caller) (Signal.Gone reason) (D.own driver.old) (D.own driver.new) ctx.old.queue ctx.new) }
+{
+    if !watched {
+        return Ok(());
+    }
+    let process = ctx.caller();
+    driver.process_exit(alloc, ctx, process)
+}
+
+/// Calls the driver's callback for a signal of the owner or of another, if it has one. The driver may watch the sender.
 fn call_driver<D: Driver>(
     alloc: Global,
     driver: &mut D,
     ctx: &mut DriverCtx,
+    owns: bool,
+    watched: bool,
     signal: &Signal,
 ) -> Result<(), NoMemory>
     requires started { D.stage driver.old ≡ Life.Started }
@@ -71,10 +136,11 @@ fn call_driver<D: Driver>(
     ensures caller { ctx.new.caller ≡ ctx.old.caller }
     ensures outside { length ctx.new.outside ≤ 262144 }
     ensures effects { length ctx.new.effects ≤ 262144 }
-    ensures called { OnOk result (Called (D.kind driver.old) (Sender.Process ctx.old.caller) signal.now (D.own driver.old) (D.own driver.new) ctx.old.queue ctx.new) }
+    ensures called { OnOk result (Called (D.kind driver.old) owns watched (Sender.Process ctx.old.caller) signal.now (D.own driver.old) (D.own driver.new) ctx.old.queue ctx.new) }
 {
     match signal {
         Signal::Command(payload) => driver.outputv(alloc, ctx, payload),
+        Signal::OwnerCommand(payload) => call_outputv(alloc, driver, ctx, owns, payload),
         Signal::Control { op, bytes } => {
             let answer = driver.control(alloc, ctx, *op, bytes)?;
             ctx.reply(answer)
@@ -83,7 +149,11 @@ fn call_driver<D: Driver>(
             let answer = driver.call(alloc, ctx, *op, bytes)?;
             ctx.reply(answer)
         }
-        Signal::Close | Signal::Gone(_) => Ok(()),
+        Signal::Gone(_) => call_process_exit(alloc, driver, ctx, watched),
+        Signal::Close | Signal::OwnerClose => Ok(()),
+        Signal::Connect(_) | Signal::OwnerConnect(_) => Ok(()),
+        Signal::Link | Signal::Unlink | Signal::Monitor(_) | Signal::Demonitor(_) => Ok(()),
+        Signal::Exit(_) => Ok(()),
     }
 }
 
@@ -125,7 +195,8 @@ fn handle<D: Driver>(
     alloc: Global,
     driver: &mut D,
     queue: DriverQueue,
-    owner: u32,
+    links: &Links,
+    watched: bool,
     busy: bool,
     item: Item<Task>,
 ) -> Result<Made, NoMemory>
@@ -134,11 +205,13 @@ fn handle<D: Driver>(
     ensures faults { D.faults driver.old ≤ D.faults driver.new }
     ensures stage { IfOk result (λ made. D.stage driver.new ≡ (if made.stops then Life.Stopped else Life.Started)) }
     ensures err { OnErr result (D.stage driver.new ≡ Life.Started) }
-    ensures stops { IfOk result (λ made. made.stops ≡ true → made.closes ≡ true) }
-    ensures made { IfOk result (λ made. (port : Opening) (older : List Row) → port.kind ≡ D.kind driver.old → port.owner ≡ owner
-        → is_open port older ≡ true → marks_due port older ≡ [] → is_busy older ≡ busy → (is_command item.value.signal ≡ true → busy ≡ false)
-        → item.seq ≡ length (of item.sender (items older)) → held_of (D.own driver.old) (concat queue.segments) ≡ holds port.kind port.config (calls port older)
-        → Extends port older item made.row made.closes made.stops made.busy (D.own driver.new) (concat made.queue.segments)) }
+    ensures stops { IfOk result (λ made. made.stops ≡ true → is_some made.reason ≡ true) }
+    ensures made { IfOk result (λ made. (port : Opening) (older : List Row) → port.kind ≡ D.kind driver.old → Tied port older links.now
+        → watched ≡ is_watched item.sender older → is_open port older ≡ true → marks_due port older ≡ [] → is_busy older ≡ busy
+        → (is_command item.value.signal ≡ true → busy ≡ false) → item.seq ≡ length (of item.sender (items older))
+        → held_of (D.own driver.old) (concat queue.segments) ≡ holds port.kind port.config (calls port older)
+        → Extends port older item made.row (is_some made.reason) made.stops made.busy (D.own driver.new) (concat made.queue.segments)
+        × Ending port older made.row made.reason made.stops) }
     ensures sender { IfOk result (λ made. (processes : ℕ) → item.sender < processes → SenderBelow processes made.row) }
 {
     let Item {
@@ -147,9 +220,10 @@ fn handle<D: Driver>(
         value: task,
     } = item;
     let from = Sender::Process(sender);
+    let owns = sender == links.owner();
     let mut ctx = DriverCtx::new(alloc, sender, queue);
-    call_driver(alloc, driver, &mut ctx, &task.signal)?;
-    let reason = reason_to_close(owner, from, &task.signal);
+    call_driver(alloc, driver, &mut ctx, owns, watched, &task.signal)?;
+    let reason = reason_to_close(links, from, &task.signal);
     let stops = shut_down(alloc, driver, &mut ctx, &reason)?;
     let (queue, outside, effects) = ctx.finish();
     let busy = busy_after(busy, effects.as_slice());
@@ -162,7 +236,7 @@ fn handle<D: Driver>(
             effects,
         },
         queue,
-        closes: reason.is_some(),
+        reason,
         stops,
         busy,
     })
@@ -190,7 +264,8 @@ pub fn take_task<D: Driver>(
     alloc: Global,
     driver: &mut D,
     queue: DriverQueue,
-    owner: u32,
+    links: &Links,
+    watched: bool,
     closed: bool,
     busy: bool,
     item: Item<Task>,
@@ -199,25 +274,26 @@ pub fn take_task<D: Driver>(
     ensures kind { D.kind driver.new ≡ D.kind driver.old }
     ensures faults { D.faults driver.old ≤ D.faults driver.new }
     ensures stage { IfOk result (λ made. D.stage driver.new ≡ (if made.stops then Life.Stopped else D.stage driver.old)) }
-    ensures once { IfOk result (λ made. made.closes ≡ true → closed ≡ false) }
-    ensures stops { IfOk result (λ made. made.stops ≡ true → made.closes ≡ true) }
+    ensures once { IfOk result (λ made. is_some made.reason ≡ true → closed ≡ false) }
+    ensures stops { IfOk result (λ made. made.stops ≡ true → is_some made.reason ≡ true) }
     ensures err { OnErr result (D.stage driver.new ≡ D.stage driver.old) }
-    ensures made { IfOk result (λ made. (port : Opening) (older : List Row) → port.kind ≡ D.kind driver.old → port.owner ≡ owner
-        → is_open port older ≡ not closed → marks_due port older ≡ [] → is_busy older ≡ busy
+    ensures made { IfOk result (λ made. (port : Opening) (older : List Row) → port.kind ≡ D.kind driver.old → Tied port older links.now
+        → watched ≡ is_watched item.sender older → is_open port older ≡ not closed → marks_due port older ≡ [] → is_busy older ≡ busy
         → (closed ≡ false → is_command item.value.signal ≡ true → busy ≡ false) → item.seq ≡ length (of item.sender (items older))
         → held_of (D.own driver.old) (concat queue.segments) ≡ holds port.kind port.config (calls port older)
-        → Extends port older item made.row made.closes made.stops made.busy (D.own driver.new) (concat made.queue.segments)) }
+        → Extends port older item made.row (is_some made.reason) made.stops made.busy (D.own driver.new) (concat made.queue.segments)
+        × Ending port older made.row made.reason made.stops) }
     ensures sender { IfOk result (λ made. (processes : ℕ) → item.sender < processes → SenderBelow processes made.row) }
 {
     if closed {
         return Ok(Made {
             row: late_row(item),
             queue,
-            closes: false,
+            reason: None,
             stops: false,
             busy,
         });
     }
-    let made = handle(alloc, driver, queue, owner, busy, item)?;
+    let made = handle(alloc, driver, queue, links, watched, busy, item)?;
     Ok(made)
 }

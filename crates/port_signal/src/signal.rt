@@ -1,3 +1,6 @@
+ghost use Rattle.std.specs.Prelude.{◌≡◌};
+ghost use Rattle.port_signal.specs.Signals.{is_command};
+
 use crate::Reason;
 use io_vector::{IoVec, Piece};
 
@@ -38,6 +41,15 @@ pub enum Signal {
     Exit(Reason),
     /// The sender has ended for this reason.
     Gone(Reason),
+}
+
+impl Signal {
+    /// Whether it is a command, in either form.
+    pub fn is_command(&self) -> bool
+        ensures { result ≡ is_command self.now }
+    {
+        matches!(self, Signal::Command(_) | Signal::OwnerCommand(_))
+    }
 }
 
 /// A signal as it lies in a port's queue.

@@ -5,7 +5,7 @@ ghost use Rattle.waiting_list.specs.Queues.{lists, queue_of, arrivals, goes_at, 
 
 use crate::NoMemory;
 use crate::arrival::{Arrival, Head};
-use port_signal::{Signal, Task};
+use port_signal::Task;
 use std::alloc::Global;
 use std::collections::VecDeque;
 use task_queue::Item;
@@ -26,7 +26,7 @@ pub(crate) fn empty_queues(alloc: Global, senders: u32) -> Result<Vec<VecDeque<A
 fn is_blocked(item: &Item<Task>, busy: bool) -> bool
     ensures { result ≡ (busy && is_command item.now.value.signal) }
 {
-    busy && matches!(item.value.signal, Signal::Command(_))
+    busy && item.value.signal.is_command()
 }
 
 /// The stamp of a queue's first task, if that task may go.

@@ -1,6 +1,6 @@
 use Rattle.std.proofs.Common.{◌≡◌, ◌+◌, ◌≤◌, length, reverse, true}
 use Rattle.std.specs.Prelude.{vec_len, vec_capacity}
-use Rattle.driver_entry.specs.History.{Opening}
+use Rattle.driver_entry.specs.Owners.{Opening}
 use Rattle.waiting_list.specs.Order.{SendersBelow}
 use Rattle.port_engine.specs.Boxes.{Moves}
 use Rattle.port_engine.specs.Late.{WereLate}

@@ -1,6 +1,6 @@
 use Rattle.std.proofs.Common.{◌≡◌, take}
 use Rattle.std.specs.List.{flat_map}
-use Rattle.driver_entry.specs.History.{Opening}
+use Rattle.driver_entry.specs.Owners.{Opening}
 use Rattle.driver_entry.specs.Mail.{effect_posts}
 use Rattle.port_engine.specs.Boxes.{Adds, KeepsGone}
 use Rattle.port_engine.proofs.posting.post_effects.Given as goal

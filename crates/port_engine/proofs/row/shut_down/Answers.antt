@@ -1,6 +1,6 @@
 use Rattle.std.proofs.Common.{◌≡◌, Bool, true, false, ◌||◌, refl, sym, ap, ◌∙◌, cond}
 use Rattle.driver_entry.specs.Context.{is_empty}
-use Rattle.driver_entry.specs.History.{is_kill}
+use Rattle.port_signal.specs.Reasons.{is_kill}
 use Rattle.port_engine.specs.Made.{ShutDown}
 use Rattle.port_engine.proofs.Calls.{Closes-kept, Closes-stopped, Closes-flushed}
 use Rattle.port_engine.proofs.Extending.{Extends-late}

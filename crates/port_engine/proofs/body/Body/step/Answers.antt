@@ -1,6 +1,7 @@
 use Rattle.std.proofs.Common.{◌≡◌, ◌+◌, ◌*◌, ◌≤◌, ◌∷◌, ◌++◌, List, length, reverse, map, true, false, not, ◌||◌, cond, refl, sym, ap, ◌∙◌, arith, inl, inr, subst, length-append}
 use Rattle.std.specs.List.{concat}
-use Rattle.driver_entry.specs.History.{Opening, is_open, busy_marks}
+use Rattle.driver_entry.specs.Owners.{Opening}
+use Rattle.driver_entry.specs.History.{is_open, busy_marks}
 use Rattle.waiting_list.specs.Order.{SendersBelow}
 use Rattle.port_engine.specs.Body.{Flags}
 use Rattle.port_engine.specs.Made.{row_of_mark}

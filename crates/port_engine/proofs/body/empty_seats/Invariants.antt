@@ -1,6 +1,6 @@
 use Rattle.std.proofs.Common.{◌≡◌, false, []}
 use Rattle.std.specs.Prelude.{replicate, vec_len, vec_capacity}
-use Rattle.port_engine.proofs.body.mailboxes.Given as goal
+use Rattle.port_engine.proofs.body.empty_seats.Given as goal
 
 -- so many are made, and there is room for all
 abbrev pub invariant-loop-place : goal.invariant-loop-place
