@@ -51,8 +51,8 @@ pub(crate) fn posts_of_end(
     ensures { IfOk result (λ posts. posts.items ≡ end_posts port reason.now (set_flags 0 linked.now) monitors.now.keys) }
 {
     let mut posts = Vec::new(alloc);
-    for (process, linked) in linked.iter().enumerate() {
-        if *linked {
+    for (process, is_linked) in linked.iter().enumerate() {
+        if *is_linked {
             posts.push(exit_post(port, reason, process as u32))?;
         }
     }
