@@ -1,7 +1,7 @@
 -- Flags by process, and the list of the processes whose flags are set.
-use Rattle.std.proofs.Common.{◌≡◌, ℕ, zero, suc, ◌+◌, ◌<◌, ◌≤◌, List, [], ◌∷◌, length, get_or, set, replicate, All, Bool, true, false, not, eqb, ltb, cond, refl, sym, ap, ◌∙◌, arith}
+use Rattle.std.proofs.Common.{◌≡◌, ℕ, zero, suc, ◌+◌, ◌<◌, ◌≤◌, List, [], ◌∷◌, ◌++◌, length, map, take, get_or, set, replicate, All, Bool, true, false, not, eqb, ltb, cond, refl, sym, ap, ◌∙◌, append-nil, arith, ◌^◌}
 use Rattle.std.proofs.lemmas.Bool.{eq-eqb, ne_eqb, lt-ltb, le-ltb, cond-true, cond-false}
-use Rattle.std.proofs.lemmas.List.{length-replicate, length-set}
+use Rattle.std.proofs.lemmas.List.{length-replicate, length-set, length-take, set_past, take_more, map-append}
 use Rattle.std.proofs.lemmas.List.Elements.{All-nil, All-cons, All-filter}
 use Rattle.std.specs.List.Sorted.{IsStrictlySortedBy}
 use Rattle.port_signal.specs.declared.monitor.Monitor.{Monitor}
@@ -63,6 +63,11 @@ below-set_flags first n [] e = All-nil (λ p. p < n)
 below-set_flags first n (true ∷ flags) e = All-cons (λ p. p < n) first (set_flags (first + 1) flags) (omega arith) (below-set_flags (first + 1) n flags (omega arith))
 below-set_flags first n (false ∷ flags) e = below-set_flags (first + 1) n flags (omega arith)
 
+set_flags-append : (first next : ℕ) (flags more : List Bool) → next ≡ first + length flags → set_flags first (flags ++ more) ≡ set_flags first flags ++ set_flags next more
+set_flags-append first next [] more e = ap (λ n. set_flags n more) (omega arith)
+set_flags-append first next (true ∷ flags) more e = ap (λ later. first ∷ later) (set_flags-append (first + 1) next flags more (omega arith))
+set_flags-append first next (false ∷ flags) more e = set_flags-append (first + 1) next flags more (omega arith)
+
 -- The table's flags, whose first process is 0
 
 pub has-flag : (p : ℕ) (flags : List Bool) → has p (set_flags 0 flags) ≡ get_or flags p false
@@ -74,6 +79,9 @@ with-flag p flags within = sym (with-set_flags p 0 p flags (omega arith) within)
 pub without-flag : (p : ℕ) (flags : List Bool) → set_flags 0 (set flags p false) ≡ without_process p (set_flags 0 flags)
 without-flag p flags = sym (without-set_flags p 0 p flags (omega arith))
 
+pub without-none : (p : ℕ) (flags : List Bool) → length flags ≤ p → set_flags 0 flags ≡ without_process p (set_flags 0 flags)
+without-none p flags past = ap (λ fs. set_flags 0 fs) (sym (set_past flags p false past)) ∙ without-flag p flags
+
 pub no-flags : (n : ℕ) → set_flags 0 (replicate n false) ≡ []
 no-flags n = none-set_flags 0 n
 
@@ -83,11 +91,29 @@ one-flag p n within = with-flag p (replicate n false) (omega (arith, length-repl
 pub flags-below : (flags : List Bool) → All (λ p. p < length flags) (set_flags 0 flags)
 flags-below flags = below-set_flags 0 (length flags) flags (omega arith)
 
+-- one flag more
+pub flags-more : (p : ℕ) (flags : List Bool) → p < length flags → set_flags 0 (take (p + 1) flags) ≡ set_flags 0 (take p flags) ++ cond (get_or flags p false) (p ∷ []) []
+flags-more p flags within =
+    rw (take_more flags p false within)
+    (set_flags-append 0 p (take p flags) (get_or flags p false ∷ []) (omega (arith, length-take p flags)) ∙ ap (λ later. set_flags 0 (take p flags) ++ later) (one (get_or flags p false))) where
+  one : (flag : Bool) → set_flags p (flag ∷ []) ≡ cond flag (p ∷ []) []
+  one true = refl
+  one false = refl
+
+pub map-more_set : {Y : Type 0} (f : ℕ → Y) (p : ℕ) (flags : List Bool) → p < length flags → get_or flags p false ≡ true
+    → map f (set_flags 0 (take (p + 1) flags)) ≡ map f (set_flags 0 (take p flags)) ++ f p ∷ []
+map-more_set f p flags within is = rw (flags-more p flags within, is) (map-append f (set_flags 0 (take p flags)) (p ∷ []))
+
+pub map-more_unset : {Y : Type 0} (f : ℕ → Y) (p : ℕ) (flags : List Bool) → p < length flags → get_or flags p false ≡ false
+    → map f (set_flags 0 (take (p + 1) flags)) ≡ map f (set_flags 0 (take p flags))
+map-more_unset f p flags within is = rw (flags-more p flags within, is) (ap (map f) (append-nil (set_flags 0 (take p flags))))
+
 -- The invariant, where one flag or the owner changes
 
 pub flag-kept : (owner : ℕ) (linked gone : List Bool) (ms : List Monitor) (p : ℕ) (flag : Bool) → IsKept owner linked gone ms → IsKept owner (set linked p flag) gone ms
 flag-kept owner linked gone ms p flag kept = record {
   within = kept.within;
+  few = kept.few;
   long = length-set linked p flag ∙ kept.long;
   known = kept.known;
   rising = kept.rising;
@@ -96,6 +122,7 @@ flag-kept owner linked gone ms p flag kept = record {
 pub owner-kept : (owner : ℕ) (linked gone : List Bool) (ms : List Monitor) (p : ℕ) → IsKept owner linked gone ms → p < length gone → IsKept p (set linked p true) gone ms
 owner-kept owner linked gone ms p kept within = record {
   within = within;
+  few = kept.few;
   long = length-set linked p true ∙ kept.long;
   known = kept.known;
   rising = kept.rising;
@@ -105,15 +132,17 @@ pub gone-kept : (owner : ℕ) (linked gone : List Bool) (ms left : List Monitor)
     → left ≡ without_watcher p ms → IsStrictlySortedBy monitor_cmp left → IsKept owner (set linked p false) (set gone p true) left
 gone-kept owner linked gone ms left p kept e rising = record {
   within = rw (length-set gone p true) kept.within;
+  few = rw (length-set gone p true) kept.few;
   long = length-set linked p false ∙ (kept.long ∙ sym (length-set gone p true));
   known = rw (e, length-set gone p true) (All-filter (λ m. not (eqb m.process p)) (λ m. m.process < length gone) ms kept.known);
   rising = rising;
 }
 
 pub new-kept : (owner n : ℕ) (linked gone : List Bool) (ms : List Monitor) → linked ≡ replicate n false → gone ≡ replicate n false → ms ≡ [] → IsStrictlySortedBy monitor_cmp ms
-    → owner < n → IsKept owner (set linked owner true) gone ms
-new-kept owner n linked gone ms e f none rising within = record {
+    → owner < n → n < 2 ^ 32 → IsKept owner (set linked owner true) gone ms
+new-kept owner n linked gone ms e f none rising within few = record {
   within = rw (f, length-replicate n false) within;
+  few = rw (f, length-replicate n false) (omega arith);
   long = length-set linked owner true ∙ ap length (e ∙ sym f);
   known = rw none (All-nil (λ m. m.process < length gone));
   rising = rising;

@@ -1,5 +1,5 @@
 -- How the table keeps its lists.
-use Rattle.std.specs.Prelude.{◌≡◌, ℕ, ◌+◌, ◌<◌, List, [], ◌∷◌, length, Bool, All, if◌then◌else◌}
+use Rattle.std.specs.Prelude.{◌≡◌, ℕ, ◌+◌, ◌<◌, ◌≤◌, ◌^◌, List, [], ◌∷◌, length, Bool, All, if◌then◌else◌}
 use Rattle.std.specs.List.Sorted.{IsStrictlySortedBy}
 use Rattle.std.specs.declared.cmp.Ordering.{Ordering}
 use Rattle.port_signal.specs.declared.monitor.Monitor.{Monitor}
@@ -17,6 +17,7 @@ monitor_cmp = ord.ghosts.cmp
 -- each process that the table names is one of those that it has flags for, and the monitors are in rising order, each once
 pub record IsKept (owner : ℕ) (linked gone : List Bool) (monitors : List Monitor) : Type 0 where
   pub within : owner < length gone
+  pub few : length gone ≤ 2 ^ 32
   pub long : length linked ≡ length gone
   pub known : All (λ m. m.process < length gone) monitors
   pub rising : IsStrictlySortedBy monitor_cmp monitors

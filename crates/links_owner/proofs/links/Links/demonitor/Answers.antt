@@ -7,7 +7,7 @@ use Rattle.links_owner.proofs.links.Links.demonitor.Goals as goal
 
 pub invariant_of-self : goal.invariant_of-self
 invariant_of-self c = record {
-  within = c.self.invariant.within;
+  within = c.self.invariant.within; few = c.self.invariant.few;
   long = c.self.invariant.long;
   known = rw c.remove.ensures.keys (All-remove_key _ (λ m. m.process < length c.self.inside.gone.items) c.self.inside.monitors.keys c.self.invariant.known);
   rising = c.remove.ensures.ordered;

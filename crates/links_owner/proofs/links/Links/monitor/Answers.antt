@@ -11,7 +11,7 @@ invariant_of-self-2 c =
     let m : Monitor = record { process = c.args.process; number = c.args.number } in
     let known : m.process < length c.self.inside.gone.items = rw (← c.self.view_is) at c.requires in
     record {
-      within = c.self.invariant.within;
+      within = c.self.invariant.within; few = c.self.invariant.few;
       long = c.self.invariant.long;
       known = rw c.in_ok-insert.ensures.keys (All-insert_key monitor_cmp m (λ m. m.process < length c.self.inside.gone.items) c.self.inside.monitors.keys c.self.invariant.known known);
       rising = c.in_ok-insert.ensures.ordered;

@@ -6,7 +6,7 @@ use Rattle.links_owner.proofs.links.Links.new.Goals as goal
 
 pub invariant_of-result : goal.invariant_of-result
 invariant_of-result c =
-    new-kept c.args.owner c.args.processes _ _ _ (c.in_ok-linked.ensures.items_if_clones_equal (λ y e. e)) (c.in_ok-vec.ensures.items_if_clones_equal (λ y e. e)) c.new.ensures.empty c.new.ensures.ordered c.requires
+    new-kept c.args.owner c.args.processes _ _ _ (c.in_ok-linked.ensures.items_if_clones_equal (λ y e. e)) (c.in_ok-vec.ensures.items_if_clones_equal (λ y e. e)) c.new.ensures.empty c.new.ensures.ordered c.requires c.ranges.processes.fits
 
 pub returns : goal.returns
 returns c =
