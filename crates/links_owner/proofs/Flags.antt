@@ -1,6 +1,6 @@
 -- Flags by process, and the list of the processes whose flags are set.
-use Rattle.std.proofs.Common.{◌≡◌, ℕ, zero, suc, ◌+◌, ◌<◌, ◌≤◌, List, [], ◌∷◌, ◌++◌, length, map, take, get_or, set, replicate, All, Bool, true, false, not, eqb, ltb, cond, refl, sym, ap, ◌∙◌, append-nil, arith, ◌^◌}
-use Rattle.std.proofs.lemmas.Bool.{eq-eqb, ne_eqb, lt-ltb, le-ltb, cond-true, cond-false}
+use Rattle.std.proofs.Common.{◌≡◌, ℕ, zero, suc, ◌+◌, ◌<◌, ◌≤◌, List, [], ◌∷◌, ◌++◌, length, map, take, get_or, set, replicate, All, Bool, true, false, not, eqb, cond, refl, sym, ap, ◌∙◌, append-nil, arith, ◌^◌}
+use Rattle.std.proofs.lemmas.Bool.{eq-eqb, ne_eqb, lt-ltb, le-ltb}
 use Rattle.std.proofs.lemmas.List.{length-replicate, length-set, length-take, set_past, take_more, map-append}
 use Rattle.std.proofs.lemmas.List.Elements.{All-nil, All-cons, All-filter}
 use Rattle.std.specs.List.Sorted.{IsStrictlySortedBy}
@@ -96,9 +96,9 @@ pub flags-more : (p : ℕ) (flags : List Bool) → p < length flags → set_flag
 flags-more p flags within =
     rw (take_more flags p false within)
     (set_flags-append 0 p (take p flags) (get_or flags p false ∷ []) (omega (arith, length-take p flags)) ∙ ap (λ later. set_flags 0 (take p flags) ++ later) (one (get_or flags p false))) where
-  one : (flag : Bool) → set_flags p (flag ∷ []) ≡ cond flag (p ∷ []) []
-  one true = refl
-  one false = refl
+      one : (flag : Bool) → set_flags p (flag ∷ []) ≡ cond flag (p ∷ []) []
+      one true = refl
+      one false = refl
 
 pub map-more_set : {Y : Type 0} (f : ℕ → Y) (p : ℕ) (flags : List Bool) → p < length flags → get_or flags p false ≡ true
     → map f (set_flags 0 (take (p + 1) flags)) ≡ map f (set_flags 0 (take p flags)) ++ f p ∷ []

@@ -1,13 +1,13 @@
 -- The monitors of a set, in its order.
-use Rattle.std.proofs.Common.{◌≡◌, ℕ, ◌<◌, ◌≤◌, List, [], ◌∷◌, Bool, true, false, not, ◌&&◌, ◌||◌, eqb, ltb, cond, refl, sym, ap, ◌∙◌, arith, ◌⊎◌, inl, inr, Less, Equal, Greater}
+use Rattle.std.proofs.Common.{◌≡◌, ℕ, List, [], ◌∷◌, Bool, true, false, not, ◌&&◌, ◌||◌, eqb, ltb, cond, refl, sym, ap, ◌∙◌, arith, inl, inr, Less, Equal, Greater}
 use Rattle.std.specs.declared.cmp.Ordering.{Ordering}
 use Rattle.std.specs.Ordering.{is_eq, nat_cmp, ordering_then, match_ordering}
-use Rattle.std.specs.List.{list_any, filter, AllByRecursion}
+use Rattle.std.specs.List.{list_any, AllByRecursion}
 use Rattle.std.specs.List.Sorted.{IsStrictlySortedBy}
 use Rattle.std.specs.Set.{remove_key}
 use Rattle.std.specs.BTreeMap.{is_at}
 use Rattle.std.specs.BTreeSet.{insert_key}
-use Rattle.std.proofs.lemmas.Bool.{cases_order, cases_Bool, eq-eqb, ne_eqb, lt-ltb, le-ltb, eqb-true, and_parts}
+use Rattle.std.proofs.lemmas.Bool.{cases_order, eq-eqb, ne_eqb, lt-ltb, le-ltb, eqb-true, and_parts}
 use Rattle.std.proofs.lemmas.Map.Keys.{sorted_head, sorted_tail}
 use Rattle.port_signal.specs.declared.monitor.Monitor.{Monitor}
 use Rattle.port_signal.specs.Links.{is_before, is_same, has_monitor, with_monitor, without_monitor}
@@ -37,6 +37,7 @@ compares a b = record {
       | inr (inl l) ↦ rw (lt-ltb m n l) refl
       | inr (inr l) ↦ rw (le-ltb m n (omega arith), ne_eqb m n (λ e. omega arith)) refl
     ]
+
   same : (p q m n : ℕ) → (eqb p q && eqb m n) ≡ is_eq (ordering_then (nat_cmp p q) (nat_cmp m n))
   same p q m n = elim (cases_order p q) [
     | inl e ↦ rw (le-ltb p q (omega arith), eq-eqb p q e) (by_number m n)
@@ -58,12 +59,12 @@ pub with-key : (m : Monitor) (ms : List Monitor) → insert_key monitor_cmp ms m
 with-key m [] = refl
 with-key m (other ∷ others) =
     rw ((compares m other).before, (compares m other).same) (by_order (monitor_cmp m other) (with-key m others)) where
-  by_order : (o : Ordering) → insert_key monitor_cmp others m ≡ with_monitor m others
-      → match_ordering o (m ∷ other ∷ others) (other ∷ others) (other ∷ insert_key monitor_cmp others m)
-      ≡ cond (match_ordering o true false false) (m ∷ other ∷ others) (cond (is_eq o) (other ∷ others) (other ∷ with_monitor m others))
-  by_order Less e = refl
-  by_order Equal e = refl
-  by_order Greater e = ap (λ later. other ∷ later) e
+      by_order : (o : Ordering) → insert_key monitor_cmp others m ≡ with_monitor m others
+          → match_ordering o (m ∷ other ∷ others) (other ∷ others) (other ∷ insert_key monitor_cmp others m)
+          ≡ cond (match_ordering o true false false) (m ∷ other ∷ others) (cond (is_eq o) (other ∷ others) (other ∷ with_monitor m others))
+      by_order Less e = refl
+      by_order Equal e = refl
+      by_order Greater e = ap (λ later. other ∷ later) e
 
 -- a monitor that is the same as one below another is not that other
 apart : (m x y : Monitor) → is_same m x ≡ true → monitor_cmp x y ≡ Less → is_same m y ≡ false
@@ -83,7 +84,7 @@ pub without-key : (m : Monitor) (ms : List Monitor) → IsStrictlySortedBy monit
 without-key m [] rising = refl
 without-key m (x ∷ others) rising =
     rw (← (compares m x).same) (by_same (is_same m x) (without-key m others (sorted_tail monitor_cmp x others rising)) (λ same. others-stay m x others same (sorted_head monitor_cmp x others rising))) where
-  by_same : (b : Bool) → remove_key (is_at (monitor_cmp m)) others ≡ without_monitor m others → (b ≡ true → without_monitor m others ≡ others)
-      → cond b others (x ∷ remove_key (is_at (monitor_cmp m)) others) ≡ cond (not b) (x ∷ without_monitor m others) (without_monitor m others)
-  by_same true e stay = sym (stay refl)
-  by_same false e stay = ap (λ ms. x ∷ ms) e
+      by_same : (b : Bool) → remove_key (is_at (monitor_cmp m)) others ≡ without_monitor m others → (b ≡ true → without_monitor m others ≡ others)
+          → cond b others (x ∷ remove_key (is_at (monitor_cmp m)) others) ≡ cond (not b) (x ∷ without_monitor m others) (without_monitor m others)
+      by_same true e stay = sym (stay refl)
+      by_same false e stay = ap (λ ms. x ∷ ms) e

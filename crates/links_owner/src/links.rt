@@ -45,7 +45,8 @@ impl Links {
     /// The ties of a port that was just opened: its owner is linked, and no process has ended.
     pub fn new(alloc: Global, owner: u32, processes: u32) -> Result<Links, NoMemory>
         requires { owner < processes }
-        ensures { IfOk result (λ ties. ties ≡ record { owner = owner; linked = owner ∷ []; gone = replicate processes false; monitors = [] }) }
+        ensures ties { IfOk result (λ ties. ties ≡ record { owner = owner; linked = owner ∷ []; gone = replicate processes false; monitors = [] }) }
+        ensures len { IfOk result (λ ties. length ties.gone ≡ processes) }
     {
         let mut linked = vec![in alloc; false; processes as usize]?;
         linked[owner as usize] = true;
@@ -67,10 +68,7 @@ impl Links {
     pub fn is_linked(&self, process: u32) -> bool
         ensures { result ≡ has process self.now.linked }
     {
-        self.linked
-            .get(process as usize)
-            .copied()
-            .unwrap_or(false)
+        self.linked.get(process as usize).copied().unwrap_or(false)
     }
 
     /// Whether the process has ended, or is out of range.
@@ -104,6 +102,8 @@ impl Links {
         ensures value { result ≡ is_here process self.old.gone }
         ensures connected { result ≡ true → self.new ≡ record self.old { owner = process; linked = with_process process self.old.linked } }
         ensures refused { result ≡ false → self.new ≡ self.old }
+        ensures below { result ≡ true → process < length self.old.gone }
+        ensures len { length self.new.gone ≡ length self.old.gone }
     {
         if self.is_gone(process) {
             return false;
@@ -118,6 +118,7 @@ impl Links {
         requires { process < length self.old.gone }
         ensures ok { OnOk result (self.new ≡ record self.old { monitors = with_monitor (record { process = process; number = number }) self.old.monitors }) }
         ensures err { OnErr result (self.new ≡ self.old) }
+        ensures len { length self.new.gone ≡ length self.old.gone }
     {
         self.monitors.insert(Monitor { process, number })?;
         Ok(())
@@ -135,7 +136,8 @@ impl Links {
     /// The process has ended: its link and its monitors go. It takes no memory.
     pub fn gone(&mut self, process: u32)
         requires { process < length self.old.gone }
-        ensures { self.new ≡ record self.old { linked = without_process process self.old.linked; gone = slice_set self.old.gone process true; monitors = without_watcher process self.old.monitors } }
+        ensures ties { self.new ≡ record self.old { linked = without_process process self.old.linked; gone = slice_set self.old.gone process true; monitors = without_watcher process self.old.monitors } }
+        ensures len { length self.new.gone ≡ length self.old.gone }
     {
         self.gone[process as usize] = true;
         self.linked[process as usize] = false;
@@ -162,6 +164,7 @@ impl Links {
         ensures below { IfOk result (λ posts. All (λ post. post.to < length self.old.gone) posts.items) }
         ensures taken { OnOk result (self.new ≡ record self.old { linked = []; monitors = [] }) }
         ensures err { OnErr result (self.new ≡ self.old) }
+        ensures len { length self.new.gone ≡ length self.old.gone }
     {
         let alloc = *self.linked.allocator();
         let posts = posts_of_end(alloc, port, reason, &self.linked, &self.monitors)?;

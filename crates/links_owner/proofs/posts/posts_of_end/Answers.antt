@@ -1,4 +1,4 @@
-use Rattle.std.proofs.Common.{◌≡◌, ◌<◌, ◌++◌, ◌∷◌, [], ◌∙◌, ap, sym, map, take, get_or, true, false}
+use Rattle.std.proofs.Common.{◌++◌, ◌∷◌, [], ◌∙◌, ap, sym}
 use Rattle.port_signal.specs.Links.{exit_post}
 use Rattle.links_owner.proofs.Flags.{map-more_set, map-more_unset}
 use Rattle.links_owner.proofs.posts.posts_of_end.Goals as goal

@@ -1,10 +1,10 @@
-use Rattle.std.proofs.Common.{◌≡◌, ◌<◌, length, refl, arith, vec_len, true, sym}
+use Rattle.std.proofs.Common.{◌<◌, length, refl, arith}
 use Rattle.links_owner.proofs.Flags.{with-flag, owner-kept}
 use Rattle.links_owner.proofs.Views.{same-ties}
 use Rattle.links_owner.proofs.links.Links.connect.Goals as goal
 
 pub index_mut-requires : goal.index_mut-requires
-index_mut-requires c = 
+index_mut-requires c =
     let known : c.args.process < length c.self.inside.gone.items = rw (← c.self.view_is) at (c.is_gone.ensures.below c.if-is_gone.false) in
     omega (arith, c.self.inside.linked.ok.0, c.self.invariant.long)
 

@@ -1,4 +1,4 @@
-use Rattle.std.proofs.Common.{◌≡◌, ◌∙◌, ap, sym, refl, subst, All, ◌<◌, length}
+use Rattle.std.proofs.Common.{◌∙◌, refl, ◌<◌, length}
 use Rattle.std.proofs.lemmas.Map.Views.{All-remove_key}
 use Rattle.port_signal.specs.declared.monitor.Monitor.{Monitor}
 use Rattle.links_owner.proofs.Monitors.{has-keys, without-key}
@@ -7,7 +7,8 @@ use Rattle.links_owner.proofs.links.Links.demonitor.Goals as goal
 
 pub invariant_of-self : goal.invariant_of-self
 invariant_of-self c = record {
-  within = c.self.invariant.within; few = c.self.invariant.few;
+  within = c.self.invariant.within;
+  few = c.self.invariant.few;
   long = c.self.invariant.long;
   known = rw c.remove.ensures.keys (All-remove_key _ (λ m. m.process < length c.self.inside.gone.items) c.self.inside.monitors.keys c.self.invariant.known);
   rising = c.remove.ensures.ordered;

@@ -1,8 +1,5 @@
-use Rattle.std.proofs.Common.{◌≡◌, ◌<◌, length, refl, arith, vec_len, ◌∙◌, rules, not, eqb, subst, sym, All, true, List}
+use Rattle.std.proofs.Common.{◌≡◌, ◌<◌, length, refl, arith, rules, not, eqb}
 use Rattle.std.proofs.lemmas.Fn.{filter_same}
-use Rattle.std.proofs.lemmas.List.{length-set}
-use Rattle.std.proofs.lemmas.List.Elements.{All-filter}
-use Rattle.port_signal.specs.declared.monitor.Monitor.{Monitor}
 use Rattle.port_signal.specs.Links.{without_watcher}
 use Rattle.links_owner.proofs.Flags.{without-flag, gone-kept}
 use Rattle.links_owner.proofs.Views.{same-ties}
@@ -19,5 +16,5 @@ left c = filter_same _ (λ m. not (eqb m.process c.args.process)) _ (λ x b f' k
 pub invariant_of-self : goal.invariant_of-self
 invariant_of-self c = gone-kept _ _ _ _ _ c.args.process c.self.invariant (left c) c.retain.ensures.ordered
 
-pub returns : goal.returns
-returns c = rw (← c.self.view_is) (same-ties _ _ _ _ _ _ _ (without-flag c.args.process c.self.inside.linked.items) refl (left c))
+pub returns-clause-ties : goal.returns-clause-ties
+returns-clause-ties c = rw (← c.self.view_is) (same-ties _ _ _ _ _ _ _ (without-flag c.args.process c.self.inside.linked.items) refl (left c))

@@ -1,10 +1,10 @@
-use Rattle.std.proofs.Common.{◌≡◌, ◌<◌, length, refl, arith, vec_len, true, sym}
+use Rattle.std.proofs.Common.{◌<◌, length, refl, arith, true}
 use Rattle.links_owner.proofs.Flags.{with-flag, flag-kept}
 use Rattle.links_owner.proofs.Views.{same-ties}
 use Rattle.links_owner.proofs.links.Links.link.Goals as goal
 
 pub index_mut-requires : goal.index_mut-requires
-index_mut-requires c = 
+index_mut-requires c =
     let known : c.args.process < length c.self.inside.gone.items = rw (← c.self.view_is) at c.requires in
     omega (arith, c.self.inside.linked.ok.0, c.self.invariant.long)
 

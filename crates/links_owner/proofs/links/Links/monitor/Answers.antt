@@ -1,4 +1,4 @@
-use Rattle.std.proofs.Common.{◌≡◌, ◌∙◌, refl, ◌<◌, length}
+use Rattle.std.proofs.Common.{◌∙◌, refl, ◌<◌, length}
 use Rattle.std.proofs.lemmas.Map.Views.{All-insert_key}
 use Rattle.port_signal.specs.declared.monitor.Monitor.{Monitor}
 use Rattle.links_owner.specs.Flags.{monitor_cmp}
@@ -11,7 +11,8 @@ invariant_of-self-2 c =
     let m : Monitor = record { process = c.args.process; number = c.args.number } in
     let known : m.process < length c.self.inside.gone.items = rw (← c.self.view_is) at c.requires in
     record {
-      within = c.self.invariant.within; few = c.self.invariant.few;
+      within = c.self.invariant.within;
+      few = c.self.invariant.few;
       long = c.self.invariant.long;
       known = rw c.in_ok-insert.ensures.keys (All-insert_key monitor_cmp m (λ m. m.process < length c.self.inside.gone.items) c.self.inside.monitors.keys c.self.invariant.known known);
       rising = c.in_ok-insert.ensures.ordered;

@@ -1,4 +1,3 @@
-use Rattle.std.proofs.Common.{◌≡◌, ◌<◌, length}
 use Rattle.links_owner.proofs.links.Links.owner.Goals as goal
 
 pub returns-clause-below : goal.returns-clause-below

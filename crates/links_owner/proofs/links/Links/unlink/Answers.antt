@@ -1,4 +1,4 @@
-use Rattle.std.proofs.Common.{◌≡◌, ◌<◌, ◌≤◌, ◌⊎◌, inl, inr, refl, sym, length, vec_len, arith, false, true}
+use Rattle.std.proofs.Common.{◌≤◌, inl, inr, refl, length, vec_len, arith, false}
 use Rattle.std.proofs.lemmas.Bool.{cases_lt, false≢true}
 use Rattle.links_owner.proofs.Flags.{without-flag, without-none, flag-kept}
 use Rattle.links_owner.proofs.Views.{same-ties}
