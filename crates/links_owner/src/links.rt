@@ -79,7 +79,7 @@ impl Links {
         self.gone.get(process as usize).copied().unwrap_or(true)
     }
 
-    /// Links the process. It takes no memory.
+    /// Links the process, which may have ended: `is_gone` tells. It takes no memory.
     pub fn link(&mut self, process: u32)
         requires { process < length self.old.gone }
         ensures { self.new ≡ record self.old { linked = with_process process self.old.linked } }
@@ -96,8 +96,8 @@ impl Links {
         }
     }
 
-    /// Makes the process the owner, and links it; the owner before stays linked. It is refused where the process has
-    /// ended, and takes no memory.
+    /// Makes the process the owner, and links it; the owner before stays linked, as `port_connect` says. It is refused
+    /// where the process has ended, or is out of range. It takes no memory.
     pub fn connect(&mut self, process: u32) -> bool
         ensures value { result ≡ is_here process self.old.gone }
         ensures connected { result ≡ true → self.new ≡ record self.old { owner = process; linked = with_process process self.old.linked } }
@@ -113,7 +113,7 @@ impl Links {
         true
     }
 
-    /// Adds a monitor of the port. One that is there stays.
+    /// Adds a monitor of the port by a process, which may have ended: `is_gone` tells. One that is there stays.
     pub fn monitor(&mut self, process: u32, number: u64) -> Result<(), NoMemory>
         requires { process < length self.old.gone }
         ensures ok { OnOk result (self.new ≡ record self.old { monitors = with_monitor (record { process = process; number = number }) self.old.monitors }) }
