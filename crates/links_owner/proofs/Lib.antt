@@ -1,0 +1,4 @@
+pub mod Flags
+pub mod Monitors
+pub mod Views
+pub mod Receivers
