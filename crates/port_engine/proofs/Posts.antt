@@ -68,3 +68,12 @@ Marks-by old ended new row e k = record {
 pub on-ok : {T E P : Type 0} (r : Result T E) → OnOk r P → is_ok r ≡ true → P
 on-ok (Ok x) p e = p
 on-ok (Err x) p e = absurd cc
+
+-- what puts the rest of some posts, behind the first of them, puts all
+pub Puts-more : (first now next : List Box) (all items rest : List Post) (x : Post) → ((last : List Box) → Adds now last items → Adds first last all) → items ≡ x ∷ rest
+    → Adds now next (x ∷ []) → (last : List Box) → Adds next last rest → Adds first last all
+Puts-more first now next all items rest x puts split a last b = puts last (rw split (Adds-trans now next last (x ∷ []) rest a b))
+
+pub Puts-all : (first now : List Box) (all items : List Post) → ((last : List Box) → Adds now last items → Adds first last all) → length items ≡ 0 → Adds first now all
+Puts-all first now all [] puts none = puts now (Adds-nil now)
+Puts-all first now all (x ∷ xs) puts none = absurd cc

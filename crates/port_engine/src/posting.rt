@@ -1,5 +1,5 @@
 //! The mail of a row, part by part.
-ghost use Rattle.std.specs.Prelude.{◌≡◌, ◌==◌, ◌<◌, ◌∷◌, ℕ, Bool, [], not, length, if◌then◌else◌, is_some, All, OnOk, IfOk};
+ghost use Rattle.std.specs.Prelude.{◌≡◌, ◌==◌, ◌<◌, ◌∷◌, ℕ, Bool, [], not, codes, length, if◌then◌else◌, is_some, All, OnOk, IfOk};
 ghost use Rattle.std.specs.List.{flat_map};
 ghost use Rattle.port_signal.specs.History.{sender_number};
 ghost use Rattle.port_signal.specs.Links.{down_post, exit_post};
@@ -221,10 +221,10 @@ pub fn post_answer(
     let Sender::Process(sender) = from;
     let owns = sender == owner;
     match signal {
-        Signal::OwnerCommand(_) | Signal::OwnerClose => post_bad_signal(boxes, number, owner, owns),
-        Signal::Control { .. } | Signal::Call { .. } => {
-            post_driver_reply(boxes, number, from, seq, effects)
-        }
+        Signal::OwnerCommand(_) => post_bad_signal(boxes, number, owner, owns),
+        Signal::OwnerClose => post_bad_signal(boxes, number, owner, owns),
+        Signal::Control { .. } => post_driver_reply(boxes, number, from, seq, effects),
+        Signal::Call { .. } => post_driver_reply(boxes, number, from, seq, effects),
         Signal::Close => post_reply(boxes, number, from, seq, Answer::True),
         Signal::Connect(process) => {
             post_connect(boxes, number, from, seq, !links.is_gone(*process))
@@ -252,9 +252,10 @@ pub fn post_late(
 {
     let Sender::Process(sender) = from;
     match signal {
-        Signal::Control { .. } | Signal::Call { .. } | Signal::Close | Signal::Connect(_) => {
-            post_reply(boxes, number, from, seq, Answer::Badarg)
-        }
+        Signal::Control { .. } => post_reply(boxes, number, from, seq, Answer::Badarg),
+        Signal::Call { .. } => post_reply(boxes, number, from, seq, Answer::Badarg),
+        Signal::Close => post_reply(boxes, number, from, seq, Answer::Badarg),
+        Signal::Connect(_) => post_reply(boxes, number, from, seq, Answer::Badarg),
         Signal::Link => post_exit(boxes, number, noproc(), sender),
         Signal::Monitor(monitor) => post_no_port(boxes, number, from, *monitor),
         Signal::Command(_) | Signal::OwnerCommand(_) => Ok(()),

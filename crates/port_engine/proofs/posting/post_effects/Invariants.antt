@@ -1,6 +1,5 @@
-use Rattle.std.proofs.Common.{◌≡◌, take}
+use Rattle.std.proofs.Common.{take}
 use Rattle.std.specs.List.{flat_map}
-use Rattle.driver_entry.specs.Owners.{Opening}
 use Rattle.driver_entry.specs.Mail.{effect_posts}
 use Rattle.port_engine.specs.Boxes.{Adds, KeepsGone}
 use Rattle.port_engine.proofs.posting.post_effects.Given as goal
@@ -9,4 +8,4 @@ use Rattle.port_engine.proofs.posting.post_effects.Given as goal
 abbrev pub invariant-loop-effect : goal.invariant-loop-effect
 invariant-loop-effect l =
     KeepsGone l.initial.boxes l.boxes
-    × ((port : Opening) → port.number ≡ l.number → Adds l.initial.boxes l.boxes (flat_map (effect_posts port l.owner) (take l.effect-index l.effects)))
+    × Adds l.initial.boxes l.boxes (flat_map (effect_posts l.number l.owner) (take l.effect-index l.effects))
