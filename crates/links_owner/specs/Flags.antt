@@ -14,7 +14,7 @@ set_flags first (flag ∷ flags) = if flag then first ∷ set_flags (first + 1) 
 abbrev pub monitor_cmp : Monitor → Monitor → Ordering
 monitor_cmp = ord.ghosts.cmp
 
--- each process that the table names is one of those that it has flags for, and the monitors are in rising order, each once
+-- each process that the table names has its flags, whose numbers fit 32 bits, and the monitors are in rising order, each once
 pub record IsKept (owner : ℕ) (linked gone : List Bool) (monitors : List Monitor) : Type 0 where
   pub within : owner < length gone
   pub few : length gone ≤ 2 ^ 32
