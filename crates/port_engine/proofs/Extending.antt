@@ -16,7 +16,7 @@ use Rattle.driver_entry.specs.Drivers.{Kind, Call, Own, holds}
 use Rattle.driver_entry.specs.Driven.{held_of}
 use Rattle.driver_entry.specs.Owners.{Opening, closes_for, closing_reason, is_watched, owner_of}
 use Rattle.links_owner.specs.Ties.{Ties}
-use Rattle.port_engine.specs.Tied.{Tied}
+use Rattle.port_ties.specs.Tied.{Tied}
 use Rattle.driver_entry.specs.History.{LawfulEffects, owns, task_calls, busy_after, busy_marks, closing_calls, close_reason, is_open, is_stopped, has_stop, marks_due, calls, signal_calls, effects_after}
 use Rattle.port_engine.specs.Late.{late_row}
 use Rattle.port_engine.specs.Made.{Called, Closes, Ending, ShutDown, Extends}

@@ -15,7 +15,8 @@ use Rattle.driver_entry.specs.Owners.{Opening, is_gone}
 use Rattle.driver_entry.specs.History.{Lawful, is_open, is_stopped, marks_due, calls}
 use Rattle.driver_entry.specs.Mail.{mails}
 use Rattle.links_owner.specs.Ties.{Ties}
-use Rattle.port_engine.specs.Tied.{Tied, Watches}
+use Rattle.port_ties.specs.Tied.{Tied}
+use Rattle.port_engine.specs.Sent.{Watches}
 use Rattle.port_engine.specs.Box.{Box}
 use Rattle.port_engine.specs.Boxes.{box_at}
 use Rattle.waiting_list.specs.Waiting.{Waiting}

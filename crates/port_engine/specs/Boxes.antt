@@ -8,7 +8,7 @@ use Rattle.port_signal.specs.declared.mail.Post.{Post}
 use Rattle.driver_entry.specs.Owners.{Opening, gone_after, is_gone}
 use Rattle.driver_entry.specs.Mail.{mail_for, mails}
 use Rattle.links_owner.specs.Ties.{Ties}
-use Rattle.port_engine.specs.Tied.{Tied}
+use Rattle.port_ties.specs.Tied.{Tied}
 use Rattle.port_engine.specs.Box.{Box}
 
 -- the mail of a process

@@ -1,4 +1,4 @@
-pub mod Tied
+pub mod Sent
 pub mod Box
 pub mod Boxes
 pub mod Late

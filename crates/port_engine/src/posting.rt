@@ -7,7 +7,7 @@ ghost use Rattle.driver_entry.specs.Owners.{monitor_of};
 ghost use Rattle.driver_entry.specs.Mail.{answer_of, answer_posts, bad_signal_posts, closed_posts, effect_posts, late_posts, reply_posts};
 ghost use Rattle.links_owner.specs.Ties.{is_here};
 ghost use Rattle.port_engine.specs.Boxes.{Adds, KeepsGone};
-ghost use Rattle.port_engine.specs.Tied.{ended_posts};
+ghost use Rattle.port_engine.specs.Sent.{ended_posts};
 
 use crate::mailbox::{Mailbox, post};
 use crate::reason::{badsig, noproc, told_reason};

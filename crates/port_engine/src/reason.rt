@@ -3,16 +3,6 @@ ghost use Rattle.port_signal.specs.Reasons.{is_kill, told_reason};
 
 use port_signal::Reason;
 
-/// The reason of what ends as it should.
-pub fn normal() -> Reason
-    ensures { result ≡ codes "normal" }
-{
-    match Reason::of_bytes(b"normal") {
-        Ok(reason) => reason,
-        Err(_) => unreachable!(),
-    }
-}
-
 /// The reason of an owner form that can't be done.
 pub fn badsig() -> Reason
     ensures { result ≡ codes "badsig" }

@@ -7,17 +7,18 @@ ghost use Rattle.task_queue.specs.Items.{of};
 ghost use Rattle.driver_entry.specs.Context.{Context};
 ghost use Rattle.driver_entry.specs.Drivers.{Own, holds};
 ghost use Rattle.driver_entry.specs.Driven.{Did, Ended, call_of, held_of};
-ghost use Rattle.driver_entry.specs.Owners.{Opening, closes_for, is_watched};
+ghost use Rattle.driver_entry.specs.Owners.{Opening, is_watched};
 ghost use Rattle.driver_entry.specs.History.{busy_after, is_open, marks_due, calls};
 ghost use Rattle.port_engine.specs.Boxes.{SenderBelow};
 ghost use Rattle.port_engine.specs.Late.{late_row};
 ghost use Rattle.port_engine.specs.Made.{Called, Ending, Extends, ShutDown};
-ghost use Rattle.port_engine.specs.Tied.{Tied};
+ghost use Rattle.port_ties.specs.Tied.{Tied};
 
-use crate::reason::{is_kill, normal};
+use crate::reason::is_kill;
 use driver_entry::{Driver, DriverCtx, Life};
 use driver_queue::DriverQueue;
 use links_owner::Links;
+use port_ties::reason_to_close;
 use port_signal::{Effect, IoVec, NoMemory, Reason, Row, Sender, Signal, Task};
 use std::alloc::Global;
 use task_queue::Item;
@@ -30,29 +31,6 @@ pub struct Made {
     pub reason: Option<Reason>,
     pub stops: bool,
     pub busy: bool,
-}
-
-fn reason_if(closes: bool, reason: &Reason) -> Option<Reason>
-    ensures { result ≡ (if closes then Some reason.now else None) }
-{
-    if closes { Some(reason.same()) } else { None }
-}
-
-/// The reason for which a signal closes an open port, if it does.
-pub fn reason_to_close(links: &Links, from: Sender, signal: &Signal) -> Option<Reason>
-    ensures { result ≡ closes_for links.now.owner links.now.linked from signal.now }
-{
-    let Sender::Process(sender) = from;
-    match signal {
-        Signal::Close => Some(normal()),
-        Signal::OwnerClose => reason_if(sender == links.owner(), &normal()),
-        Signal::Exit(reason) => reason_if(links.exit_closes(sender, reason), reason),
-        Signal::Gone(reason) => reason_if(links.end_closes(sender, reason), reason),
-        Signal::Command(_) | Signal::OwnerCommand(_) => None,
-        Signal::Control { .. } | Signal::Call { .. } => None,
-        Signal::Connect(_) | Signal::OwnerConnect(_) => None,
-        Signal::Link | Signal::Unlink | Signal::Monitor(_) | Signal::Demonitor(_) => None,
-    }
 }
 
 /// Whether the port is busy after these effects.

@@ -1,84 +1,19 @@
 //! What a row does to the ties of its port and to the mail of the processes.
-ghost use Rattle.std.specs.Prelude.{◌≡◌, ◌<◌, ◌≤◌, ◌∷◌, ℕ, List, length, true, OnOk};
+ghost use Rattle.std.specs.Prelude.{◌≡◌, ◌<◌, ◌∷◌, List, length, true, OnOk};
 ghost use Rattle.port_signal.specs.History.{sender_number};
 ghost use Rattle.port_signal.specs.declared.row.Row.{Row as RowValue};
-ghost use Rattle.port_signal.specs.declared.signal.Task.{Task as TaskValue};
 ghost use Rattle.driver_entry.specs.Owners.{Opening, closing_reason};
 ghost use Rattle.driver_entry.specs.Mail.{row_posts};
 ghost use Rattle.port_engine.specs.Boxes.{Adds, Ends, KeepsGone, Marks, SenderBelow, Sends};
 ghost use Rattle.port_engine.specs.Made.{Ending};
-ghost use Rattle.port_engine.specs.Tied.{Handling, Signalled, Tied, handled_posts};
+ghost use Rattle.port_engine.specs.Sent.{handled_posts};
+ghost use Rattle.port_ties.specs.Tied.{Handling, Tied};
 
 use crate::mailbox::Mailbox;
 use crate::posting::{post_answer, post_closed, post_effects, post_end, post_late};
 use links_owner::Links;
+use port_ties::{note_late, note_signal};
 use port_signal::{Effect, NoMemory, Reason, Row, Sender, Signal};
-
-/// Notes in the ties that the owner connected the port to another process, if it was the owner.
-fn note_owner_connect(links: &mut Links, from: Sender, process: u32)
-    ensures seats { length links.new.gone ≡ length links.old.gone }
-    ensures ties { (port : Opening) (older : List RowValue) → Tied port older links.old → Signalled port older from (Signal.OwnerConnect process) links.new }
-{
-    let Sender::Process(sender) = from;
-    if sender == links.owner() {
-        links.connect(process);
-    }
-}
-
-/// Notes in the ties what a handled signal does to them.
-fn note_signal(links: &mut Links, from: Sender, signal: &Signal) -> Result<(), NoMemory>
-    requires { sender_number from < length links.old.gone }
-    ensures seats { length links.new.gone ≡ length links.old.gone }
-    ensures ok { OnOk result ((port : Opening) (older : List RowValue) → Tied port older links.old → Signalled port older from signal.now links.new) }
-{
-    let Sender::Process(sender) = from;
-    match signal {
-        Signal::Connect(process) => {
-            links.connect(*process);
-            Ok(())
-        }
-        Signal::OwnerConnect(process) => {
-            note_owner_connect(links, from, *process);
-            Ok(())
-        }
-        Signal::Link => {
-            links.link(sender);
-            Ok(())
-        }
-        Signal::Unlink => {
-            links.unlink(sender);
-            Ok(())
-        }
-        Signal::Monitor(number) => {
-            links.monitor(sender, *number)?;
-            Ok(())
-        }
-        Signal::Demonitor(number) => {
-            links.demonitor(sender, *number);
-            Ok(())
-        }
-        Signal::Gone(_) => {
-            links.gone(sender);
-            Ok(())
-        }
-        Signal::Command(_) | Signal::OwnerCommand(_) => Ok(()),
-        Signal::Control { .. } | Signal::Call { .. } => Ok(()),
-        Signal::Close | Signal::OwnerClose | Signal::Exit(_) => Ok(()),
-    }
-}
-
-/// Notes in the ties what a late signal does to them.
-fn note_late(links: &mut Links, from: Sender, signal: &Signal)
-    requires { sender_number from < length links.old.gone }
-    ensures seats { length links.new.gone ≡ length links.old.gone }
-    ensures ties { (port : Opening) (older : List RowValue) (seq : ℕ) (task : TaskValue) → task.signal ≡ signal.now → Tied port older links.old
-        → Tied port (RowValue.Late from seq task ∷ older) links.new }
-{
-    let Sender::Process(sender) = from;
-    if let Signal::Gone(_) = signal {
-        links.gone(sender);
-    }
-}
 
 /// Puts what a handled row sends, in its order, and notes in the ties what its signal does to them.
 fn send_handled(

@@ -2,7 +2,7 @@
 ghost use Rattle.std.specs.Prelude.{◌≡◌, ◌<◌, ◌||◌, ◌∷◌, ℕ, false, true, List, length, slice_index_or};
 ghost use Rattle.port_signal.specs.declared.row.Row.{Row as RowValue};
 ghost use Rattle.driver_entry.specs.Owners.{has_watch};
-ghost use Rattle.port_engine.specs.Tied.{Watches};
+ghost use Rattle.port_engine.specs.Sent.{Watches};
 
 use port_signal::{Effect, Row};
 

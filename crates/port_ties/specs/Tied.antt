@@ -1,18 +1,11 @@
 -- What a port knows of the processes, and what its history says of them.
-use Rattle.std.specs.Prelude.{◌≡◌, ◌==◌, ℕ, ◌<◌, List, [], ◌++◌, Bool, false, true, ◌||◌, if◌then◌else◌, slice_index_or, length, Option, Some, None, is_some}
-use Rattle.std.specs.List.{flat_map}
+use Rattle.std.specs.Prelude.{◌≡◌, ◌==◌, ℕ, ◌<◌, List, [], Bool, false, true, ◌||◌, if◌then◌else◌, slice_index_or, length, Option, is_some}
 use Rattle.port_signal.specs.declared.signal.Sender.{Sender}
 use Rattle.port_signal.specs.declared.signal.Signal.{Signal}
-use Rattle.port_signal.specs.declared.row.Effect.{Effect}
 use Rattle.port_signal.specs.declared.row.Row.{Row}
-use Rattle.port_signal.specs.declared.mail.Post.{Post}
-use Rattle.port_signal.specs.Reasons.{told_reason}
 use Rattle.port_signal.specs.Signals.{is_end}
-use Rattle.port_signal.specs.Links.{end_posts}
 use Rattle.port_signal.specs.History.{sender_number}
-use Rattle.driver_entry.specs.Owners.{Opening, owner_of, next_owner, or_owner, linked, links_after, monitors, monitors_after, closing_reason, may_own, is_gone, is_watched}
-use Rattle.driver_entry.specs.History.{owns}
-use Rattle.driver_entry.specs.Mail.{answer_posts, closed_posts, closing_posts, effect_posts}
+use Rattle.driver_entry.specs.Owners.{Opening, owner_of, next_owner, or_owner, linked, links_after, monitors, monitors_after, is_gone}
 use Rattle.links_owner.specs.Ties.{Ties}
 
 -- the owner, the links, the monitors and the ends of processes are those of the history
@@ -22,10 +15,6 @@ pub record Tied (port : Opening) (past : List Row) (ties : Ties) : Type 0 where
   pub monitors : ties.monitors ≡ monitors port past
   pub places : length ties.gone ≡ port.processes
   pub gone : (process : ℕ) → process < length ties.gone → slice_index_or ties.gone process true ≡ is_gone process past
-
--- the flags tell which processes the driver watches
-abbrev pub Watches : List Row → List Bool → Type 0
-Watches past watched = (process : ℕ) → process < length watched → slice_index_or watched process false ≡ is_watched process past
 
 -- the ties after a handled signal, but for what the closing of the port takes away
 pub record Signalled (port : Opening) (older : List Row) (from : Sender) (signal : Signal) (ties : Ties) : Type 0 where
@@ -45,15 +34,3 @@ pub record Handling (port : Opening) (older : List Row) (from : Sender) (signal 
   pub ties : Ties
   pub signalled : Signalled port older from signal ties
   pub ended : new ≡ ties_ended reason ties
-
--- what the end of a port for this reason, if it ends, sends to those that are tied to it
-abbrev pub ended_posts : ℕ → Option (List ℕ) → Ties → List Post
-ended_posts number None ties = []
-ended_posts number (Some reason) ties = end_posts number (told_reason reason) ties.linked ties.monitors
-
--- what a handled row sends, where it is known whether it stops the driver
-abbrev pub handled_posts : Opening → List Row → Sender → ℕ → List Effect → Signal → Bool → List Post
-handled_posts port older from seq effects signal stops =
-    flat_map (effect_posts port.number (owner_of port older)) effects
-    ++ (answer_posts port.number (owner_of port older) (owns port older from) (may_own port older) from seq effects signal
-    ++ (closing_posts port older from signal (closing_reason port older from signal) ++ closed_posts port.number stops from signal))
