@@ -4,6 +4,7 @@ pub mod Given
 pub mod Growing
 pub mod Moving
 pub mod Posts
+pub mod Sent
 pub mod Steps
 pub mod Turns
 pub mod Waited
