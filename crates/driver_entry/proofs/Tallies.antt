@@ -53,12 +53,12 @@ Did-watched op bytes c b old new answer two o q e = record {
   answers = [];
   recorded = o ∙ sym (append-nil old.outside);
   follows = λ config earlier h. record {
-        holds = rw q (subst (λ n. held_of (Counted n b) old.queue ≡ holds Tally config (call_of (Control op bytes) old.caller [] ∷ earlier)) (zero-add c)
-            (subst (λ n. held_of (Counted (0 + c) n) old.queue ≡ holds Tally config (call_of (Control op bytes) old.caller [] ∷ earlier)) (zero-add b)
-            (counts-more c b old.queue config earlier (call_of (Control op bytes) old.caller []) h)));
-        effects = rw two e;
-        answered = refl;
-      };
+    holds = rw q (subst (λ n. held_of (Counted n b) old.queue ≡ holds Tally config (call_of (Control op bytes) old.caller [] ∷ earlier)) (zero-add c)
+        (subst (λ n. held_of (Counted (0 + c) n) old.queue ≡ holds Tally config (call_of (Control op bytes) old.caller [] ∷ earlier)) (zero-add b)
+        (counts-more c b old.queue config earlier (call_of (Control op bytes) old.caller []) h)));
+    effects = rw two e;
+    answered = refl;
+  };
 }
 
 -- the name of a tally is ASCII

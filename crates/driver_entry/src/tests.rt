@@ -1,6 +1,9 @@
 ghost use Rattle.std.specs.Prelude.{◌≡◌, IfOk};
 
-use crate::{Config, Driver, DriverCtx, Echo, Life, ReplyTo, Store, Tally, Valve, ValveSoft};
+use crate::{
+    Config, Driver, DriverCtx, Echo, Life, Refuse, Refused, ReplyTo, StartRefusal, Store, Tally,
+    Valve, ValveSoft,
+};
 use driver_queue::DriverQueue;
 use port_signal::{Effect, Flag, IoVec, Piece};
 use std::alloc::Global;
@@ -116,4 +119,43 @@ fn one_valve_is_soft(rt: HostRuntime) {
     assert!(rt; ValveSoft::new().soft_busy());
     assert!(rt; !Valve::new().soft_busy());
     assert_eq!(rt; ValveSoft::new().name().as_str(), "valve_soft");
+}
+
+#[test]
+fn a_refusing_driver_says_how_it_refuses(rt: HostRuntime) {
+    let alloc = rt.alloc();
+    for (refused, name) in [
+        (Refused::General, "refuse1"),
+        (Refused::Errno, "refuse2"),
+        (Refused::Badarg, "refuse3"),
+    ] {
+        let mut driver = Refuse::new(refused);
+        assert_eq!(rt; driver.name().as_str(), name);
+        let mut ctx = DriverCtx::new(alloc, 0, DriverQueue::new(alloc));
+        match (refused, driver.start(alloc, &mut ctx, &Config {})) {
+            (Refused::General, Err(StartRefusal::General)) => {}
+            (Refused::Errno, Err(StartRefusal::Errno)) => {}
+            (Refused::Badarg, Err(StartRefusal::Badarg)) => {}
+            _ => panic!(rt; "{name} refuses in its own way"),
+        }
+    }
+}
+
+#[test]
+fn a_tally_watches_its_caller_and_tells_of_its_end(rt: HostRuntime) -> Result<(), Fail> {
+    let alloc = rt.alloc();
+    let mut tally = started(alloc, Tally::new())?;
+    let mut ctx = DriverCtx::new(alloc, 3, DriverQueue::new(alloc));
+    let answer = tally.control(alloc, &mut ctx, 2, &Piece::empty())?;
+    assert!(rt; is_bytes(&answer, b""));
+    tally.process_exit(alloc, &mut ctx, 3)?;
+    let (_, _, effects) = ctx.finish();
+    match effects.as_slice() {
+        [Effect::Watch(process), Effect::Message { bytes, .. }] => {
+            assert_eq!(rt; *process, 3);
+            assert_eq!(rt; bytes.as_slice(), [3].as_slice());
+        }
+        _ => panic!(rt; "a watch and a message"),
+    }
+    Ok(())
 }

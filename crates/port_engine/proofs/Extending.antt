@@ -62,14 +62,14 @@ Extends-handled port older sender seq task done last before between after queue 
     subst (λ (out : List Outside). HasRow port older (item (Process sender) seq task) (Handled (Process sender) seq task out last.effects) reason stops (busy_after busy last.effects) after last.queue) (sym s.outside) (record {
       ending = (refl, stop);
       extends = record {
-      lawful = (record { order = order; lifetime = opened; marks = due }, λ c. b ∙ free c, laws, called.asked);
-      task = refl;
-      marks = refl;
-      same_busy = refl;
-      opens = none-after (close_reason port older) reason opened;
-      stopped = stop-append (closing ++ call) (calls port older) ∙ ap (λ x. x || has_stop (calls port older)) stop;
-      due = rw b (ap (λ ms. busy_marks busy (busy_after busy last.effects) ++ ms) (closed-as reason));
-      holds = s.holds ∙ ap (λ cs. holds port.kind port.config cs) (sym (append_assoc closing call (calls port older)));
+        lawful = (record { order = order; lifetime = opened; marks = due }, λ c. b ∙ free c, laws, called.asked);
+        task = refl;
+        marks = refl;
+        same_busy = refl;
+        opens = none-after (close_reason port older) reason opened;
+        stopped = stop-append (closing ++ call) (calls port older) ∙ ap (λ x. x || has_stop (calls port older)) stop;
+        due = rw b (ap (λ ms. busy_marks busy (busy_after busy last.effects) ++ ms) (closed-as reason));
+        holds = s.holds ∙ ap (λ cs. holds port.kind port.config cs) (sym (append_assoc closing call (calls port older)));
       };
     }) where
       or-false : (x : Bool) → (x || false) ≡ x

@@ -45,8 +45,8 @@ Adds-handled port older number ties after from seq effects signal reason stops o
     ap (λ m. ended_posts m reason after) (sym n) ∙ (closing-as port older from signal after reason s ∙ ap (closing_posts port older from signal) (sym why)) in
     let whole = Adds-trans _ _ _ _ _ a (Adds-trans _ _ _ _ _ b (Adds-trans _ _ _ _ _ d e)) in
     subst (λ o. Adds old new (flat_map (effect_posts port.number o) effects ++ (answer_posts port.number o (eqb (sender_number from) o) (may_own port older) from seq effects signal
-        ++ (closing_posts port older from signal (closing_reason port older from signal) ++ closed_posts port.number stops from signal)))) t.owner
+    ++ (closing_posts port older from signal (closing_reason port older from signal) ++ closed_posts port.number stops from signal)))) t.owner
     (subst (λ m. Adds old new (flat_map (effect_posts m ties.owner) effects ++ (answer_posts m ties.owner (eqb (sender_number from) ties.owner) (may_own port older) from seq effects signal
-        ++ (closing_posts port older from signal (closing_reason port older from signal) ++ closed_posts m stops from signal)))) (sym n)
+    ++ (closing_posts port older from signal (closing_reason port older from signal) ++ closed_posts m stops from signal)))) (sym n)
     (subst (λ cs. Adds old new (flat_map (effect_posts number ties.owner) effects ++ (answer_posts number ties.owner (eqb (sender_number from) ties.owner) (may_own port older) from seq effects signal
-        ++ (cs ++ closed_posts number stops from signal)))) closing whole))
+    ++ (cs ++ closed_posts number stops from signal)))) closing whole))

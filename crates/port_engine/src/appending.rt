@@ -89,7 +89,14 @@ fn push_row(
 {
     let at = rows.len();
     rows.push_reserved(row);
-    send_row(boxes.as_mut_slice(), links, number, &rows[at], reason, stops)
+    send_row(
+        boxes.as_mut_slice(),
+        links,
+        number,
+        &rows[at],
+        reason,
+        stops,
+    )
 }
 
 /// Appends the row of a task, sends what it sends, and appends the marks that follow it. Returns whether memory was found for the

@@ -116,11 +116,13 @@ impl<D: Driver> Body<D> {
         ensures stage { IfErr result (λ refused. (D.stage refused.0.driver ≡ Life.Fresh) ⊎ (D.stage refused.0.driver ≡ Life.Stopped)) }
     {
         let BodyParts { mut driver, config } = parts;
-        let Ok(Seats {
-            mail,
-            given,
-            watched,
-        }) = empty_seats(alloc, processes as usize)
+        let Ok(
+            Seats {
+                mail,
+                given,
+                watched,
+            },
+        ) = empty_seats(alloc, processes as usize)
         else {
             return Err((BodyParts { driver, config }, StartRefusal::NoMemory));
         };

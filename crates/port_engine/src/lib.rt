@@ -18,4 +18,6 @@ pub use turn::Turn;
 #[cfg(test)]
 mod busy_tests;
 #[cfg(test)]
+mod owner_tests;
+#[cfg(test)]
 mod tests;

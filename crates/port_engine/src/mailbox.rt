@@ -1,5 +1,4 @@
 ghost use Rattle.std.specs.Prelude.{◌≡◌, ◌↔◌, ◌<◌, [], ◌∷◌, ◌++◌, length, true, false, if◌then◌else◌, IsNone, IfSome, IfNone, OnOk, OnErr, slice_index_or, slice_set};
-
 ghost use Rattle.port_engine.specs.Boxes.{Adds, KeepsGone, box_at};
 
 use port_signal::{Mail, NoMemory};

@@ -111,12 +111,7 @@ fn post_driver_reply(
 }
 
 /// Puts an exit signal.
-fn post_exit(
-    boxes: &mut [Mailbox],
-    number: u32,
-    reason: Reason,
-    to: u32,
-) -> Result<(), NoMemory>
+fn post_exit(boxes: &mut [Mailbox], number: u32, reason: Reason, to: u32) -> Result<(), NoMemory>
     requires { to < length boxes.old }
     ensures gone { KeepsGone boxes.old boxes.new }
     ensures ok { OnOk result (Adds boxes.old boxes.new (exit_post number reason to ∷ [])) }

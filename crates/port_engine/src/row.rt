@@ -18,8 +18,8 @@ use crate::reason::is_kill;
 use driver_entry::{Driver, DriverCtx, Life};
 use driver_queue::DriverQueue;
 use links_owner::Links;
-use port_ties::reason_to_close;
 use port_signal::{Effect, IoVec, NoMemory, Reason, Row, Sender, Signal, Task};
+use port_ties::reason_to_close;
 use std::alloc::Global;
 use task_queue::Item;
 

@@ -12,8 +12,8 @@ ghost use Rattle.port_ties.specs.Tied.{Handling, Tied};
 use crate::mailbox::Mailbox;
 use crate::posting::{post_answer, post_closed, post_effects, post_end, post_late};
 use links_owner::Links;
-use port_ties::{note_late, note_signal};
 use port_signal::{Effect, NoMemory, Reason, Row, Sender, Signal};
+use port_ties::{note_late, note_signal};
 
 /// Puts what a handled row sends, in its order, and notes in the ties what its signal does to them.
 fn send_handled(
@@ -70,7 +70,17 @@ fn send_parts(
             ..
         } => {
             let effects = effects.as_slice();
-            send_handled(boxes, links, number, *from, *seq, &task.signal, effects, reason, stops)?;
+            send_handled(
+                boxes,
+                links,
+                number,
+                *from,
+                *seq,
+                &task.signal,
+                effects,
+                reason,
+                stops,
+            )?;
             Ok(())
         }
         Row::Late { from, seq, task } => {

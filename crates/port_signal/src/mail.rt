@@ -5,13 +5,20 @@ use io_vector::{Flag, Piece};
 #[derive(Drop)]
 pub enum Mail {
     /// Data from the port's driver.
-    Message { port: u32, flag: Flag, bytes: Piece },
+    Message {
+        port: u32,
+        flag: Flag,
+        bytes: Piece,
+    },
     /// The port was closed, as its owner asked.
     Closed(u32),
     /// The port has another owner, as its owner asked.
     Connected(u32),
     /// An exit signal of the port.
-    Exit { port: u32, reason: Reason },
+    Exit {
+        port: u32,
+        reason: Reason,
+    },
     /// A monitor of the port, by the number that the process chose, tells of the port's end.
     Down {
         port: u32,
@@ -19,7 +26,11 @@ pub enum Mail {
         reason: Reason,
     },
     /// The answer to the signal that has this place among the signals of its sender to the port.
-    Reply { port: u32, seq: u64, answer: Answer },
+    Reply {
+        port: u32,
+        seq: u64,
+        answer: Answer,
+    },
 }
 
 /// What a port replies.
