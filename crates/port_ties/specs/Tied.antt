@@ -1,5 +1,5 @@
 -- What a port knows of the processes, and what its history says of them.
-use Rattle.std.specs.Prelude.{◌≡◌, ◌==◌, ℕ, ◌<◌, List, [], Bool, false, true, ◌||◌, if◌then◌else◌, slice_index_or, length, Option, is_some}
+use Rattle.std.specs.Prelude.{◌≡◌, ◌==◌, ℕ, ◌<◌, List, [], true, ◌||◌, if◌then◌else◌, slice_index_or, length, Option, is_some}
 use Rattle.port_signal.specs.declared.signal.Sender.{Sender}
 use Rattle.port_signal.specs.declared.signal.Signal.{Signal}
 use Rattle.port_signal.specs.declared.row.Row.{Row}
