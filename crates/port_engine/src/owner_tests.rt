@@ -2,7 +2,7 @@ ghost use Rattle.std.specs.Prelude.{◌≡◌, ◌<◌, length, IfOk};
 
 use crate::{Body, BodyParts, Turn};
 use driver_entry::{Config, Driver, Life, Store, Tally};
-use port_signal::{IoVec, Mail, Piece, Reason, Row, Sender, Signal, Task, reason};
+use port_signal::{IoVec, Mail, Piece, Sender, Signal, Task, reason};
 use std::alloc::Global;
 use std::test::Fail;
 
@@ -38,22 +38,15 @@ fn say<D: Driver>(body: &mut Body<D>, process: u32, signal: Signal) -> Result<()
     }
 }
 
-fn is_exit(mail: Option<Mail>, wanted: &str) -> bool {
-    match mail {
-        Some(Mail::Exit { port, reason }) => port == 0 && reason.as_str() == wanted,
-        _ => false,
-    }
+fn is_exit(mail: &Option<Mail>, wanted: &str) -> bool {
+    matches!(mail, Some(Mail::Exit { port: 0, reason }) if reason.as_str() == wanted)
 }
 
-fn is_down(mail: Option<Mail>, number: u64, wanted: &str) -> bool {
+fn is_down(mail: &Option<Mail>, number: u64, wanted: &str) -> bool {
     match mail {
-        Some(
-            Mail::Down {
-                port,
-                monitor,
-                reason,
-            },
-        ) => port == 0 && monitor == number && reason.as_str() == wanted,
+        Some(Mail::Down { port: 0, monitor, reason }) => {
+            *monitor == number && reason.as_str() == wanted
+        }
         _ => false,
     }
 }
@@ -79,11 +72,11 @@ fn a_monitor_that_was_taken_away_tells_nothing(rt: HostRuntime) -> Result<(), Fa
     say(&mut body, 1, Signal::Monitor(1))?;
     say(&mut body, 1, Signal::Demonitor(0))?;
     say(&mut body, 0, Signal::Close)?;
-    assert!(rt; is_down(body.mail_of(1), 1, "normal"));
+    assert!(rt; is_down(&body.mail_of(1), 1, "normal"));
     say(&mut body, 1, Signal::Monitor(2))?;
-    assert!(rt; is_down(body.mail_of(1), 2, "noproc"));
+    assert!(rt; is_down(&body.mail_of(1), 2, "noproc"));
     say(&mut body, 1, Signal::Link)?;
-    assert!(rt; is_exit(body.mail_of(1), "noproc"));
+    assert!(rt; is_exit(&body.mail_of(1), "noproc"));
     assert!(rt; body.mail_of(1).is_none());
     Ok(())
 }
@@ -93,11 +86,11 @@ fn an_owner_form_of_another_process_is_told_to_the_owner(rt: HostRuntime) -> Res
     let mut body = opened(rt.alloc(), Tally::new())?;
     say(&mut body, 1, Signal::OwnerClose)?;
     assert_eq!(rt; body.stat(), 0);
-    assert!(rt; is_exit(body.mail_of(0), "badsig"));
+    assert!(rt; is_exit(&body.mail_of(0), "badsig"));
     assert!(rt; body.mail_of(1).is_none());
     say(&mut body, 0, Signal::OwnerClose)?;
     assert_eq!(rt; body.stat(), 6);
-    assert!(rt; is_exit(body.mail_of(0), "normal"));
+    assert!(rt; is_exit(&body.mail_of(0), "normal"));
     assert!(rt; matches!(body.mail_of(0), Some(Mail::Closed(0))));
     Ok(())
 }
@@ -110,7 +103,7 @@ fn kill_leaves_what_is_queued_and_is_told_as_killed(rt: HostRuntime) -> Result<(
     say(&mut body, 1, Signal::Command(bytes))?;
     say(&mut body, 1, Signal::Exit(reason("kill")?))?;
     assert_eq!(rt; body.stat(), 6);
-    assert!(rt; is_exit(body.mail_of(0), "killed"));
+    assert!(rt; is_exit(&body.mail_of(0), "killed"));
     assert!(rt; body.mail_of(0).is_none());
     Ok(())
 }

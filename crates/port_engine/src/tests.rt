@@ -42,11 +42,8 @@ fn is_data(mail: Option<Mail>, wanted: &[u8]) -> bool {
     }
 }
 
-fn is_exit(mail: Option<Mail>, wanted: &str) -> bool {
-    match mail {
-        Some(Mail::Exit { port, reason }) => port == 0 && reason.as_str() == wanted,
-        _ => false,
-    }
+fn is_exit(mail: &Option<Mail>, wanted: &str) -> bool {
+    matches!(mail, Some(Mail::Exit { port: 0, reason }) if reason.as_str() == wanted)
 }
 
 /// The port that a mail is of, the place of the signal that it answers, and whether it answers True.
@@ -69,7 +66,7 @@ fn a_command_is_sent_back_and_a_close_is_answered(rt: HostRuntime) -> Result<(),
     assert_eq!(rt; body.stat(), 6);
     assert!(rt; is_data(body.mail_of(0), b"abc"));
     assert_eq!(rt; answered(body.mail_of(0)), Some((0, 1, true)));
-    assert!(rt; is_exit(body.mail_of(0), "normal"));
+    assert!(rt; is_exit(&body.mail_of(0), "normal"));
     assert!(rt; body.mail_of(0).is_none());
     body.end();
     let journal = body.into_end().journal;
@@ -94,7 +91,7 @@ fn a_late_close_is_answered_badarg(rt: HostRuntime) -> Result<(), Fail> {
     give(&mut body, Signal::Close)?;
     assert_eq!(rt; body.turn(8), Turn::Idle);
     assert_eq!(rt; answered(body.mail_of(0)), Some((0, 0, true)));
-    assert!(rt; is_exit(body.mail_of(0), "normal"));
+    assert!(rt; is_exit(&body.mail_of(0), "normal"));
     assert_eq!(rt; answered(body.mail_of(0)), Some((0, 1, false)));
     body.end();
     let journal = body.into_end().journal;
