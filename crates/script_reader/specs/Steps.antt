@@ -19,7 +19,9 @@ pub record IsKept (died : List Bool) (monitors : List ℕ) (pairs : List Pair) (
   pub died_is : (p : ℕ) → p < 32 → slice_index_or died p false ≡ has_died p steps
   pub count_is : (p : ℕ) → p < 32 → slice_index_or monitors p 0 ≡ monitor_count p steps
   pub pair_is : (p q : ℕ) (d : Pair) → p < 32 → q < 32 → IsPairOf p q steps (slice_index_or pairs (32 * p + q) d)
-  pub room : length pairs ≡ 1024
+  pub died_len : length died ≡ 32
+  pub count_len : length monitors ≡ 32
+  pub pair_len : length pairs ≡ 1024
 
 -- the steps are within their limit, with what is kept of them
 pub record IsSteps (s : Steps) : Type 0 where

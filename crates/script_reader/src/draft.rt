@@ -1,6 +1,6 @@
 //! The script as its lines go on.
 
-ghost use Rattle.std.specs.Prelude.{◌≡◌, ◌≤◌, ◌<◌, length, Ok, IfOk, OnOk, IfErr};
+ghost use Rattle.std.specs.Prelude.{◌≡◌, ◌≤◌, ◌<◌, length, position, Ok, IfSome, IfOk, OnOk, IfErr};
 ghost use Rattle.std.specs.List.{list_any};
 ghost use Rattle.std.specs.Str.{bytes_eq};
 ghost use Rattle.script_reader.specs.LineFault.{Tells};
@@ -110,12 +110,20 @@ impl Draft {
         ensures place { result ≡ process_named (plan_of self.now) name.now }
         ensures within { IfOk result (λ place. place < length self.now.processes.items) }
     {
-        let place = self
-            .processes
+        match self.process_place(name) {
+            Some(place) => Ok(place as u32),
+            None => Err(LineFault::UnknownName),
+        }
+    }
+
+    /// The place of the process of this name, if there is one.
+    fn process_place(&self, name: &Reason) -> Option<usize>
+        ensures place { result ≡ position (λ p. bytes_eq p.name name.now) self.now.processes.items }
+        ensures within { IfSome result (λ place. place < length self.now.processes.items) }
+    {
+        self.processes
             .iter()
             .position(|process| process.name.as_bytes() == name.as_bytes())
-            .ok_or(LineFault::UnknownName)?;
-        Ok(place as u32)
     }
 
     /// The place of the port of this name.
@@ -124,12 +132,20 @@ impl Draft {
         ensures place { result ≡ port_named (plan_of self.now) name.now }
         ensures within { IfOk result (λ place. place < length self.now.ports.items) }
     {
-        let place = self
-            .ports
+        match self.port_place(name) {
+            Some(place) => Ok(place as u32),
+            None => Err(LineFault::UnknownName),
+        }
+    }
+
+    /// The place of the port of this name, if there is one.
+    fn port_place(&self, name: &Reason) -> Option<usize>
+        ensures place { result ≡ position (λ p. bytes_eq p.name name.now) self.now.ports.items }
+        ensures within { IfSome result (λ place. place < length self.now.ports.items) }
+    {
+        self.ports
             .iter()
             .position(|port| port.name.as_bytes() == name.as_bytes())
-            .ok_or(LineFault::UnknownName)?;
-        Ok(place as u32)
     }
 
     /// Whether a process or a port has this name.

@@ -19,6 +19,11 @@ impl Model for Script {
 
     ghost Value = { Plan };
 
+    ghost use Rattle.std.specs.Coded.{codes};
+    ghost use Rattle.port_terms.specs.Tree.{coded_forest};
+
+    ghost coded = { Prim.hlevel (codes, coded_forest) };
+
     ghost view = { λ s. record { processes = s.processes.items; ports = s.ports.items; steps = s.steps.items } };
 
     ghost invariant = { λ s. IsPlan (record { processes = s.processes.items; ports = s.ports.items; steps = s.steps.items }) };
