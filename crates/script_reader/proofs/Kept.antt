@@ -98,7 +98,7 @@ pair_set pairs new d a b p q len a_in b_in p_in q_in = elim (eqb_tells a p) [
   | inl (t, e) ↦ elim (eqb_tells b q) [
     | inl (u, f) ↦ rw (t, u) (get_or-set_at pairs (32 * a + b) (32 * p + q) new d (omega arith) (omega arith))
     | inr (u, f) ↦ rw (t, u) (get_or-set_other pairs (32 * a + b) (32 * p + q) new d (λ same. f (omega arith)))
-    ]
+  ]
   | inr (t, e) ↦ rw t (get_or-set_other pairs (32 * a + b) (32 * p + q) new d (λ same. e (omega arith)))
 ]
 
@@ -115,7 +115,7 @@ begun_set pairs new old d a b p q more len a_in b_in p_in q_in here e =
             let same : 32 * a + b ≡ 32 * p + q = omega arith in
             rw (t, u) (e ∙ ap (λ x. x.begun.items ++ more) (before ∙ ap (λ k. get_or pairs k d) same))
         | inr (u, g) ↦ rw (t, u) (sym (append-nil _))
-        ]
+      ]
       | inr (t, f) ↦ rw t (sym (append-nil _))
     ]
 
@@ -132,7 +132,7 @@ ended_set pairs new old d a b p q n len a_in b_in p_in q_in here e =
             let same : 32 * a + b ≡ 32 * p + q = omega arith in
             rw (t, u) (e ∙ ap (λ x. x.ended + n) (before ∙ ap (λ k. get_or pairs k d) same))
         | inr (u, g) ↦ rw (t, u) (omega arith)
-        ]
+      ]
       | inr (t, f) ↦ rw t (omega arith)
     ]
 

@@ -50,12 +50,7 @@ pub fn read_script(alloc: Global, bytes: &[u8]) -> Result<Script, ScriptFault>
 
 /// Takes in the line of this number.
 #[tactic(auto, unfolding(crate::specs::Script::with_line))]
-fn take_line(
-    alloc: Global,
-    draft: &mut Draft,
-    number: u32,
-    line: &[u8],
-) -> Result<(), LineFault>
+fn take_line(alloc: Global, draft: &mut Draft, number: u32, line: &[u8]) -> Result<(), LineFault>
     requires { IsDraft draft.old }
     ensures draft { OnOk result (IsDraft draft.new) }
     ensures ok { OnOk result (with_line (plan_of draft.old) (record { number = number; bytes = line.now }) ≡ Ok (plan_of draft.new)) }
