@@ -1,2 +1,4 @@
 pub mod Kept
 pub mod SoFar
+pub mod Found
+pub mod Again

@@ -9,6 +9,7 @@ mod decl;
 mod draft;
 mod fault;
 mod forms;
+mod laws;
 mod line_fault;
 mod lines;
 mod reader;
@@ -21,5 +22,6 @@ mod words;
 
 pub use decl::{Act, PortDecl, ProcessDecl, Step};
 pub use fault::ScriptFault;
+pub use laws::each_line_says_what_it_spells;
 pub use reader::read_script;
 pub use script::Script;
