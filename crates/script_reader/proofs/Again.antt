@@ -1,13 +1,12 @@
 -- What is written by the grammar of a line is read again.
-use Rattle.std.proofs.Common.{◌≡◌, ℕ, zero, suc, ◌+◌, ◌<◌, ◌^◌, Bool, true, false, List, [], ◌∷◌, ◌++◌, length, drop, Option, Some, None, refl, sym, ap, subst, ◌∙◌, append_assoc, arith, inl, inr, cond}
-use Rattle.std.specs.Prelude.{codes, nat_lt, nat_le, nat_eq, ◌&&◌, ◌||◌, ◌==◌, is_none, not, pos, negsuc}
-use Rattle.std.specs.List.{list_all, take_while, prefix_len}
+use Rattle.std.proofs.Common.{◌≡◌, ℕ, suc, ◌+◌, ◌<◌, ◌^◌, Bool, true, false, List, [], ◌∷◌, ◌++◌, length, Option, Some, None, refl, sym, ap, subst, ◌∙◌, arith, inl, inr, cond}
+use Rattle.std.specs.Prelude.{codes, nat_lt, nat_eq, ◌&&◌, ◌==◌, not}
+use Rattle.std.specs.List.{list_all, prefix_len}
 use Rattle.std.specs.Str.{bytes_eq}
-use Rattle.std.proofs.lemmas.Bool.{cases_Bool, and_parts, lt-ltb, eqb-true, or_parts}
+use Rattle.std.proofs.lemmas.Bool.{and_parts, lt-ltb, or_parts}
 use Rattle.std.proofs.lemmas.Bool.Decides.{nat_tests, eqb_tells}
 use Rattle.std.proofs.lemmas.List.{append-nil, take_at, drop_at}
-use Rattle.std.proofs.lemmas.List.Sums.{take_while-cons}
-use Rattle.port_signal.specs.Name.{name_fault, fault_from, may_stand}
+use Rattle.port_signal.specs.Name.{fault_from, may_stand}
 use Rattle.port_terms.specs.declared.values.TheConstants.{MAX_DEPTH}
 use Rattle.port_terms.specs.declared.values.Term.{Term}
 use Rattle.port_terms.specs.declared.values.Term.TheVariants as tm
@@ -16,15 +15,15 @@ use Rattle.port_terms.specs.declared.io_lists.IoList.TheVariants as io
 use Rattle.port_terms.specs.Tree.{Tree}
 use Rattle.port_terms.specs.View.{tree}
 use Rattle.port_terms.specs.IoView.{io_tree}
-use Rattle.script_text.specs.Tokens.{gap, is_digit, SpellsNumber}
+use Rattle.script_text.specs.Tokens.{gap, SpellsNumber}
 use Rattle.script_text.specs.Texts.{SpellsText}
 use Rattle.script_text.specs.Data.{SpellsIoList, SpellsTerm, Spells, Language, io_item, term}
-use Rattle.script_text.specs.Reading.{skip, is_space, io_list_at, number_at, text_at, value_at}
+use Rattle.script_text.specs.Reading.{is_space, io_list_at, number_at, text_at, value_at}
 use Rattle.script_text.proofs.Fronts.{skip_gaps}
 use Rattle.script_text.proofs.Again.{number_again, text_again, first_digit}
 use Rattle.script_text.proofs.AgainData.{io_list_again, term_again, spelling_begins, begins}
 use Rattle.script_reader.specs.Words.{is_word_byte, gap_at, word_at, next_word_at, name_of, next_name_at, is_reserved, free_name_of, next_free_name_at, last, ◌>>=◌}
-use Rattle.script_reader.specs.Forms.{io_list_of, term_of, payload_at, op_at, control_at, call_at, only_name_at, bare_at, named_at, port_deed_at, deed_at, process_at, port_at, step_at, form_at, is_printable, is_silent, saying_of}
+use Rattle.script_reader.specs.Forms.{io_list_of, term_of, payload_at, op_at, control_at, call_at, only_name_at, named_at, port_deed_at, deed_at, process_at, port_at, step_at, form_at, is_silent, saying_of}
 use Rattle.script_reader.specs.declared.saying.Saying.{Saying}
 use Rattle.script_reader.specs.declared.saying.Saying.TheVariants.{Nothing, Process, Port, Step}
 use Rattle.script_reader.specs.declared.saying.Deed.{Deed}

@@ -1,22 +1,20 @@
 -- What a line says is written so, by the grammar.
-use Rattle.std.proofs.Common.{◌≡◌, ℕ, zero, suc, ◌+◌, ◌<◌, ◌^◌, Bool, true, false, List, [], ◌∷◌, ◌++◌, Option, Some, None, refl, sym, ap, subst, ◌∙◌, ◌⊎◌, append_assoc, arith, inl, inr, cond}
-use Rattle.std.specs.Prelude.{pos, negsuc, codes, nat_lt, nat_eq, option_and_then, option_map, is_none, not}
+use Rattle.std.proofs.Common.{◌≡◌, ℕ, suc, ◌<◌, ◌^◌, Bool, true, false, List, [], ◌∷◌, ◌++◌, Option, Some, None, refl, sym, ap, subst, ◌∙◌, ◌⊎◌, inl, inr, cond}
+use Rattle.std.specs.Prelude.{pos, negsuc, codes, nat_lt, option_and_then, is_none, not}
 use Rattle.std.specs.List.{list_all}
 use Rattle.std.specs.Str.{bytes_eq}
-use Rattle.std.proofs.lemmas.Bool.{cases_Bool, ltb-true, eqb-true}
+use Rattle.std.proofs.lemmas.Bool.{ltb-true, eqb-true}
 use Rattle.std.proofs.lemmas.List.{append-nil}
 use Rattle.std.proofs.lemmas.Option.{cond_some, option_and_then_some}
 use Rattle.std.proofs.lemmas.Slice.Eq.{bytes_eq-Decides}
 use Rattle.port_signal.specs.Name.{name_fault}
 use Rattle.port_terms.specs.declared.values.TheConstants.{MAX_DEPTH}
-use Rattle.port_terms.specs.declared.values.Term.{Term}
 use Rattle.port_terms.specs.declared.io_lists.IoList.{IoList}
 use Rattle.port_terms.specs.declared.io_lists.IoList.TheVariants as io
 use Rattle.port_terms.specs.Tree.{Tree, int, atom, bin, tuple, list}
 use Rattle.port_terms.specs.View.{tree}
 use Rattle.port_terms.specs.IoView.{io_tree}
 use Rattle.script_text.specs.Tokens.{gap, SpellsNumber}
-use Rattle.script_text.specs.Texts.{SpellsText}
 use Rattle.script_text.specs.Data.{SpellsIoList, SpellsTerm, term}
 use Rattle.script_text.specs.Reading.{skip, after, io_list_at, number_at, text_at, value_at}
 use Rattle.script_text.proofs.Fronts.{skip_parts, front_parts}
@@ -280,11 +278,11 @@ bare_deed_found kind what h = elim (either (bytes_eq kind (codes "close")) _ _ w
           | inr p ↦ elim (either (bytes_eq kind (codes "demonitor")) _ _ what p.1) [
             | inl p ↦ bare kind (codes "demonitor") Demonitor what p.0 p.1 G.demonitor
             | inr p ↦ absurd cc
-            ]
           ]
         ]
       ]
     ]
+  ]
 ]
 
 bare_found : (kind bytes : List ℕ) (what : PortDeed) → bare_at kind bytes ≡ Some what → SpellsPortDeed what kind bytes
@@ -311,8 +309,8 @@ named_found kind bytes what h = elim (either (bytes_eq kind (codes "connect")) _
     | inr p ↦ elim (either (bytes_eq kind (codes "exit")) _ _ what p.1) [
       | inl p ↦ name_made kind (codes "exit") bytes (λ name. Exit name) what p.0 p.1 G.exit
       | inr p ↦ bare_found kind bytes what p.1
-      ]
     ]
+  ]
 ]
 
 -- a step with an IOLIST behind its port
@@ -335,9 +333,9 @@ port_deed_found kind bytes what h = elim (either (bytes_eq kind (codes "command"
       | inr p ↦ elim (either (bytes_eq kind (codes "call")) _ _ what p.1) [
         | inl p ↦ as_kind kind (codes "call") bytes what p.0 (call_found bytes what p.1)
         | inr p ↦ named_found kind bytes what p.1
-        ]
       ]
     ]
+  ]
 ]
 
 deed_found : (kind bytes : List ℕ) (deed : Deed) → deed_at kind bytes ≡ Some deed → SpellsDeed deed kind bytes
@@ -409,7 +407,7 @@ form_found first bytes said h = elim (either (bytes_eq first (codes "process")) 
   | inr p ↦ elim (either (bytes_eq first (codes "port")) _ _ said p.1) [
     | inl p ↦ subst (λ (w : List ℕ). SpellsForm said (w ++ bytes)) (sym ((bytes_eq-Decides first (codes "port")).0 p.0)) (port_found bytes said p.1)
     | inr p ↦ step_found first bytes said p.1
-    ]
+  ]
 ]
 
 silent_found : (line : List ℕ) (said : Saying) → is_silent line ≡ true → Nothing ≡ said → SpellsForm said line
@@ -423,10 +421,10 @@ unfolding saying_of
 line_found line said h = elim (either (not (list_all is_printable line)) _ _ said h) [
   | inl p ↦ absurd cc
   | inr p ↦ record {
-      printable = not_not (list_all is_printable line) p.0;
-      form = elim (either (is_silent line) _ _ said p.1) [
-        | inl q ↦ let same : Nothing ≡ said = cc in silent_found line said q.0 same
-        | inr q ↦ subst (λ (xs : List ℕ). SpellsForm said xs) (sym (front_parts is_word_byte line)) (form_found (word_at line).0 (word_at line).1 said q.1)
-      ];
-    }
+    printable = not_not (list_all is_printable line) p.0;
+    form = elim (either (is_silent line) _ _ said p.1) [
+      | inl q ↦ let same : Nothing ≡ said = cc in silent_found line said q.0 same
+      | inr q ↦ subst (λ (xs : List ℕ). SpellsForm said xs) (sym (front_parts is_word_byte line)) (form_found (word_at line).0 (word_at line).1 said q.1)
+    ];
+  }
 ]

@@ -1,11 +1,11 @@
 -- What is kept beside the steps, behind one more step.
-use Rattle.std.proofs.Common.{◌≡◌, ◌≢◌, ℕ, ◌+◌, ◌*◌, ◌<◌, ◌≤◌, List, [], ◌∷◌, ◌++◌, length, get_or, Bool, true, false, not, zero, suc, ◌&&◌, ◌||◌, eqb, cond, Option, Some, None, refl, sym, ap, ◌∙◌, arith, rules, tests, count_by, length-set, get_or-set_same, get_or-set_other, inl, inr}
+use Rattle.std.proofs.Common.{◌≡◌, ℕ, ◌+◌, ◌*◌, ◌<◌, List, [], ◌∷◌, ◌++◌, length, get_or, Bool, true, false, not, zero, suc, ◌&&◌, ◌||◌, eqb, cond, Option, Some, None, refl, sym, ap, ◌∙◌, arith, length-set, get_or-set_other, inl, inr}
 use Rattle.std.proofs.Math.ListN.{set}
 use Rattle.std.proofs.lemmas.Bool.Decides.{nat_tests, eqb_tells}
-use Rattle.std.proofs.lemmas.Grind.{common_steps, get_or-set_at}
+use Rattle.std.proofs.lemmas.Grind.{get_or-set_at}
 use Rattle.std.proofs.lemmas.List.{append-nil, get_or_default}
 use Rattle.std.proofs.lemmas.List.Elements.{All-get_or}
-use Rattle.std.specs.List.{list_all, All, filter_map, list_any, sum_by}
+use Rattle.std.specs.List.{list_all, All, filter_map}
 use Rattle.std.proofs.lemmas.List.Elements.{filter_map-append}
 use Rattle.std.proofs.lemmas.List.Sums.{sum_by-append}
 use Rattle.std.proofs.lemmas.List.Folds.{list_any-append}
@@ -14,7 +14,7 @@ use Rattle.script_reader.specs.declared.decl.Act.{Act}
 use Rattle.script_reader.specs.declared.decl.Act.TheVariants.{Monitor, Demonitor, Die}
 use Rattle.script_reader.specs.declared.steps.Pair.{Pair}
 use Rattle.script_reader.specs.Monitors.{has_died, monitor_count, monitors_of, ended, is_die, is_monitor, ends_monitor, begun_monitor}
-use Rattle.script_reader.specs.Steps.{IsKept, IsPairOf, IsNone}
+use Rattle.script_reader.specs.Steps.{IsKept, IsNone}
 
 or_false : (b : Bool) → (b || false) ≡ b
 or_false true = refl

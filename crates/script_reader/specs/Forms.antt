@@ -1,5 +1,5 @@
 -- The forms of a line, and what a line of each form says.
-use Rattle.std.specs.Prelude.{ℕ, zero, pos, negsuc, ◌^◌, ◌∷◌, List, [], Bool, true, ◌&&◌, not, Option, Some, None, if◌then◌else◌, nat_eq, nat_le, nat_lt, codes}
+use Rattle.std.specs.Prelude.{ℕ, pos, negsuc, ◌^◌, ◌∷◌, List, [], Bool, true, ◌&&◌, not, Option, Some, None, if◌then◌else◌, nat_eq, nat_le, nat_lt, codes}
 use Rattle.std.specs.List.{list_all}
 use Rattle.std.specs.Str.{bytes_eq}
 use Rattle.port_terms.specs.declared.values.TheConstants.{MAX_DEPTH}

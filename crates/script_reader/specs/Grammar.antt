@@ -1,5 +1,5 @@
 -- The grammar of a line. `Forms` says what a line says; here it is said how what is said is written.
-use Rattle.std.specs.Prelude.{◌≡◌, ℕ, suc, ◌^◌, ◌<◌, List, [], ◌∷◌, ◌++◌, true, false, None, codes}
+use Rattle.std.specs.Prelude.{◌≡◌, ℕ, suc, ◌^◌, ◌<◌, List, [], ◌++◌, true, false, None, codes}
 use Rattle.std.specs.List.{list_all}
 use Rattle.port_signal.specs.Name.{name_fault}
 use Rattle.port_terms.specs.declared.values.Term.{Term}

@@ -1,5 +1,5 @@
 -- What the fault of a line tells. Want of memory tells nothing.
-use Rattle.std.specs.Prelude.{◌≡◌, ℕ, Result, Ok, Err}
+use Rattle.std.specs.Prelude.{◌≡◌, ℕ, Result, Err}
 use Rattle.script_text.specs.declared.fault.PartFault.{PartFault}
 use Rattle.script_text.specs.declared.fault.PartFault.TheVariants as part
 use Rattle.script_reader.specs.declared.fault.ScriptFault.{ScriptFault}

@@ -1,6 +1,4 @@
-use Rattle.std.proofs.Common.{◌≡◌, refl, arith, subst, sym, List, [], length}
-use Rattle.script_reader.specs.declared.decl.Step.{Step}
-use Rattle.script_reader.specs.Steps.{IsKept}
+use Rattle.std.proofs.Common.{refl, arith}
 use Rattle.script_reader.proofs.Kept.{IsKept-none}
 use Rattle.script_reader.proofs.steps.Steps.new.Goals as goal
 

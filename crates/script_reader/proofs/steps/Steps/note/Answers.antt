@@ -1,4 +1,4 @@
-use Rattle.std.proofs.Common.{◌≡◌, ℕ, [], ◌∷◌, ◌++◌, true, sym, subst}
+use Rattle.std.proofs.Common.{[], ◌∷◌, ◌++◌, true, sym, subst}
 use Rattle.std.proofs.lemmas.Result.{on_ok_weaker}
 use Rattle.std.proofs.Math.ListN.{set}
 use Rattle.script_reader.specs.declared.decl.Act.{Act}
