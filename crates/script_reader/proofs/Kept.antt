@@ -38,7 +38,7 @@ listed_by : {A : Type 0} (h : A → Option ℕ) (x : A) (o : Option ℕ) → h x
 listed_by h x (Some n) e = rw e refl
 listed_by h x None e = rw e refl
 
-filter_map-one : {A : Type 0} (h : A → Option ℕ) (x : A) → filter_map h (x ∷ []) ≡ listed (h x)
+pub filter_map-one : {A : Type 0} (h : A → Option ℕ) (x : A) → filter_map h (x ∷ []) ≡ listed (h x)
 filter_map-one h x = listed_by h x (h x) refl
 
 pub monitors_of-push : (p q : ℕ) (steps : List Step) (s : Step) → monitors_of p q (steps ++ s ∷ []) ≡ monitors_of p q steps ++ listed (cond (eqb s.process p) (begun_monitor q s.act) None)

@@ -1,5 +1,5 @@
 -- What a process has done in the steps so far: its monitors, and whether it has died.
-use Rattle.std.specs.Prelude.{ℕ, ◌==◌, Bool, true, false, ◌&&◌, List, Option, Some, None, if◌then◌else◌, count_by, slice_get}
+use Rattle.std.specs.Prelude.{◌≡◌, ℕ, ◌<◌, ◌==◌, Bool, true, false, ◌&&◌, List, All, Option, Some, None, if◌then◌else◌, count_by, slice_get}
 use Rattle.std.specs.List.{filter_map, list_any}
 use Rattle.script_reader.specs.declared.decl.Step.{Step}
 use Rattle.script_reader.specs.declared.decl.Act.{Act}
@@ -42,3 +42,19 @@ ended process port steps = count_by (λ s. s.process == process && ends_monitor 
 -- the oldest of them that it hasn't ended
 abbrev pub oldest_monitor : ℕ → ℕ → List Step → Option ℕ
 oldest_monitor process port steps = slice_get (monitors_of process port steps) (ended process port steps)
+
+-- the monitor that the act begins or ends is among so many
+abbrev pub NumberBelow : ℕ → Act → Type 0
+NumberBelow count (Monitor port number) = number < count
+NumberBelow count (Demonitor port number) = number < count
+NumberBelow count _ = Unit {0}
+
+-- each monitor that a step begins or ends is among those that its process begins
+abbrev pub IsNumbered : List Step → Type 0
+IsNumbered steps = All (λ s. NumberBelow (monitor_count s.process steps) s.act) steps
+
+-- the monitor that the act begins comes behind so many, and the one that it ends is among them
+abbrev pub NumberNext : ℕ → Act → Type 0
+NumberNext count (Monitor port number) = number ≡ count
+NumberNext count (Demonitor port number) = number < count
+NumberNext count _ = Unit {0}

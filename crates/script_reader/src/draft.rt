@@ -4,7 +4,9 @@ ghost use Rattle.std.specs.Prelude.{◌≡◌, ◌≤◌, ◌<◌, length, posit
 ghost use Rattle.std.specs.List.{list_any};
 ghost use Rattle.std.specs.Str.{bytes_eq};
 ghost use Rattle.script_reader.specs.LineFault.{Tells};
-ghost use Rattle.script_reader.specs.Script.{empty, process_named, port_named, is_declared, process_said, port_said, port_declared, act_at, act_of, step_made, step_of, step_said, said};
+ghost use Rattle.script_reader.specs.Script.{empty, process_named, port_named, is_declared, process_said, port_said, port_declared, act_at, act_of, step_made, step_of, step_said, said, or_fault};
+ghost use Rattle.script_reader.specs.Monitors.{monitor_count, oldest_monitor, NumberNext};
+ghost use Rattle.script_reader.specs.declared.line_fault.LineFault.TheVariants as fault;
 ghost use Rattle.script_reader.specs.Steps.{IsSteps};
 ghost use Rattle.script_reader.specs.Draft.{IsDraft, plan_of};
 ghost use Rattle.script_reader.specs.Plan.{IsWithin};
@@ -204,6 +206,7 @@ impl Draft {
         requires draft { IsDraft self.old }
         requires process { process < length self.old.processes.items }
         requires within { IsWithin (length self.old.processes.items) (length self.old.ports.items) act }
+        requires number { NumberNext (monitor_count process self.old.steps.list.items) act }
         ensures draft { OnOk result (IsDraft self.new) }
         ensures ok { OnOk result (step_made (plan_of self.old) line process act ≡ Ok (plan_of self.new)) }
         ensures fault { IfErr result (λ f. Tells (step_made (plan_of self.old) line process act) f) }
@@ -222,6 +225,7 @@ impl Draft {
         requires process { process < length self.now.processes.items }
         ensures act { result ≡ act_of (plan_of self.now) process deed }
         ensures within { IfOk result (IsWithin (length self.now.processes.items) (length self.now.ports.items)) }
+        ensures number { IfOk result (NumberNext (monitor_count process self.now.steps.list.items)) }
     {
         match deed {
             Deed::Die(reason) => Ok(Act::Die(reason)),
@@ -239,6 +243,7 @@ impl Draft {
         requires port { port < length self.now.ports.items }
         ensures act { result ≡ act_at (plan_of self.now) process port what }
         ensures within { IfOk result (IsWithin (length self.now.processes.items) (length self.now.ports.items)) }
+        ensures number { IfOk result (NumberNext (monitor_count process self.now.steps.list.items)) }
     {
         Ok(match what {
             PortDeed::Command(payload) => Act::Command { port, payload },
@@ -262,13 +267,24 @@ impl Draft {
                 number: self.steps.monitor_count(process),
             },
             PortDeed::Demonitor => {
-                let oldest = self.steps.oldest_monitor(process, port);
-                Act::Demonitor {
-                    port,
-                    number: oldest.ok_or(LineFault::Bad)?,
-                }
+                let number = self.oldest_monitor(process, port)?;
+                Act::Demonitor { port, number }
             }
             PortDeed::Exit(reason) => Act::Exit { port, reason },
         })
+    }
+
+    /// The oldest monitor that the process at this place has of the port at this place.
+    fn oldest_monitor(&self, process: u32, port: u32) -> Result<u64, LineFault>
+        requires draft { IsDraft self.now }
+        requires process { process < length self.now.processes.items }
+        requires port { port < length self.now.ports.items }
+        ensures oldest { result ≡ or_fault fault.Bad (oldest_monitor process port self.now.steps.list.items) }
+        ensures below { IfOk result (λ number. number < monitor_count process self.now.steps.list.items) }
+    {
+        match self.steps.oldest_monitor(process, port) {
+            Some(number) => Ok(number),
+            None => Err(LineFault::Bad),
+        }
     }
 }
