@@ -1,6 +1,5 @@
 -- The numbers of monitors.
-use Rattle.std.proofs.Common.{◌≡◌, ℕ, ◌+◌, ◌<◌, ◌≤◌, List, [], ◌∷◌, ◌++◌, length, get_or, Bool, true, false, ◌&&◌, eqb, cond, Option, Some, None, refl, sym, subst, arith, inl, inr}
-use Rattle.std.specs.Prelude.{slice_get}
+use Rattle.std.proofs.Common.{◌≡◌, ℕ, ◌<◌, ◌≤◌, List, [], ◌∷◌, ◌++◌, length, true, false, eqb, cond, Option, Some, None, refl, sym, subst, arith, inl, inr}
 use Rattle.std.specs.List.{All, filter_map}
 use Rattle.std.proofs.lemmas.Bool.{eq-eqb}
 use Rattle.std.proofs.lemmas.Bool.Decides.{eqb_tells}
@@ -11,7 +10,7 @@ use Rattle.script_reader.specs.declared.decl.Step.{Step}
 use Rattle.script_reader.specs.declared.decl.Act.{Act}
 use Rattle.script_reader.specs.declared.decl.Act.TheVariants.{Monitor, Demonitor}
 use Rattle.script_reader.specs.Plan.{Plan, IsPlan, IsWithin}
-use Rattle.script_reader.specs.Monitors.{monitor_count, monitors_of, begun_monitor, is_monitor, ended, oldest_monitor, NumberBelow, NumberNext, IsNumbered}
+use Rattle.script_reader.specs.Monitors.{monitor_count, monitors_of, begun_monitor, ended, oldest_monitor, NumberBelow, NumberNext, IsNumbered}
 use Rattle.script_reader.proofs.Kept.{monitor_count-push, listed, filter_map-one}
 
 count_grows : (p : ℕ) (steps : List Step) (s : Step) → monitor_count p steps ≤ monitor_count p (steps ++ s ∷ [])

@@ -1,5 +1,6 @@
 -- What a script says.
-use Rattle.std.specs.Prelude.{ℕ, ◌<◌, ◌≤◌, List, length, All}
+use Rattle.std.specs.Prelude.{ℕ, ◌<◌, ◌≤◌, List, length, All, refl}
+use Rattle.std.specs.Coded.{Coded, code_by, coded_list, coded×}
 use Rattle.script_reader.specs.declared.decl.ProcessDecl.{ProcessDecl}
 use Rattle.script_reader.specs.declared.decl.PortDecl.{PortDecl}
 use Rattle.script_reader.specs.declared.decl.Step.{Step}
@@ -12,6 +13,14 @@ pub record Plan : Type 0 where
   pub processes : List ProcessDecl
   pub ports : List PortDecl
   pub steps : List Step
+
+-- the code by which a proof tells plans apart, from those of their parts
+abbrev pub plan_code : Coded ProcessDecl → Coded PortDecl → Coded Step → Coded Plan
+plan_code process port step =
+    code_by (List ProcessDecl × (List PortDecl × List Step)) (coded× (coded_list process) (coded× (coded_list port) (coded_list step)))
+    (λ plan. (plan.processes, (plan.ports, plan.steps)))
+    (λ parts. record { processes = parts.0; ports = parts.1.0; steps = parts.1.1 })
+    (λ _. refl)
 
 -- the places that an act names are below these counts of processes and ports
 abbrev pub IsWithin : ℕ → ℕ → Act → Type 0

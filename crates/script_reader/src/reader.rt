@@ -11,30 +11,31 @@ use crate::lines::number_of;
 use crate::{Script, ScriptFault};
 use std::alloc::Global;
 
-/// The script that the bytes spell, or else the first faulty line, counted from 1, with the least fault in it, by the order
+/// The script that the bytes spell, or else the first faulty line, counted from 1, with the least fault in it by the order
 /// of `ScriptFault`.
 ///
 /// A line ends with byte 10, which the last one may lack, and has bytes 32 to 126. Empty lines and lines that begin with `#`
-/// say nothing. In every other line one or more spaces stand between two parts, and none before the first or behind the
-/// last. It declares a process or a port, or makes a step of a process, whose name comes first:
+/// say nothing. In every other line one or more spaces stand between two words, and none before the first or behind the
+/// last. It has one of these forms:
 ///
 /// - `process NAME`
 /// - `port NAME PROCESS DRIVER`
-/// - `command PORT IOLIST`, `send PORT IOLIST`
-/// - `control PORT OP TEXT`, `call PORT OP TERM`
-/// - `close PORT`, `sendclose PORT`, `connect PORT PROCESS`, `sendconnect PORT PROCESS`
-/// - `link PORT`, `unlink PORT`, `monitor PORT`, `demonitor PORT`
-/// - `exit PORT REASON`, `die REASON`
+/// - `PROCESS command PORT IOLIST` or `PROCESS send PORT IOLIST`
+/// - `PROCESS control PORT OP TEXT` or `PROCESS call PORT OP TERM`
+/// - `PROCESS KIND PORT`, where KIND is `close`, `sendclose`, `link`, `unlink`, `monitor` or `demonitor`
+/// - `PROCESS connect PORT PROCESS` or `PROCESS sendconnect PORT PROCESS`
+/// - `PROCESS exit PORT REASON`
+/// - `PROCESS die REASON`
 ///
-/// NAME, PROCESS, PORT, DRIVER and REASON are a letter a to z, followed by up to 15 letters a to z, digits or `_`. `process`,
-/// `port`, `journal` and `save` can't be declared, and DRIVER need not be the name of a known kind. OP is a NUMBER below
-/// 2^32; NUMBER, TEXT, IOLIST and TERM are those of `script_text`.
+/// NAME, PROCESS, PORT, DRIVER and REASON are a letter a to z, followed by up to 15 letters a to z, digits or `_`. OP is a
+/// NUMBER below 2^32, and NUMBER, TEXT, IOLIST and TERM are those of `script_text`. `process`, `port`, `journal` and `save`
+/// can't be declared. DRIVER is the name of a known kind or not.
 ///
-/// A process and a port are declared above the lines that name them, and each name once for both. `demonitor` ends the
-/// process's oldest monitor of the port that it hasn't ended. A process makes no step after it has died.
+/// What a line names is declared above it, and a name is declared once, for a process or for a port. `demonitor` ends the
+/// oldest monitor that the process has of the port. A process makes no step after its `die`.
 pub fn read_script(alloc: Global, bytes: &[u8]) -> Result<Script, ScriptFault>
     ensures ok { IfOk result (λ s. script bytes.now ≡ Ok s) }
-    // Each place that the script names is below the count of what it names.
+    // What the script names by a number is there.
     ensures plan { IfOk result IsPlan }
     ensures fault { IfErr result (λ f. IsFaultOf (script bytes.now) f) }
 {

@@ -19,10 +19,12 @@ impl Model for Script {
 
     ghost Value = { Plan };
 
-    ghost use Rattle.std.specs.Coded.{codes};
-    ghost use Rattle.port_terms.specs.Tree.{coded_forest};
+    ghost use Rattle.script_reader.specs.Plan.{plan_code};
+    ghost use Rattle.script_reader.specs.contracts.decl.ProcessDecl as process;
+    ghost use Rattle.script_reader.specs.contracts.decl.PortDecl as port;
+    ghost use Rattle.script_reader.specs.contracts.decl.Step as step;
 
-    ghost coded = { Prim.hlevel (codes, coded_forest) };
+    ghost coded = { plan_code process.the_row.coded port.the_row.coded step.the_row.coded };
 
     ghost view = { λ s. record { processes = s.processes.items; ports = s.ports.items; steps = s.steps.items } };
 
