@@ -24,6 +24,8 @@ pub fn read_io_list(alloc: Global, bytes: &[u8]) -> Result<(IoList, &[u8]), Part
     ensures found { IfOk result (λ x. InFront SpellsIoList (io_tree x.0) bytes.now x.1.now) }
     // What is spelled so is read, unless memory runs out.
     ensures only { (list : Tree) (rest : List ℕ) → InFront SpellsIoList list bytes.now rest → Gives (λ x. io_tree x.0) (λ x. x.1.now) result list rest }
+    // It is what the definition reads there.
+    ensures reads { Reads (λ x. (io_tree x.0, x.1.now)) result (io_list_at bytes.now) }
 {
     io_list(alloc, bytes)
 }

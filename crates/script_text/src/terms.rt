@@ -26,6 +26,8 @@ pub fn read_term(alloc: Global, bytes: &[u8]) -> Result<(Term, &[u8]), PartFault
     ensures found { IfOk result (λ x. InFront SpellsTerm (tree x.0) bytes.now x.1.now) }
     // What is spelled so is read, unless memory runs out, where the rest doesn't go on with a name or a number.
     ensures only { (t : Tree) (rest : List ℕ) → InFront SpellsTerm t bytes.now rest → IsEnd rest → Gives (λ x. tree x.0) (λ x. x.1.now) result t rest }
+    // It is what the definition reads there.
+    ensures reads { Reads (λ x. (tree x.0, x.1.now)) result (value_at term_language MAX_DEPTH bytes.now) }
 {
     term(alloc, MAX_DEPTH, bytes)
 }

@@ -19,6 +19,8 @@ pub fn read_text(alloc: Global, bytes: &[u8]) -> Result<(Octets, &[u8]), PartFau
     ensures found { IfOk result (λ x. InFront SpellsText x.0 bytes.now x.1.now) }
     // What is spelled so is read, unless memory runs out.
     ensures only { (content rest : List ℕ) → InFront SpellsText content bytes.now rest → Gives (λ x. x.0) (λ x. x.1.now) result content rest }
+    // It is what the definition reads there.
+    ensures reads { Reads (λ x. (x.0, x.1.now)) result (text_at bytes.now) }
 {
     text(alloc, bytes)
 }

@@ -147,6 +147,8 @@ pub fn read_number(bytes: &[u8]) -> Option<(u64, &[u8])>
     ensures end { IfSome result (λ x. is_digit (slice_index x.1.now 0) ≡ false) }
     // What is spelled so is read.
     ensures only { (number : ℕ) (rest : List ℕ) → InFront SpellsNumber number bytes.now rest → is_digit (slice_index rest 0) ≡ false → IsSomeAnd result (λ x. (x.0 ≡ number) × (x.1.now ≡ rest)) }
+    // It is what the definition reads there.
+    ensures reads { option_map (λ x. (x.0, x.1.now)) result ≡ number_at bytes.now }
 {
     number(bytes)
 }

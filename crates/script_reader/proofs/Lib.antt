@@ -1,0 +1,5 @@
+pub mod Kept
+pub mod Numbers
+pub mod SoFar
+pub mod Found
+pub mod Again

@@ -1,0 +1,10 @@
+pub mod Lines
+pub mod LineFault
+pub mod Words
+pub mod Forms
+pub mod Grammar
+pub mod Plan
+pub mod Monitors
+pub mod Script
+pub mod Steps
+pub mod Draft
