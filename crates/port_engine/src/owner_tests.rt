@@ -44,9 +44,13 @@ fn is_exit(mail: &Option<Mail>, wanted: &str) -> bool {
 
 fn is_down(mail: &Option<Mail>, number: u64, wanted: &str) -> bool {
     match mail {
-        Some(Mail::Down { port: 0, monitor, reason }) => {
-            *monitor == number && reason.as_str() == wanted
-        }
+        Some(
+            Mail::Down {
+                port: 0,
+                monitor,
+                reason,
+            },
+        ) => { *monitor == number && reason.as_str() == wanted }
         _ => false,
     }
 }
