@@ -1,19 +1,16 @@
 -- What a tally counts, call by call.
-use Rattle.std.proofs.Common.{◌≡◌, ℕ, ◌+◌, ◌<◌, List, [], ◌∷◌, ◌++◌, length, refl, sym, ap, subst, ◌∙◌, zero-add, arith, if◌then◌else◌, ◌==◌, codes}
-use Rattle.std.specs.Prelude.{pos}
-use Rattle.std.specs.Int.{w64, to_be_bytes}
-use Rattle.std.specs.Str.{IsAscii, chars}
+use Rattle.std.proofs.Common.{◌≡◌, ℕ, ◌+◌, List, [], ◌∷◌, ◌++◌, refl, sym, ap, subst, ◌∙◌, zero-add, arith, codes}
+use Rattle.std.specs.Str.{chars}
 use Rattle.std.proofs.lemmas.List.{append-nil}
 use Rattle.std.proofs.lemmas.List.Sums.{sum_by-cons}
 use Rattle.std.proofs.lemmas.Str.{chars-IsAscii}
-use Rattle.port_signal.specs.declared.row.Outside.{Outside}
 use Rattle.port_signal.specs.declared.row.Effect.{Effect}
-use Rattle.port_signal.specs.declared.row.Effect.TheVariants.{Watch, Reply, ReplyBadarg}
+use Rattle.port_signal.specs.declared.row.Effect.TheVariants.{Watch, Reply}
 use Rattle.port_signal.proofs.Names.{IsAscii-fault_from}
 use Rattle.driver_entry.specs.declared.config.Config.{Config}
 use Rattle.driver_entry.specs.Context.{Context}
 use Rattle.driver_entry.specs.Callbacks.{Callback, Control}
-use Rattle.driver_entry.specs.Drivers.{Tally, Call, Counted, holds, commands, command_bytes, command_count, command_length, effects_of, tally_effects}
+use Rattle.driver_entry.specs.Drivers.{Tally, Call, Counted, holds, commands, command_bytes, command_count, command_length, tally_effects}
 use Rattle.driver_entry.specs.Driven.{call_of, held_of, Did}
 
 -- what a tally holds tells both numbers

@@ -1,5 +1,5 @@
 -- What each kind of driver does, as a function of all calls so far. Lists of calls are read newest call first.
-use Rattle.std.specs.Prelude.{◌≡◌, ◌==◌, ◌%◌, ℕ, List, [], ◌∷◌, ◌++◌, length, take, sum_by, Bool, true, false, if◌then◌else◌, codes, pos}
+use Rattle.std.specs.Prelude.{◌≡◌, ◌==◌, ◌%◌, ℕ, List, [], ◌∷◌, ◌++◌, length, sum_by, Bool, true, false, if◌then◌else◌, codes, pos}
 use Rattle.std.specs.Int.{w64, to_be_bytes}
 use Rattle.io_vector.specs.declared.flag.Flag.TheVariants.{Plain}
 use Rattle.port_signal.specs.declared.row.Outside.{Outside}

@@ -1,5 +1,5 @@
 -- The mail that a port's rows send.
-use Rattle.std.specs.Prelude.{ℕ, ◌==◌, List, [], ◌∷◌, ◌++◌, Bool, true, false, ◌&&◌, if◌then◌else◌, Option, Some, None, map, filter, codes}
+use Rattle.std.specs.Prelude.{ℕ, ◌==◌, List, [], ◌∷◌, ◌++◌, Bool, ◌&&◌, if◌then◌else◌, Option, Some, None, map, filter, codes}
 use Rattle.std.specs.List.{flat_map}
 use Rattle.port_signal.specs.declared.signal.Sender.{Sender}
 use Rattle.port_signal.specs.declared.signal.Signal.{Signal}

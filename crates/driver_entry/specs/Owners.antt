@@ -1,6 +1,6 @@
 -- Who owns a port, which processes are linked to it or monitor it, which have ended, and which its driver watches: by its history,
 -- newest row first.
-use Rattle.std.specs.Prelude.{◌==◌, ℕ, List, [], ◌∷◌, Bool, true, false, ◌||◌, ◌&&◌, not, if◌then◌else◌, Option, Some, None, is_some, codes, nat_lt}
+use Rattle.std.specs.Prelude.{◌==◌, ℕ, List, [], ◌∷◌, Bool, false, ◌||◌, ◌&&◌, not, if◌then◌else◌, Option, Some, None, is_some, codes, nat_lt}
 use Rattle.port_signal.specs.declared.signal.Sender.{Sender}
 use Rattle.port_signal.specs.declared.signal.Signal.{Signal}
 use Rattle.port_signal.specs.declared.signal.Signal.TheVariants.{Command, OwnerCommand, Control, Call as CallSignal, Close, OwnerClose, Connect, OwnerConnect, Link, Unlink, Monitor as MonitorSignal, Demonitor, Exit, Gone}
@@ -10,7 +10,7 @@ use Rattle.port_signal.specs.declared.row.Row.{Row}
 use Rattle.port_signal.specs.declared.row.Row.TheVariants.{Handled, Late, Mark}
 use Rattle.port_signal.specs.declared.monitor.Monitor.{Monitor}
 use Rattle.port_signal.specs.Signals.{is_end}
-use Rattle.port_signal.specs.Links.{has, with_process, without_process, with_monitor, without_monitor, without_watcher, exit_closes, end_closes}
+use Rattle.port_signal.specs.Links.{with_process, without_process, with_monitor, without_monitor, without_watcher, exit_closes, end_closes}
 use Rattle.port_signal.specs.History.{sender_number}
 use Rattle.driver_entry.specs.declared.config.Config.{Config}
 use Rattle.driver_entry.specs.Drivers.{Kind}

@@ -1,5 +1,5 @@
 -- What the driver store does with its queue of bytes. Numbers have the most significant byte first.
-use Rattle.std.specs.Prelude.{◌≡◌, ◌==◌, ◌&&◌, ◌-◌, ℕ, List, [], ◌∷◌, ◌++◌, length, take, drop, nat_le, Bool, if◌then◌else◌}
+use Rattle.std.specs.Prelude.{◌≡◌, ◌==◌, ◌&&◌, ◌-◌, ℕ, List, [], ◌++◌, length, take, drop, nat_le, Bool, if◌then◌else◌}
 use Rattle.std.specs.Int.{w32, w64, to_be_bytes, from_be_bytes}
 use Rattle.port_signal.specs.declared.row.Effect.{Effect}
 use Rattle.port_signal.specs.declared.row.Effect.TheVariants.{Reply, ReplyBadarg}

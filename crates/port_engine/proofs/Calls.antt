@@ -1,5 +1,5 @@
 -- Calls that follow each other.
-use Rattle.std.proofs.Common.{◌≡◌, ℕ, List, [], ◌∷◌, ◌++◌, Bool, true, false, ◌||◌, cond, Option, Some, None, is_some, is_none, refl, sym, ap, ◌∙◌, append_assoc, subst}
+use Rattle.std.proofs.Common.{◌≡◌, ℕ, List, [], ◌∷◌, ◌++◌, Bool, true, false, ◌||◌, Some, None, refl, sym, ap, ◌∙◌, append_assoc, subst}
 use Rattle.std.proofs.lemmas.List.{append-nil}
 use Rattle.std.proofs.lemmas.List.Folds.{list_any-append}
 use Rattle.port_signal.specs.declared.signal.Sender.{Sender}
@@ -9,13 +9,13 @@ use Rattle.port_signal.specs.declared.row.Outside.{Outside}
 use Rattle.port_signal.specs.declared.row.Effect.{Effect}
 use Rattle.driver_entry.specs.declared.config.Config.{Config}
 use Rattle.driver_entry.specs.Context.{Context, is_empty}
-use Rattle.driver_entry.specs.Drivers.{Kind, Call, Own, Held, holds, effects_of}
+use Rattle.driver_entry.specs.Drivers.{Kind, Call, Own, holds, effects_of}
 use Rattle.driver_entry.specs.Driven.{Did, Ended, held_of, call_of}
 use Rattle.port_signal.specs.Reasons.{is_kill}
 use Rattle.driver_entry.specs.Owners.{Opening}
-use Rattle.driver_entry.specs.History.{AllAnswered, effects_after, signal_calls, has_stop, is_stop, is_drained, closing_calls, flush_calls, stop_calls}
+use Rattle.driver_entry.specs.History.{AllAnswered, effects_after, signal_calls, has_stop, is_stop, is_drained, closing_calls}
 use Rattle.driver_entry.specs.Callbacks as callback
-use Rattle.port_engine.specs.Made.{Called, Closes, ShutDown}
+use Rattle.port_engine.specs.Made.{Closes}
 
 -- the effects of calls after others
 pub effects-append : (kind : Kind) (config : Config) (earlier xs ys : List Call)

@@ -1,5 +1,5 @@
 -- A task that is given gets the next number of its sender.
-use Rattle.std.proofs.Common.{◌≡◌, ℕ, ◌+◌, ◌<◌, List, [], ◌∷◌, ◌++◌, length, Bool, true, false, cond, eqb, get_or, set, refl, sym, ap, ◌∙◌, append_assoc, length-append, arith}
+use Rattle.std.proofs.Common.{◌≡◌, ℕ, ◌+◌, ◌<◌, List, [], ◌∷◌, ◌++◌, length, Bool, true, false, cond, eqb, refl, sym, ap, ◌∙◌, append_assoc, length-append, arith}
 use Rattle.std.specs.Prelude.{map, filter, slice_index, slice_set}
 use Rattle.std.proofs.lemmas.List.{append-nil, map-append, length-set}
 use Rattle.std.proofs.lemmas.List.Elements.{filter-append}

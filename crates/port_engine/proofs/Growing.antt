@@ -1,15 +1,13 @@
 -- A history that grows by marks, and by the rows of late tasks.
-use Rattle.std.proofs.Common.{◌≡◌, ℕ, ◌+◌, List, [], ◌∷◌, ◌++◌, length, reverse, map, Bool, true, false, not, ◌||◌, cond, drop, refl, sym, ap, ◌∙◌, append_assoc, subst, length-append}
+use Rattle.std.proofs.Common.{◌≡◌, ℕ, List, [], ◌∷◌, ◌++◌, reverse, map, Bool, true, false, ◌||◌, cond, drop, refl, sym, ap, ◌∙◌, append_assoc, subst}
 use Rattle.std.proofs.lemmas.List.{append-nil, reverse-append}
 use Rattle.task_queue.specs.declared.item.Item.{Item}
-use Rattle.task_queue.specs.Items.{of}
 use Rattle.port_signal.specs.declared.signal.Task.{Task}
 use Rattle.port_signal.specs.declared.row.Row.{Row}
 use Rattle.port_signal.specs.declared.row.Row.TheVariants.{Mark}
 use Rattle.port_signal.specs.declared.row.MarkKind.{MarkKind}
-use Rattle.port_signal.specs.declared.row.MarkKind.TheVariants.{Busy, Free, Closed}
+use Rattle.port_signal.specs.declared.row.MarkKind.TheVariants.{Closed}
 use Rattle.port_signal.specs.History.{items, marks, is_busy, busy_by, closed_by}
-use Rattle.driver_entry.specs.Drivers.{Call}
 use Rattle.port_signal.specs.declared.signal.Sender.TheVariants.{Process}
 use Rattle.driver_entry.specs.Owners.{Opening, is_watched}
 use Rattle.driver_entry.specs.History.{Lawful, LawfulTask, is_open, marks_due, calls, busy_marks}

@@ -1,19 +1,17 @@
 -- The mail of rows that follow each other.
-use Rattle.std.proofs.Common.{◌≡◌, ℕ, ◌<◌, List, [], ◌∷◌, ◌++◌, length, reverse, map, Bool, true, false, cond, refl, sym, ap, ◌∙◌, append_assoc, subst}
-use Rattle.std.proofs.lemmas.List.{append-nil, reverse-append}
+use Rattle.std.proofs.Common.{◌≡◌, ℕ, List, [], ◌∷◌, ◌++◌, length, Bool, true, false, cond, refl, sym, ap, ◌∙◌, append_assoc}
+use Rattle.std.proofs.lemmas.List.{append-nil}
 use Rattle.port_signal.specs.declared.row.Row.{Row}
 use Rattle.port_signal.specs.declared.row.Row.TheVariants.{Mark}
 use Rattle.port_signal.specs.declared.row.MarkKind.{MarkKind}
 use Rattle.port_signal.specs.declared.mail.Mail.{Mail}
 use Rattle.driver_entry.specs.Owners.{Opening}
-use Rattle.port_signal.specs.declared.mail.Post.{Post}
 use Rattle.driver_entry.specs.Owners.{is_gone, gone_after}
 use Rattle.driver_entry.specs.Mail.{row_posts, mail_for, mails}
 use Rattle.links_owner.specs.Ties.{Ties}
 use Rattle.port_ties.specs.Tied.{Tied}
 use Rattle.port_engine.specs.Box.{Box}
-use Rattle.port_engine.specs.Boxes.{box_at, KnowsGone, Marks, Moves, Sends}
-use Rattle.port_engine.specs.Made.{row_of_mark}
+use Rattle.port_engine.specs.Boxes.{Marks, Moves, Sends}
 use Rattle.port_engine.proofs.Growing.{marked}
 
 mails-row : (gone : Bool) (old more : List Mail) → cond gone old (old ++ more) ≡ old ++ cond gone [] more

@@ -1,19 +1,15 @@
 -- What a handled row sends, part by part.
-use Rattle.std.proofs.Common.{◌≡◌, ℕ, ◌<◌, ◌≤◌, List, [], ◌∷◌, ◌++◌, length, Bool, true, false, not, ◌&&◌, ltb, eqb, get_or, Option, Some, None, refl, sym, ap, ◌∙◌, subst, arith, ◌⊎◌, inl, inr}
+use Rattle.std.proofs.Common.{◌≡◌, ℕ, List, ◌++◌, length, Bool, true, false, ltb, eqb, Option, Some, None, refl, sym, ap, ◌∙◌, subst, arith}
 use Rattle.std.specs.List.{flat_map}
-use Rattle.std.proofs.lemmas.Bool.{ltb-true, lt-ltb}
+use Rattle.std.proofs.lemmas.Bool.{ltb-true}
 use Rattle.std.proofs.lemmas.List.{get_or_past}
 use Rattle.std.proofs.lemmas.Bool.Decides.{nat_tests}
 use Rattle.port_signal.specs.declared.signal.Sender.{Sender}
 use Rattle.port_signal.specs.declared.signal.Signal.{Signal}
 use Rattle.port_signal.specs.declared.row.Effect.{Effect}
 use Rattle.port_signal.specs.declared.row.Row.{Row}
-use Rattle.port_signal.specs.declared.mail.Post.{Post}
-use Rattle.port_signal.specs.Reasons.{told_reason}
-use Rattle.port_signal.specs.Links.{end_posts}
 use Rattle.port_signal.specs.History.{sender_number}
-use Rattle.driver_entry.specs.Owners.{Opening, owner_of, closing_reason, may_own, is_gone}
-use Rattle.driver_entry.specs.History.{owns}
+use Rattle.driver_entry.specs.Owners.{Opening, closing_reason, may_own}
 use Rattle.driver_entry.specs.Mail.{answer_posts, closed_posts, closing_posts, effect_posts}
 use Rattle.links_owner.specs.Ties.{Ties, is_here}
 use Rattle.port_ties.specs.Tied.{Signalled, Tied}

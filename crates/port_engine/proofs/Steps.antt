@@ -1,6 +1,5 @@
 -- One step keeps what always holds of a body.
-use Rattle.std.proofs.Common.{◌≡◌, ℕ, ◌+◌, ◌*◌, ◌^◌, ◌<◌, ◌≤◌, ◌⊎◌, List, [], ◌∷◌, ◌++◌, length, reverse, map, Bool, true, false, not, ◌||◌, ◌&&◌, cond, get_or, refl, sym, ap, ◌∙◌, append_assoc, length-append, arith, subst, inl, inr}
-use Rattle.std.specs.Prelude.{slice_index}
+use Rattle.std.proofs.Common.{◌≡◌, ℕ, ◌+◌, ◌*◌, ◌^◌, ◌<◌, ◌≤◌, List, [], ◌∷◌, ◌++◌, length, reverse, map, Bool, true, false, not, ◌||◌, ◌&&◌, cond, refl, sym, ap, ◌∙◌, append_assoc, length-append, arith, subst, inl, inr}
 use Rattle.std.proofs.lemmas.List.{append-nil, reverse-append}
 use Rattle.task_queue.specs.declared.item.Item.{Item}
 use Rattle.task_queue.specs.Items.{of}
@@ -12,10 +11,9 @@ use Rattle.port_signal.specs.History.{items, marks, is_busy, busy_by, closed_by}
 use Rattle.driver_entry.specs.declared.life.Life.{Life}
 use Rattle.driver_entry.specs.declared.life.Life.TheVariants.{Started, Stopped}
 use Rattle.driver_entry.specs.Drivers.{Own, holds}
-use Rattle.driver_entry.specs.Driven.{held_of}
 use Rattle.driver_entry.specs.Owners.{Opening, is_watched}
 use Rattle.driver_entry.specs.History.{Lawful, is_open, is_stopped, has_stop, marks_due, busy_marks, calls}
-use Rattle.waiting_list.specs.Waiting.{Waiting, GoesFirst, NoneGoes, has_sender, may_go}
+use Rattle.waiting_list.specs.Waiting.{Waiting, has_sender}
 use Rattle.waiting_list.specs.Order.{InOrder, SendersBelow}
 use Rattle.waiting_list.proofs.Leaving.{InOrder-first, InOrder-lane, of-first, of-lane}
 use Rattle.waiting_list.proofs.Senders.{SendersBelow-join, SendersBelow-front, SendersBelow-back, SendersBelow-first, SendersBelow-one_more}
@@ -23,7 +21,7 @@ use Rattle.links_owner.specs.Ties.{Ties}
 use Rattle.port_engine.specs.Box.{Box}
 use Rattle.port_engine.specs.Sent.{Watches}
 use Rattle.port_engine.specs.Boxes.{Moves}
-use Rattle.port_engine.specs.Late.{WereLate, late_rows}
+use Rattle.port_engine.specs.Late.{WereLate}
 use Rattle.port_engine.specs.Made.{Extends, row_of_mark}
 use Rattle.port_engine.specs.Next.{CameToWait, GoesOut, must_wait}
 use Rattle.port_engine.specs.Body.{Flags, Sound}

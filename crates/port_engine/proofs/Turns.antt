@@ -1,30 +1,24 @@
 -- What a step promises of the body as its callers see it.
-use Rattle.std.proofs.Common.{◌≡◌, ℕ, ◌+◌, ◌*◌, ◌<◌, ◌≤◌, List, [], ◌∷◌, ◌++◌, length, reverse, map, Bool, true, false, not, ◌||◌, cond, refl, sym, ap, ◌∙◌, append_assoc, length-append, arith, subst}
+use Rattle.std.proofs.Common.{◌≡◌, ℕ, ◌≤◌, List, [], ◌∷◌, ◌++◌, length, reverse, map, Bool, true, false, not, ◌||◌, cond, refl, sym, ap, ◌∙◌, append_assoc, arith}
 use Rattle.std.proofs.lemmas.List.{append-nil}
 use Rattle.task_queue.specs.declared.item.Item.{Item}
 use Rattle.task_queue.specs.Items.{of}
 use Rattle.port_signal.specs.declared.signal.Task.{Task}
 use Rattle.port_signal.specs.declared.row.Row.{Row}
-use Rattle.port_signal.specs.declared.mail.Mail.{Mail}
-use Rattle.port_signal.specs.History.{items, is_busy}
+use Rattle.port_signal.specs.History.{items}
 use Rattle.driver_entry.specs.declared.life.Life.{Life}
 use Rattle.driver_entry.specs.Drivers.{Own}
-use Rattle.driver_entry.specs.Owners.{Opening}
 use Rattle.driver_entry.specs.History.{is_open, busy_marks}
-use Rattle.driver_entry.specs.Mail.{mails}
 use Rattle.waiting_list.specs.Waiting.{Waiting}
 use Rattle.links_owner.specs.Ties.{Ties}
 use Rattle.port_engine.specs.declared.turn.Turn.{Turn}
 use Rattle.port_engine.specs.declared.turn.Turn.TheVariants.{More, NoMemory}
-use Rattle.port_engine.specs.Box.{Box}
-use Rattle.port_engine.specs.Boxes.{box_at, Moves}
 use Rattle.port_engine.specs.Late.{late_rows}
 use Rattle.port_engine.specs.Made.{row_of_mark}
-use Rattle.port_engine.specs.Next.{GoesOut}
-use Rattle.port_engine.specs.Body.{View, Flags, Sound, Turned, history_of, given_of}
+use Rattle.port_engine.specs.Body.{View, Flags, Sound, Turned}
 use Rattle.port_engine.specs.Stepping.{Went, opens}
 use Rattle.port_engine.proofs.Growing.{closing}
-use Rattle.port_engine.proofs.Steps.{Stepping, Grew-step, Sound-step, same-tasks, nothing-left}
+use Rattle.port_engine.proofs.Steps.{Stepping, Grew-step, same-tasks, nothing-left}
 
 posted-true : (sent : Bool) → not sent ≡ false → sent ≡ true
 posted-true true e = refl

@@ -1,5 +1,5 @@
 -- Tasks that waited get their late rows one by one.
-use Rattle.std.proofs.Common.{◌≡◌, List, [], ◌∷◌, ◌++◌, map, refl, sym, ap, ◌∙◌, append_assoc}
+use Rattle.std.proofs.Common.{◌≡◌, List, [], ◌∷◌, ◌++◌, sym, ap, ◌∙◌, append_assoc}
 use Rattle.std.proofs.lemmas.List.{map-append}
 use Rattle.task_queue.specs.declared.item.Item.{Item}
 use Rattle.port_signal.specs.declared.signal.Task.{Task}

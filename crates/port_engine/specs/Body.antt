@@ -1,5 +1,5 @@
 -- A port's body as its callers see it, what always holds of it, and what a turn leaves.
-use Rattle.std.specs.Prelude.{◌≡◌, ℕ, ◌+◌, ◌^◌, ◌<◌, ◌≤◌, List, [], ◌∷◌, ◌++◌, length, reverse, Bool, true, false, not, if◌then◌else◌, slice_index}
+use Rattle.std.specs.Prelude.{◌≡◌, ℕ, ◌+◌, ◌^◌, ◌<◌, ◌≤◌, List, [], ◌++◌, length, reverse, Bool, true, false, not, if◌then◌else◌, slice_index}
 use Rattle.task_queue.specs.declared.item.Item.{Item}
 use Rattle.task_queue.specs.Items.{of}
 use Rattle.port_signal.specs.declared.signal.Task.{Task}

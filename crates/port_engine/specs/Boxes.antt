@@ -1,5 +1,5 @@
 -- The mail of all processes, by their numbers.
-use Rattle.std.specs.Prelude.{◌≡◌, ℕ, ◌<◌, List, [], ◌∷◌, ◌++◌, length, Bool, true, if◌then◌else◌, slice_index_or}
+use Rattle.std.specs.Prelude.{◌≡◌, ℕ, ◌<◌, List, [], ◌++◌, length, Bool, true, if◌then◌else◌, slice_index_or}
 use Rattle.port_signal.specs.declared.row.Row.{Row}
 use Rattle.port_signal.specs.declared.row.Row.TheVariants.{Handled, Late, Mark}
 use Rattle.port_signal.specs.History.{sender_number}

@@ -1,5 +1,5 @@
 -- What one taken task adds to a history.
-use Rattle.std.specs.Prelude.{◌≡◌, ℕ, List, [], ◌∷◌, ◌++◌, Bool, true, false, ◌||◌, if◌then◌else◌, Option, None}
+use Rattle.std.specs.Prelude.{◌≡◌, ℕ, List, [], ◌∷◌, ◌++◌, Bool, false, ◌||◌, if◌then◌else◌, Option, None}
 use Rattle.task_queue.specs.declared.item.Item.{Item}
 use Rattle.port_signal.specs.declared.signal.Sender.{Sender}
 use Rattle.port_signal.specs.declared.signal.Signal.{Signal}
@@ -11,8 +11,8 @@ use Rattle.port_signal.specs.declared.row.MarkKind.TheVariants.{Closed}
 use Rattle.port_signal.specs.History.{items, marks, is_busy}
 use Rattle.driver_entry.specs.declared.config.Config.{Config}
 use Rattle.driver_entry.specs.Context.{Context}
-use Rattle.driver_entry.specs.Drivers.{Kind, Call, Own, Held, holds}
-use Rattle.driver_entry.specs.Driven.{Ended, held_of}
+use Rattle.driver_entry.specs.Drivers.{Kind, Call, Own, holds}
+use Rattle.driver_entry.specs.Driven.{held_of}
 use Rattle.driver_entry.specs.Owners.{Opening, closing_reason}
 use Rattle.driver_entry.specs.History.{LawfulRow, is_open, is_stopped, has_stop, busy_marks, marks_due, calls, closing_calls, effects_after, AllAnswered, row_calls, signal_calls}
 

@@ -1,4 +1,4 @@
-use Rattle.std.proofs.Common.{◌≡◌, ◌++◌, List, true, refl, reverse, ap, ◌∙◌}
+use Rattle.std.proofs.Common.{◌++◌, List, true, refl, reverse, ap, ◌∙◌}
 use Rattle.std.specs.Prelude.{is_some}
 use Rattle.port_signal.specs.declared.row.MarkKind.{MarkKind}
 use Rattle.driver_entry.specs.History.{busy_marks}

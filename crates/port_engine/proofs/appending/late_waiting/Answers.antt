@@ -1,4 +1,4 @@
-use Rattle.std.proofs.Common.{◌≡◌, ◌∷◌, true, false, length, refl, sym, ap, ◌∙◌, arith, subst}
+use Rattle.std.proofs.Common.{true, false, length, refl, ap, ◌∙◌, arith, subst}
 use Rattle.waiting_list.specs.Order.{SendersBelow}
 use Rattle.port_engine.proofs.Moving.{Moves-trans}
 use Rattle.port_engine.proofs.Waited.{WereLate-more}

@@ -1,7 +1,6 @@
-use Rattle.std.proofs.Common.{◌≡◌, ◌∷◌, length, reverse, arith, ap, ◌∙◌, [], sym, subst}
+use Rattle.std.proofs.Common.{◌≡◌, ◌∷◌, length, reverse, arith, ap, ◌∙◌, []}
 use Rattle.std.proofs.lemmas.Grind.{common_steps}
 use Rattle.std.proofs.lemmas.List.{with_items_is, reverse-append}
-use Rattle.port_engine.specs.Boxes.{Marks, Moves}
 use Rattle.port_engine.proofs.Moving.{Moves-row}
 use Rattle.port_engine.proofs.appending.push_row.Goals as goal
 

@@ -1,4 +1,4 @@
-use Rattle.std.proofs.Common.{◌≡◌, ◌+◌, ◌<◌, length, ap, sym, ◌∙◌, refl, arith, subst}
+use Rattle.std.proofs.Common.{◌<◌, length, ap, arith, subst}
 use Rattle.std.specs.Prelude.{All}
 use Rattle.std.proofs.lemmas.List.Elements.{All-tail}
 use Rattle.port_engine.proofs.Posts.{KeepsGone-trans, Puts-more, Puts-all}

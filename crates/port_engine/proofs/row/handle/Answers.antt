@@ -1,4 +1,4 @@
-use Rattle.std.proofs.Common.{refl, ap, ◌∙◌}
+use Rattle.std.proofs.Common.{ap, ◌∙◌}
 use Rattle.port_engine.proofs.Extending.{handled-extends}
 use Rattle.port_engine.proofs.row.handle.Goals as goal
 

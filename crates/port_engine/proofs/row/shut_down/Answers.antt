@@ -1,9 +1,7 @@
-use Rattle.std.proofs.Common.{◌≡◌, Bool, true, false, ◌||◌, refl, sym, ap, ◌∙◌, cond}
+use Rattle.std.proofs.Common.{◌≡◌, Bool, true, false, ◌||◌, refl, sym, ap, ◌∙◌}
 use Rattle.driver_entry.specs.Context.{is_empty}
 use Rattle.port_signal.specs.Reasons.{is_kill}
-use Rattle.port_engine.specs.Made.{ShutDown}
 use Rattle.port_engine.proofs.Calls.{Closes-kept, Closes-stopped, Closes-flushed}
-use Rattle.port_engine.proofs.Extending.{Extends-late}
 use Rattle.port_engine.proofs.row.shut_down.Goals as goal
 use Rattle.port_engine.proofs.row.shut_down.Goals.{then-is_kill-via-then-is_kill, then-is_kill-via-else-is_kill+then-is_drained}
 

@@ -1,4 +1,4 @@
-use Rattle.std.proofs.Common.{refl, subst, sym}
+use Rattle.std.proofs.Common.{refl}
 use Rattle.port_engine.proofs.sending.send_parts.Goals as goal
 
 pub returns-in_ok-post_late-in-Late-clause-ties : goal.returns-in_ok-post_late-in-Late-clause-ties

@@ -1,8 +1,7 @@
-use Rattle.std.proofs.Common.{◌≡◌, List, [], ◌∷◌, refl, ap, ◌∙◌, arith, length, codes}
-use Rattle.std.specs.Prelude.{pos, map}
+use Rattle.std.proofs.Common.{◌≡◌, [], ◌∷◌, refl, ap, ◌∙◌, arith, codes}
+use Rattle.std.specs.Prelude.{pos}
 use Rattle.std.specs.Int.{w64}
 use Rattle.std.proofs.lemmas.Int.{to_z_pos}
-use Rattle.port_terms.specs.declared.values.Term.{Term}
 use Rattle.port_terms.specs.declared.values.Term.TheVariants.{Int, Atom}
 use Rattle.port_terms.specs.Tree.{tuple, forest}
 use Rattle.port_terms.specs.View.{trees}

@@ -1,4 +1,4 @@
-use Rattle.std.proofs.Common.{◌<◌, length, arith}
+use Rattle.std.proofs.Common.{◌<◌, length}
 use Rattle.std.proofs.lemmas.List.{get_or_read}
 use Rattle.task_queue.specs.declared.item.Item.{Item}
 use Rattle.port_signal.specs.declared.signal.Task.{Task}

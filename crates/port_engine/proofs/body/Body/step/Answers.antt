@@ -1,12 +1,10 @@
-use Rattle.std.proofs.Common.{◌≡◌, ◌+◌, ◌*◌, ◌≤◌, ◌∷◌, ◌++◌, List, length, reverse, map, true, false, not, ◌||◌, cond, refl, sym, ap, ◌∙◌, arith, inl, inr, subst, length-append}
+use Rattle.std.proofs.Common.{◌≡◌, ◌+◌, ◌*◌, ◌∷◌, ◌++◌, length, reverse, map, true, refl, ap, ◌∙◌, arith, inl, length-append}
 use Rattle.std.specs.Prelude.{is_some}
 use Rattle.std.specs.List.{concat}
 use Rattle.driver_entry.specs.Owners.{Opening}
-use Rattle.driver_entry.specs.History.{is_open, busy_marks}
-use Rattle.waiting_list.specs.Order.{SendersBelow}
+use Rattle.driver_entry.specs.History.{busy_marks}
 use Rattle.port_engine.specs.Body.{Flags}
 use Rattle.port_engine.specs.Made.{row_of_mark}
-use Rattle.port_engine.specs.Next.{GoesOut}
 use Rattle.port_engine.proofs.Growing.{closing}
 use Rattle.port_engine.proofs.Steps.{Stepping, Sound-step, Sound-waits, Sound-broken, below, free-of, less-of, Out-by}
 use Rattle.port_engine.proofs.Moving.{Moves-trans}

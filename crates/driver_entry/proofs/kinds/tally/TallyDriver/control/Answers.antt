@@ -1,5 +1,4 @@
 use Rattle.std.proofs.Common.{refl, ap}
-use Rattle.std.proofs.lemmas.Grind.{common_steps}
 use Rattle.driver_entry.proofs.Tallies.{Did-asked, Did-watched}
 use Rattle.driver_entry.proofs.kinds.tally.TallyDriver.control.Goals as goal
 
