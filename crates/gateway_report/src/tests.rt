@@ -4,7 +4,7 @@ ghost use Rattle.port_signal.specs.declared.signal.Sender.TheVariants.{Process};
 ghost use Rattle.gateway_report.specs.End.{HasEnded};
 
 use super::*;
-use driver_entry::Config;
+use driver_entry::{Config, StartRefusal};
 use io_vector::{Flag, IoVec, Piece};
 use port_signal::{
     Answer, Items, Journal, Log, Mail, MarkKind, Outcome, Receipt, Row, Sender, Signal, Task,
@@ -13,14 +13,27 @@ use port_signal::{
 use std::alloc::Global;
 use std::test::Fail;
 
-fn command(alloc: Global, bytes: &[u8]) -> Result<Signal, Fail>
-    ensures { IfOk result (λ signal. signal ≡ Signal.Command (bytes.now ∷ [])) }
+/// The bytes as a vector of one piece.
+fn payload(alloc: Global, bytes: &[u8]) -> Result<IoVec, Fail>
+    ensures { IfOk result (λ payload. payload ≡ bytes.now ∷ []) }
 {
     let mut payload = IoVec::new(alloc);
     match payload.push(Piece::of_slice(alloc, bytes)?) {
-        Ok(()) => Ok(Signal::Command(payload)),
+        Ok(()) => Ok(payload),
         Err((_, refusal)) => Err(refusal.into()),
     }
+}
+
+fn command(alloc: Global, bytes: &[u8]) -> Result<Signal, Fail>
+    ensures { IfOk result (λ signal. signal ≡ Signal.Command (bytes.now ∷ [])) }
+{
+    Ok(Signal::Command(payload(alloc, bytes)?))
+}
+
+fn owner_command(alloc: Global, bytes: &[u8]) -> Result<Signal, Fail>
+    ensures { IfOk result (λ signal. signal ≡ Signal.OwnerCommand (bytes.now ∷ [])) }
+{
+    Ok(Signal::OwnerCommand(payload(alloc, bytes)?))
 }
 
 fn handled(alloc: Global, from: u32, seq: u64, signal: Signal) -> Row
@@ -63,7 +76,7 @@ fn port(name: &str, owner: u32, rows: Vec<Row>) -> Result<PortReport, Fail>
 
 /// A port of process 0 that took `abc` and was closed.
 fn closed_port(alloc: Global) -> Result<PortReport, Fail>
-    ensures { IfOk result HasEnded }
+    ensures { IfOk result (HasEnded 1) }
 {
     let rows = vec![in alloc;
         handled(alloc, 0, 0, command(alloc, b"abc")?),
@@ -75,7 +88,7 @@ fn closed_port(alloc: Global) -> Result<PortReport, Fail>
 
 /// A port of process 0 that took `abc` and was closed, and then found a command of process 1.
 fn late_port(alloc: Global) -> Result<PortReport, Fail>
-    ensures { IfOk result HasEnded }
+    ensures { IfOk result (HasEnded 2) }
 {
     let rows = vec![in alloc;
         handled(alloc, 0, 0, command(alloc, b"abc")?),
@@ -88,7 +101,7 @@ fn late_port(alloc: Global) -> Result<PortReport, Fail>
 
 /// A port of process 1 that took `de` and whose owner was killed.
 fn killed_port(alloc: Global) -> Result<PortReport, Fail>
-    ensures { IfOk result HasEnded }
+    ensures { IfOk result (HasEnded 2) }
 {
     let rows = vec![in alloc;
         handled(alloc, 1, 0, command(alloc, b"de")?),
@@ -96,6 +109,39 @@ fn killed_port(alloc: Global) -> Result<PortReport, Fail>
         Row::Mark(MarkKind::Closed),
     ]?;
     port("q", 1, rows)
+}
+
+/// A port of process 0, which connected it to process 1. Commands of process 0 as the owner come before and after that, and one of the
+/// new owner. The end of process 0 closes nothing, since it isn't linked any more, and that of process 1 does.
+fn connected_port(alloc: Global) -> Result<PortReport, Fail>
+    ensures { IfOk result (HasEnded 2) }
+{
+    let rows = vec![in alloc;
+        handled(alloc, 0, 0, owner_command(alloc, b"ab")?),
+        handled(alloc, 0, 1, Signal::Connect(1)),
+        handled(alloc, 0, 2, owner_command(alloc, b"cde")?),
+        handled(alloc, 1, 0, owner_command(alloc, b"f")?),
+        handled(alloc, 0, 3, Signal::Unlink),
+        handled(alloc, 0, 4, Signal::Gone(reason("oops")?)),
+        handled(alloc, 1, 1, Signal::Gone(reason("done")?)),
+        Row::Mark(MarkKind::Closed),
+    ]?;
+    port("p", 0, rows)
+}
+
+/// A port of process 0 that is closed by the end of process 1, which was linked to it.
+fn linked_port(alloc: Global) -> Result<PortReport, Fail>
+    ensures { IfOk result (HasEnded 2) }
+{
+    let rows = vec![in alloc;
+        handled(alloc, 1, 0, Signal::OwnerClose),
+        handled(alloc, 1, 1, Signal::Link),
+        handled(alloc, 1, 2, Signal::Gone(reason("oops")?)),
+        Row::Mark(MarkKind::Closed),
+        late(0, 0, owner_command(alloc, b"xy")?),
+        late(0, 1, Signal::Gone(reason("normal")?)),
+    ]?;
+    port("q", 0, rows)
 }
 
 fn process(name: &str, receipts: Vec<Receipt>, mails: Vec<Mail>) -> Result<ProcReport, Fail> {
@@ -178,6 +224,28 @@ fn reports_late_commands_and_lines(rt: HostRuntime) -> Result<(), Fail> {
 }
 
 #[test]
+fn reports_connected_and_linked_ports(rt: HostRuntime) -> Result<(), Fail> {
+    let alloc = rt.alloc();
+    let report = Report {
+        ports: Items::of_vec(vec![in alloc; connected_port(alloc)?, linked_port(alloc)?]?),
+        processes: Items::of_vec(vec![in alloc;
+            process("a", Vec::new(alloc), Vec::new(alloc))?,
+            process("b", Vec::new(alloc), vec![in alloc; Mail::Closed(0)]?)?,
+        ]?),
+    };
+    let text = report_text(alloc, &report)?;
+    assert_eq!(rt;
+        str::from_utf8(text.as_slice())?,
+        "report processes=2 ports=2\n\
+        port p driver=echo commands=2 late=0 bytes=3 end=done\n\
+        port q driver=echo commands=0 late=1 bytes=0 end=oops\n\
+        process a commands=3 dropped=0 suspended=0 data=0 sha256=e3b0c44298fc1c149afbf4c8996fb92427ae41e4649b934ca495991b7852b855\n\
+        process b commands=1 dropped=0 suspended=0 data=0 sha256=e3b0c44298fc1c149afbf4c8996fb92427ae41e4649b934ca495991b7852b855\n"
+    );
+    Ok(())
+}
+
+#[test]
 fn reports_no_port_and_no_process(rt: HostRuntime) -> Result<(), Fail> {
     let alloc = rt.alloc();
     let report = Report {
@@ -217,6 +285,30 @@ fn tells_each_cause(rt: HostRuntime) -> Result<(), Fail> {
             },
             5,
             "gateway: no driver for line 2, handed 32\n",
+        ),
+        (
+            Cause::StartRefused {
+                line: 3,
+                refusal: StartRefusal::General,
+            },
+            6,
+            "gateway: start refused at line 3: general\n",
+        ),
+        (
+            Cause::StartRefused {
+                line: 4,
+                refusal: StartRefusal::Errno,
+            },
+            6,
+            "gateway: start refused at line 4: errno\n",
+        ),
+        (
+            Cause::StartRefused {
+                line: 12,
+                refusal: StartRefusal::Badarg,
+            },
+            6,
+            "gateway: start refused at line 12: badarg\n",
         ),
         (Cause::NoMemory, 8, "gateway: no memory\n"),
         (Cause::Limit { line: 0 }, 10, "gateway: limit at line 0\n"),
