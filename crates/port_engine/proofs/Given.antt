@@ -13,6 +13,7 @@ use Rattle.port_signal.specs.History.{items}
 use Rattle.driver_entry.specs.declared.life.Life.{Life}
 use Rattle.driver_entry.specs.Drivers.{Own}
 use Rattle.driver_entry.specs.Owners.{Opening}
+use Rattle.links_owner.specs.Ties.{Ties}
 use Rattle.port_engine.specs.Box.{Box}
 use Rattle.waiting_list.specs.Waiting.{Waiting}
 use Rattle.waiting_list.specs.Order.{InOrder, SendersBelow}
@@ -43,12 +44,12 @@ counted : (given : List ℕ) (sender seq n : ℕ) (xs : List (Item Task)) (x : I
     → slice_index given n ≡ length (of n xs) → slice_index (slice_set given sender (seq + 1)) n ≡ length (of n (xs ++ x ∷ []))
 counted given sender seq n xs x s h q e = let l = length-of-push n xs x in grind (arith, common_steps, nat_tests)
 
-pub Sound-give : (port : Opening) (stage : Life) (own : Own) (queued : List ℕ) (past : List Row) (waiting : Waiting) (queue next_queue : List (Item Task)) (mail : List Box) (given : List ℕ)
+pub Sound-give : (port : Opening) (stage : Life) (own : Own) (queued : List ℕ) (past : List Row) (waiting : Waiting) (queue next_queue : List (Item Task)) (mail : List Box) (ties : Ties) (watched : List Bool) (given : List ℕ)
     (flags : Flags) (x : Item Task)
-    → Sound port stage own queued past waiting queue mail given flags → x.sender < length mail → x.seq ≡ slice_index given x.sender
+    → Sound port stage own queued past waiting queue mail ties watched given flags → x.sender < length mail → x.seq ≡ slice_index given x.sender
     → flags.broken ≡ false → next_queue ≡ queue ++ x ∷ []
-    → Sound port stage own queued past waiting next_queue mail (slice_set given x.sender (x.seq + 1)) flags
-Sound-give port stage own queued past waiting queue next_queue mail given flags x s h q b e =
+    → Sound port stage own queued past waiting next_queue mail ties watched (slice_set given x.sender (x.seq + 1)) flags
+Sound-give port stage own queued past waiting queue next_queue mail ties watched given flags x s h q b e =
     let more : waiting.items ++ (queue ++ x ∷ []) ≡ (waiting.items ++ queue) ++ x ∷ [] = sym (append_assoc waiting.items queue (x ∷ [])) in
     rw (e) (record {
       lawful = s.lawful;
@@ -71,7 +72,11 @@ Sound-give port stage own queued past waiting queue next_queue mail given flags 
       places = length-set given x.sender (x.seq + 1) ∙ s.places;
       seats = s.seats;
       gone = s.gone;
-      owner = s.owner;
+      processes = s.processes;
+      known = s.known;
+      watching = s.watching;
+      tied = s.tied;
+      watches = s.watches;
       senders = s.senders;
       waiters = s.waiters;
       comers = SendersBelow-push (length mail) queue x s.comers h;

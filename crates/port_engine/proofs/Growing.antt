@@ -11,7 +11,7 @@ use Rattle.port_signal.specs.declared.row.MarkKind.TheVariants.{Busy, Free, Clos
 use Rattle.port_signal.specs.History.{items, marks, is_busy, busy_by, closed_by}
 use Rattle.driver_entry.specs.Drivers.{Call}
 use Rattle.port_signal.specs.declared.signal.Sender.TheVariants.{Process}
-use Rattle.driver_entry.specs.Owners.{Opening}
+use Rattle.driver_entry.specs.Owners.{Opening, is_watched}
 use Rattle.driver_entry.specs.History.{Lawful, LawfulTask, is_open, marks_due, calls, busy_marks}
 use Rattle.waiting_list.specs.Order.{InOrder}
 use Rattle.port_engine.specs.Late.{late_row, late_rows}
@@ -49,6 +49,7 @@ pub record Marked (port : Opening) (past : List Row) (ms : List MarkKind) : Type
   pub calls : calls port (marked past ms) ≡ calls port past
   pub items : items (marked past ms) ≡ items past
   pub marks : marks (marked past ms) ≡ marks past ++ ms
+  pub watched : (process : ℕ) → is_watched process (marked past ms) ≡ is_watched process past
 
 pub Marked-all : (port : Opening) (past : List Row) (ms : List MarkKind) → Lawful port past → marks_due port past ≡ ms → Marked port past ms
 Marked-all port past [] lawful due = record {
@@ -58,6 +59,7 @@ Marked-all port past [] lawful due = record {
   calls = refl;
   items = refl;
   marks = sym (append-nil (marks past));
+  watched = λ process. refl;
 }
 Marked-all port past (m ∷ ms) lawful due =
     let r = Marked-all port (Mark m ∷ past) ms (due ∙ ap (λ ds. m ∷ drop 1 ds) (sym due), lawful) (ap (drop 1) due) in
@@ -68,6 +70,7 @@ Marked-all port past (m ∷ ms) lawful due =
       calls = r.calls;
       items = r.items;
       marks = r.marks ∙ append_assoc (marks past) (m ∷ []) ms;
+      watched = r.watched;
     }
 
 abbrev pub closing : Bool → List MarkKind
@@ -126,6 +129,7 @@ pub record HasLate (port : Opening) (past : List Row) (xs rest : List (Item Task
   pub busy : is_busy (with_late past xs) ≡ is_busy past
   pub marks : marks (with_late past xs) ≡ marks past
   pub items : items (with_late past xs) ≡ items past ++ xs
+  pub watched : (process : ℕ) → is_watched process (with_late past xs) ≡ is_watched process past
 
 pub HasLate-all : (port : Opening) (past : List Row) (xs rest : List (Item Task)) → Lawful port past → marks_due port past ≡ [] → is_open port past ≡ false
     → InOrder (items past) (xs ++ rest) → HasLate port past xs rest
@@ -137,6 +141,7 @@ HasLate-all port past [] rest lawful due closed order = record {
   items = sym (append-nil (items past));
   marks = refl;
   busy = refl;
+  watched = λ process. refl;
   order = subst (λ is. InOrder is rest) (sym (append-nil (items past))) order;
 }
 HasLate-all port past (x ∷ xs) rest lawful due closed order =
@@ -150,5 +155,6 @@ HasLate-all port past (x ∷ xs) rest lawful due closed order =
       items = r.items ∙ append_assoc (items past) (x ∷ []) xs;
       marks = r.marks;
       busy = r.busy;
+      watched = r.watched;
       order = subst (λ is. InOrder is rest) (append_assoc (items past) (x ∷ []) xs) r.order;
     }

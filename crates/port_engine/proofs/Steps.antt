@@ -13,13 +13,15 @@ use Rattle.driver_entry.specs.declared.life.Life.{Life}
 use Rattle.driver_entry.specs.declared.life.Life.TheVariants.{Started, Stopped}
 use Rattle.driver_entry.specs.Drivers.{Own, holds}
 use Rattle.driver_entry.specs.Driven.{held_of}
-use Rattle.driver_entry.specs.Owners.{Opening}
+use Rattle.driver_entry.specs.Owners.{Opening, is_watched}
 use Rattle.driver_entry.specs.History.{Lawful, is_open, is_stopped, has_stop, marks_due, busy_marks, calls}
 use Rattle.waiting_list.specs.Waiting.{Waiting, GoesFirst, NoneGoes, has_sender, may_go}
 use Rattle.waiting_list.specs.Order.{InOrder, SendersBelow}
 use Rattle.waiting_list.proofs.Leaving.{InOrder-first, InOrder-lane, of-first, of-lane}
 use Rattle.waiting_list.proofs.Senders.{SendersBelow-join, SendersBelow-front, SendersBelow-back, SendersBelow-first, SendersBelow-one_more}
+use Rattle.links_owner.specs.Ties.{Ties}
 use Rattle.port_engine.specs.Box.{Box}
+use Rattle.port_engine.specs.Sent.{Watches}
 use Rattle.port_engine.specs.Boxes.{Moves}
 use Rattle.port_engine.specs.Late.{WereLate, late_rows}
 use Rattle.port_engine.specs.Made.{Extends, row_of_mark}
@@ -123,6 +125,7 @@ Grew-by port past rows next_rows rest waits queue false lawful due closed order 
     busy = refl;
     marks = refl;
     items = sym (append-nil (items past));
+    watched = λ process. refl;
   });
 }
 
@@ -163,7 +166,7 @@ idle-case sent false true waits rest p all none left h = none refl ∙ left refl
 idle-case sent false false waits rest p all none left h = absurd cc
 
 -- what a step of a body is made of
-pub record Stepping (port : Opening) (rows rows1 next_rows : List Row) (waiting rest waits queue next_queue : List (Item Task)) (mail next_mail : List Box) (own : Own) (queued : List ℕ)
+pub record Stepping (port : Opening) (rows rows1 next_rows : List Row) (waiting rest waits queue next_queue : List (Item Task)) (mail next_mail : List Box) (ties next_ties : Ties) (watched next_watched : List Bool) (own : Own) (queued : List ℕ)
     (flags : Flags) (x : Item Task) (row : Row) (closes stops busy sent : Bool) (made : ℕ) : Type 0 where
   pub goes : GoesOut flags.busy flags.closed waiting queue rest next_queue x
   pub extends : Extends port (reverse rows) x row closes stops busy own queued
@@ -173,7 +176,9 @@ pub record Stepping (port : Opening) (rows rows1 next_rows : List Row) (waiting 
   pub late : WereLate rows1 next_rows rest waits
   pub all : sent ≡ true → closes ≡ true → waits ≡ []
   pub none : closes ≡ false → (next_rows ≡ rows1) × (waits ≡ rest)
-  pub moves : Moves port sent (reverse rows) (reverse next_rows) mail next_mail
+  pub moves : Moves port sent (reverse rows) (reverse next_rows) mail next_mail ties next_ties
+  pub watching : length next_watched ≡ length watched
+  pub watches : Watches (row ∷ reverse rows) next_watched
   pub counted : made ≡ length (busy_marks flags.busy busy ++ closing closes)
   pub few : flags.count < 2 ^ 60
   pub fewer : made ≤ 2
@@ -183,13 +188,13 @@ pub marks-of : (closes : Bool) (before after : Bool) (past : List Row) (due : Li
 marks-of closes before after past due b e = e ∙ ap (λ x. busy_marks x after ++ closing closes) b
 
 pub Grew-step : (port : Opening) (stage : Life) (own next_own : Own) (queued next_queued : List ℕ) (rows rows1 next_rows : List Row) (waiting : Waiting) (rest waits queue next_queue : List (Item Task))
-    (mail next_mail : List Box) (given : List ℕ) (flags : Flags) (x : Item Task) (row : Row) (closes stops busy sent : Bool) (made : ℕ)
-    → Sound port stage own queued (reverse rows) waiting queue mail given flags → flags.broken ≡ false
-    → Stepping port rows rows1 next_rows waiting.items rest waits queue next_queue mail next_mail next_own next_queued flags x row closes stops busy sent made
+    (mail next_mail : List Box) (ties next_ties : Ties) (watched next_watched : List Bool) (given : List ℕ) (flags : Flags) (x : Item Task) (row : Row) (closes stops busy sent : Bool) (made : ℕ)
+    → Sound port stage own queued (reverse rows) waiting queue mail ties watched given flags → flags.broken ≡ false
+    → Stepping port rows rows1 next_rows waiting.items rest waits queue next_queue mail next_mail ties next_ties watched next_watched next_own next_queued flags x row closes stops busy sent made
     → Marked port (row ∷ reverse rows) (busy_marks flags.busy busy ++ closing closes)
     × Grew port (marked (row ∷ reverse rows) (busy_marks flags.busy busy ++ closing closes)) (reverse next_rows) rest waits next_queue
     × Out (items (reverse rows)) waiting.items queue rest next_queue x
-Grew-step port stage own next_own queued next_queued rows rows1 next_rows waiting rest waits queue next_queue mail next_mail given flags x row closes stops busy sent made s b t =
+Grew-step port stage own next_own queued next_queued rows rows1 next_rows waiting rest waits queue next_queue mail next_mail ties next_ties watched next_watched given flags x row closes stops busy sent made s b t =
     let past = reverse rows in
     let e = t.extends in
     let ms : List MarkKind = busy_marks flags.busy busy ++ closing closes in
@@ -207,17 +212,17 @@ same-tasks n past x next taken rest waits next_queue waiting queue tasks split s
     ∙ ap (λ ts. (past ++ x ∷ []) ++ ts) (sym (append_assoc taken waits next_queue) ∙ ap (λ ts. ts ++ next_queue) (sym split)))) ∙ same
 
 pub Sound-step : (port : Opening) (stage next_stage : Life) (own next_own : Own) (queued next_queued : List ℕ) (rows rows1 next_rows : List Row) (waiting next_waiting : Waiting)
-    (rest queue next_queue : List (Item Task)) (mail next_mail : List Box) (given : List ℕ) (flags : Flags) (x : Item Task) (row : Row) (closes stops busy sent : Bool) (made : ℕ)
-    → Sound port stage own queued (reverse rows) waiting queue mail given flags → flags.broken ≡ false
-    → Stepping port rows rows1 next_rows waiting.items rest next_waiting.items queue next_queue mail next_mail next_own next_queued flags x row closes stops busy sent made
+    (rest queue next_queue : List (Item Task)) (mail next_mail : List Box) (ties next_ties : Ties) (watched next_watched : List Bool) (given : List ℕ) (flags : Flags) (x : Item Task) (row : Row) (closes stops busy sent : Bool) (made : ℕ)
+    → Sound port stage own queued (reverse rows) waiting queue mail ties watched given flags → flags.broken ≡ false
+    → Stepping port rows rows1 next_rows waiting.items rest next_waiting.items queue next_queue mail next_mail ties next_ties watched next_watched next_own next_queued flags x row closes stops busy sent made
     → next_stage ≡ cond stops Stopped stage → next_waiting.senders ≡ waiting.senders
-    → Sound port next_stage next_own next_queued (reverse next_rows) next_waiting next_queue next_mail given
+    → Sound port next_stage next_own next_queued (reverse next_rows) next_waiting next_queue next_mail next_ties next_watched given
     (record { count = flags.count + made; busy = busy; closed = flags.closed || closes; stopped = flags.stopped || stops; broken = not sent })
-Sound-step port stage next_stage own next_own queued next_queued rows rows1 next_rows waiting next_waiting rest queue next_queue mail next_mail given flags x row closes stops busy sent made s b t st seats =
+Sound-step port stage next_stage own next_own queued next_queued rows rows1 next_rows waiting next_waiting rest queue next_queue mail next_mail ties next_ties watched next_watched given flags x row closes stops busy sent made s b t st seats =
     let past = reverse rows in
     let e = t.extends in
     let ms : List MarkKind = busy_marks flags.busy busy ++ closing closes in
-    let whole = Grew-step port stage own next_own queued next_queued rows rows1 next_rows waiting rest next_waiting.items queue next_queue mail next_mail given flags x row closes stops busy sent made s b t in
+    let whole = Grew-step port stage own next_own queued next_queued rows rows1 next_rows waiting rest next_waiting.items queue next_queue mail next_mail ties next_ties watched next_watched given flags x row closes stops busy sent made s b t in
     let m = whole.0 in
     let g = whole.1 in
     let out = whole.2 in
@@ -248,7 +253,11 @@ Sound-step port stage next_stage own next_own queued next_queued rows rows1 next
       places = s.places ∙ sym t.moves.len;
       seats = seats ∙ (s.seats ∙ sym t.moves.len);
       gone = t.moves.gone s.gone;
-      owner = rw t.moves.len s.owner;
+      processes = s.processes ∙ sym t.moves.len;
+      known = t.moves.seats ∙ (s.known ∙ sym t.moves.len);
+      watching = t.watching ∙ (s.watching ∙ sym t.moves.len);
+      tied = λ p. t.moves.tied (posted-true sent p) (s.tied b);
+      watches = λ n h. t.watches n h ∙ sym (ap (is_watched n) g.grown ∙ (l.watched n ∙ m.watched n));
       senders = rw (t.moves.len, tasks) (SendersBelow-join (length mail) (items past ++ x ∷ []) g.taken (SendersBelow-one_more (length mail) (items past) x s.senders under.0) (SendersBelow-front (length mail) g.taken waits below_rest));
       waiters = rw t.moves.len (SendersBelow-back (length mail) g.taken waits below_rest);
       comers = rw t.moves.len under.2;
@@ -256,10 +265,10 @@ Sound-step port stage next_stage own next_own queued next_queued rows rows1 next
 
 -- a task that came to wait
 pub Sound-waits : (port : Opening) (stage : Life) (own : Own) (queued : List ℕ) (past : List Row) (waiting next_waiting : Waiting) (queue next_queue : List (Item Task)) (mail : List Box)
-    (given : List ℕ) (flags : Flags) (x : Item Task) → Sound port stage own queued past waiting queue mail given flags → flags.closed ≡ false
+    (ties : Ties) (watched : List Bool) (given : List ℕ) (flags : Flags) (x : Item Task) → Sound port stage own queued past waiting queue mail ties watched given flags → flags.closed ≡ false
     → CameToWait flags.busy waiting.items queue next_waiting.items next_queue x → next_waiting.senders ≡ waiting.senders
-    → Sound port stage own queued past next_waiting next_queue mail given flags
-Sound-waits port stage own queued past waiting next_waiting queue next_queue mail given flags x s open' came seats =
+    → Sound port stage own queued past next_waiting next_queue mail ties watched given flags
+Sound-waits port stage own queued past waiting next_waiting queue next_queue mail ties watched given flags x s open' came seats =
     let all : next_waiting.items ++ next_queue ≡ waiting.items ++ queue = ap (λ ts. ts ++ next_queue) came.3 ∙ (append_assoc waiting.items (x ∷ []) next_queue ∙ ap (λ ts. waiting.items ++ ts) (sym came.1)) in
     let c = subst (SendersBelow (length mail)) came.1 s.comers in
     record {
@@ -281,7 +290,11 @@ Sound-waits port stage own queued past waiting next_waiting queue next_queue mai
       places = s.places;
       seats = seats ∙ s.seats;
       gone = s.gone;
-      owner = s.owner;
+      processes = s.processes;
+      known = s.known;
+      watching = s.watching;
+      tied = s.tied;
+      watches = s.watches;
       senders = s.senders;
       waiters = subst (SendersBelow (length mail)) (sym came.3) (SendersBelow-one_more (length mail) waiting.items x s.waiters c.0);
       comers = c.1;
@@ -289,10 +302,10 @@ Sound-waits port stage own queued past waiting next_waiting queue next_queue mai
 
 -- a body in which memory was wanting
 pub Sound-broken : (port : Opening) (stage next_stage : Life) (own next_own : Own) (queued next_queued : List ℕ) (past : List Row) (waiting next_waiting : Waiting) (queue next_queue : List (Item Task))
-    (mail : List Box) (given : List ℕ) (flags : Flags) → Sound port stage own queued past waiting queue mail given flags → next_stage ≡ stage → next_waiting.senders ≡ waiting.senders
+    (mail : List Box) (ties : Ties) (watched : List Bool) (given : List ℕ) (flags : Flags) → Sound port stage own queued past waiting queue mail ties watched given flags → next_stage ≡ stage → next_waiting.senders ≡ waiting.senders
     → SendersBelow (length mail) next_waiting.items → SendersBelow (length mail) next_queue
-    → Sound port next_stage next_own next_queued past next_waiting next_queue mail given (record flags { broken = true })
-Sound-broken port stage next_stage own next_own queued next_queued past waiting next_waiting queue next_queue mail given flags s st seats w c = record {
+    → Sound port next_stage next_own next_queued past next_waiting next_queue mail ties watched given (record flags { broken = true })
+Sound-broken port stage next_stage own next_own queued next_queued past waiting next_waiting queue next_queue mail ties watched given flags s st seats w c = record {
   lawful = s.lawful;
   settled = s.settled;
   opens = s.opens;
@@ -311,7 +324,11 @@ Sound-broken port stage next_stage own next_own queued next_queued past waiting 
   places = s.places;
   seats = seats ∙ s.seats;
   gone = s.gone;
-  owner = s.owner;
+  processes = s.processes;
+  known = s.known;
+  watching = s.watching;
+  tied = λ p. absurd cc;
+  watches = s.watches;
   senders = s.senders;
   waiters = w;
   comers = c;

@@ -13,6 +13,9 @@ use Rattle.driver_entry.specs.Owners.{Opening}
 use Rattle.driver_entry.specs.History.{is_open, busy_marks}
 use Rattle.driver_entry.specs.Mail.{mails}
 use Rattle.waiting_list.specs.Waiting.{Waiting}
+use Rattle.links_owner.specs.Ties.{Ties}
+use Rattle.port_engine.specs.declared.turn.Turn.{Turn}
+use Rattle.port_engine.specs.declared.turn.Turn.TheVariants.{More, NoMemory}
 use Rattle.port_engine.specs.Box.{Box}
 use Rattle.port_engine.specs.Boxes.{box_at, Moves}
 use Rattle.port_engine.specs.Late.{late_rows}
@@ -28,12 +31,12 @@ posted-true true e = refl
 posted-true false e = absurd cc
 
 pub Turned-step : (old new : View) (stage : Life) (own next_own : Own) (queued next_queued : List ℕ) (rows1 : List Row) (waiting : Waiting) (rest : List (Item Task))
-    (given : List ℕ) (flags : Flags) (x : Item Task) (row : Row) (closes stops busy sent : Bool) (made : ℕ)
-    → Sound old.opening stage own queued (reverse old.rows) waiting old.queue old.mail given flags → flags.broken ≡ false
-    → Stepping old.opening old.rows rows1 new.rows waiting.items rest new.waiting old.queue new.queue old.mail new.mail next_own next_queued flags x row closes stops busy sent made
+    (ties next_ties : Ties) (watched next_watched : List Bool) (given : List ℕ) (flags : Flags) (x : Item Task) (row : Row) (closes stops busy sent : Bool) (made : ℕ)
+    → Sound old.opening stage own queued (reverse old.rows) waiting old.queue old.mail ties watched given flags → flags.broken ≡ false
+    → Stepping old.opening old.rows rows1 new.rows waiting.items rest new.waiting old.queue new.queue old.mail new.mail ties next_ties watched next_watched next_own next_queued flags x row closes stops busy sent made
     → waiting.items ≡ old.waiting → new.opening ≡ old.opening → old.faults ≤ new.faults → old.broken ≡ false → new.broken ≡ not sent → Turned old new
-Turned-step old new stage own next_own queued next_queued rows1 waiting rest given flags x row closes stops busy sent made s b t w o f ob nb =
-    let whole = Grew-step old.opening stage own next_own queued next_queued old.rows rows1 new.rows waiting rest new.waiting old.queue new.queue old.mail new.mail given flags x row closes stops busy sent made s b t in
+Turned-step old new stage own next_own queued next_queued rows1 waiting rest ties next_ties watched next_watched given flags x row closes stops busy sent made s b t w o f ob nb =
+    let whole = Grew-step old.opening stage own next_own queued next_queued old.rows rows1 new.rows waiting rest new.waiting old.queue new.queue old.mail new.mail ties next_ties watched next_watched given flags x row closes stops busy sent made s b t in
     let m = whole.0 in
     let g = whole.1 in
     let out = whole.2 in
@@ -48,8 +51,12 @@ Turned-step old new stage own next_own queued next_queued rows1 waiting rest giv
       given = λ p n. same-tasks n (items past) x (items (reverse new.rows)) g.taken rest new.waiting new.queue waiting.items old.queue tasks g.split (out.same n)
           ∙ ap (λ ts. of n (items past ++ (ts ++ old.queue))) w;
       processes = t.moves.len;
-      mailed = λ p n taken h e. t.moves.mailed (posted-true sent (sym nb ∙ p)) s.gone n taken h e;
+      mailed = λ p n taken h e. t.moves.mailed (posted-true sent (sym nb ∙ p)) s.gone (s.tied b) n taken h e;
     }
+
+-- memory wasn't wanting where a step was made
+pub more-is-sent : (turn : Turn) (sent : Bool) → turn ≡ NoMemory → turn ≡ More → sent ≡ true
+more-is-sent turn sent wanting more = let e : NoMemory ≡ More = sym wanting ∙ more in absurd cc
 
 not-not : (o c : Bool) → o ≡ not c → not o ≡ c
 not-not o true e = ap not e
@@ -63,11 +70,11 @@ left-case false true o waits rest e all none idle = none refl ∙ (idle refl ∙
 left-case false false o waits rest e all none idle = none refl ∙ sym (ap (λ k. cond k rest []) e)
 
 pub Went-step : (old new : View) (stage : Life) (own next_own : Own) (queued next_queued : List ℕ) (rows1 : List Row) (waiting : Waiting) (rest : List (Item Task))
-    (given : List ℕ) (flags : Flags) (x : Item Task) (row : Row) (closes stops busy sent : Bool) (made : ℕ)
-    → Sound old.opening stage own queued (reverse old.rows) waiting old.queue old.mail given flags → flags.broken ≡ false
-    → Stepping old.opening old.rows rows1 new.rows waiting.items rest new.waiting old.queue new.queue old.mail new.mail next_own next_queued flags x row closes stops busy sent made
+    (ties next_ties : Ties) (watched next_watched : List Bool) (given : List ℕ) (flags : Flags) (x : Item Task) (row : Row) (closes stops busy sent : Bool) (made : ℕ)
+    → Sound old.opening stage own queued (reverse old.rows) waiting old.queue old.mail ties watched given flags → flags.broken ≡ false
+    → Stepping old.opening old.rows rows1 new.rows waiting.items rest new.waiting old.queue new.queue old.mail new.mail ties next_ties watched next_watched next_own next_queued flags x row closes stops busy sent made
     → waiting.items ≡ old.waiting → is_open new.opening (reverse new.rows) ≡ not (flags.closed || closes) → sent ≡ true → Went old new
-Went-step old new stage own next_own queued next_queued rows1 waiting rest given flags x row closes stops busy sent made s b t w o p =
+Went-step old new stage own next_own queued next_queued rows1 waiting rest ties next_ties watched next_watched given flags x row closes stops busy sent made s b t w o p =
     record {
       task = x;
       row = row;

@@ -1,5 +1,5 @@
 -- What one taken task adds to a history.
-use Rattle.std.specs.Prelude.{◌≡◌, ℕ, List, [], ◌∷◌, ◌++◌, Bool, true, false, ◌||◌, if◌then◌else◌, Option, None, is_some}
+use Rattle.std.specs.Prelude.{◌≡◌, ℕ, List, [], ◌∷◌, ◌++◌, Bool, true, false, ◌||◌, if◌then◌else◌, Option, None}
 use Rattle.task_queue.specs.declared.item.Item.{Item}
 use Rattle.port_signal.specs.declared.signal.Sender.{Sender}
 use Rattle.port_signal.specs.declared.signal.Signal.{Signal}
@@ -7,13 +7,14 @@ use Rattle.port_signal.specs.declared.signal.Task.{Task}
 use Rattle.port_signal.specs.declared.row.Row.{Row}
 use Rattle.port_signal.specs.declared.row.Row.TheVariants.{Handled, Late, Mark}
 use Rattle.port_signal.specs.declared.row.MarkKind.{MarkKind}
+use Rattle.port_signal.specs.declared.row.MarkKind.TheVariants.{Closed}
 use Rattle.port_signal.specs.History.{items, marks, is_busy}
 use Rattle.driver_entry.specs.declared.config.Config.{Config}
 use Rattle.driver_entry.specs.Context.{Context}
 use Rattle.driver_entry.specs.Drivers.{Kind, Call, Own, Held, holds}
 use Rattle.driver_entry.specs.Driven.{Ended, held_of}
 use Rattle.driver_entry.specs.Owners.{Opening, closing_reason}
-use Rattle.driver_entry.specs.History.{LawfulRow, is_open, is_stopped, has_stop, busy_marks, closed_marks, marks_due, calls, closing_calls, effects_after, AllAnswered, row_calls, signal_calls}
+use Rattle.driver_entry.specs.History.{LawfulRow, is_open, is_stopped, has_stop, busy_marks, marks_due, calls, closing_calls, effects_after, AllAnswered, row_calls, signal_calls}
 
 -- the driver got the call of a signal, if it has one, and the context has what it did
 pub record Called (kind : Kind) (owns watched : Bool) (from : Sender) (signal : Signal) (old_own new_own : Own) (queue : List ℕ) (done : Context) : Type 0 where
@@ -45,15 +46,14 @@ Ending port older (Late from seq task) reason stops = reason ≡ None
 Ending port older (Mark kind) reason stops = reason ≡ None
 
 -- the row keeps the laws after the older rows, stands for the task, and tells what the driver holds then
-pub record Extends (port : Opening) (older : List Row) (item : Item Task) (row : Row) (reason : Option (List ℕ)) (stops busy : Bool) (own : Own) (queue : List ℕ) : Type 0 where
+pub record Extends (port : Opening) (older : List Row) (item : Item Task) (row : Row) (closes stops busy : Bool) (own : Own) (queue : List ℕ) : Type 0 where
   pub lawful : LawfulRow port older row
   pub task : items (row ∷ older) ≡ items older ++ item ∷ []
   pub marks : marks (row ∷ older) ≡ marks older
   pub same_busy : is_busy (row ∷ older) ≡ is_busy older
-  pub ending : Ending port older row reason stops
-  pub opens : is_open port (row ∷ older) ≡ (if is_some reason then false else is_open port older)
+  pub opens : is_open port (row ∷ older) ≡ (if closes then false else is_open port older)
   pub stopped : is_stopped port (row ∷ older) ≡ (stops || is_stopped port older)
-  pub due : marks_due port (row ∷ older) ≡ busy_marks (is_busy older) busy ++ closed_marks reason
+  pub due : marks_due port (row ∷ older) ≡ busy_marks (is_busy older) busy ++ (if closes then Closed ∷ [] else [])
   pub holds : held_of own queue ≡ holds port.kind port.config (calls port (row ∷ older))
 
 abbrev pub row_of_mark : MarkKind → Row

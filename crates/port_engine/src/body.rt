@@ -1,10 +1,12 @@
-ghost use Rattle.std.specs.Prelude.{◌≡◌, ◌<◌, ◌≤◌, ◌+◌, ◌*◌, ℕ, List, [], ◌∷◌, ◌++◌, length, reverse, true, false, not, if◌then◌else◌, ◌↔◌, IsNone, IfNone, IfSome, IfOk, IfErr, OnOk, OnErr, ◌≢◌, ◌⊎◌, replicate, slice_set};
+ghost use Rattle.std.specs.Prelude.{◌≡◌, ◌<◌, ◌≤◌, ◌+◌, ◌*◌, ℕ, List, [], ◌∷◌, ◌++◌, None, length, reverse, true, false, not, if◌then◌else◌, ◌↔◌, IsNone, IfNone, IfSome, IfOk, IfErr, OnOk, OnErr, ◌≢◌, ◌⊎◌, replicate, slice_set};
 ghost use Rattle.task_queue.specs.Items.{of};
-ghost use Rattle.port_signal.specs.History.{is_closed, item, items, marks, stat_of, sender_number};
+ghost use Rattle.port_signal.specs.History.{is_busy, is_closed, item, items, marks, stat_of, sender_number};
 ghost use Rattle.driver_entry.specs.Driven.{held_of};
 ghost use Rattle.driver_entry.specs.Drivers.{holds};
+ghost use Rattle.driver_entry.specs.Refusals.{Refuses, refusal_of};
 ghost use Rattle.driver_entry.specs.History.{Lawful, IsFinished, is_open, calls};
 ghost use Rattle.waiting_list.specs.Order.{SendersBelow};
+ghost use Rattle.waiting_list.specs.Waiting.{NoneGoes};
 ghost use Rattle.port_engine.specs.Boxes.{box_at};
 ghost use Rattle.port_engine.specs.Body.{IsOpened, Turned, given_by, history_of};
 ghost use Rattle.port_engine.specs.Stepping.{Waited, Went};
@@ -107,6 +109,8 @@ impl<D: Driver> Body<D> {
         requires fresh { D.stage parts.driver ≡ Life.Fresh }
         requires owner { owner < processes }
         ensures ok { IfOk result (IsOpened number (D.kind parts.driver) parts.config owner processes (D.faults parts.driver)) }
+        ensures starts { OnOk result (refusal_of (D.kind parts.driver) ≡ None) }
+        ensures refusal { IfErr result (λ refused. Refuses (D.kind parts.driver) refused.1) }
         ensures kind { IfErr result (λ refused. D.kind refused.0.driver ≡ D.kind parts.driver) }
         ensures faults { IfErr result (λ refused. D.faults parts.driver ≤ D.faults refused.0.driver) }
         ensures stage { IfErr result (λ refused. (D.stage refused.0.driver ≡ Life.Fresh) ⊎ (D.stage refused.0.driver ≡ Life.Stopped)) }
@@ -205,7 +209,7 @@ impl<D: Driver> Body<D> {
     /// came, which is handled, gets its late row, or waits behind the others. Idle is answered where none may go and none came.
     pub fn turn(&mut self, max: u32) -> Turn
         ensures turned { Turned self.old self.new }
-        ensures idle { result ≡ Turn.Idle → (self.new.queue ≡ []) × (self.new.broken ≡ false) }
+        ensures idle { result ≡ Turn.Idle → (self.new.queue ≡ []) × (self.new.broken ≡ false) × NoneGoes (is_busy (history_of self.new)) self.new.waiting }
         ensures more { result ≡ Turn.More → self.old.broken ≡ false → self.new.broken ≡ false }
         ensures less { result ≡ Turn.More → length self.new.waiting + (2 * length self.new.queue + max) ≤ length self.old.waiting + 2 * length self.old.queue }
         ensures wanting { result ≡ Turn.NoMemory → self.new.broken ≡ true }
@@ -271,7 +275,7 @@ impl<D: Driver> Body<D> {
     /// One step: takes the task that goes next, and handles it or gives it its late row.
     fn step(&mut self) -> Turn
         ensures turned { Turned self.old self.new }
-        ensures idle { result ≡ Turn.Idle → (self.old.queue ≡ []) × (self.new ≡ self.old) × (self.old.broken ≡ false) }
+        ensures idle { result ≡ Turn.Idle → (self.old.queue ≡ []) × (self.new ≡ self.old) × (self.old.broken ≡ false) × NoneGoes (is_busy (history_of self.old)) self.old.waiting }
         ensures more { result ≡ Turn.More → self.new.broken ≡ false }
         ensures less { result ≡ Turn.More → length self.new.waiting + (2 * length self.new.queue + 1) ≤ length self.old.waiting + 2 * length self.old.queue }
         ensures wanting { result ≡ Turn.NoMemory → self.new.broken ≡ true }
@@ -295,7 +299,7 @@ impl<D: Driver> Body<D> {
             &mut self.driver,
             queued,
             &self.links,
-            is_watched(&self.watched, item.sender),
+            is_watched(self.watched.as_slice(), item.sender),
             self.closed,
             self.busy,
             item,
@@ -314,7 +318,7 @@ impl<D: Driver> Body<D> {
             }
         };
         self.driver_queue = queue;
-        note_watches(self.watched.as_mut_slice(), &row);
+        note_watches(&mut self.watched, &row);
         let closes = reason.is_some();
         let posted = append_row(
             &mut self.rows,

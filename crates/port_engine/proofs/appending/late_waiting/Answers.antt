@@ -9,8 +9,8 @@ returns-then-not-push_row-clause-late c =
     WereLate-more _ _ _ _ _ _ _ _ c.loop-item.invariant.late (c.in-Some.ensures.head refl) c.late_row.ensures.row c.push_row.ensures.rows
 
 pub returns-then-not-push_row-clause-moves : goal.returns-then-not-push_row-clause-moves
-returns-then-not-push_row-clause-moves c = λ port n o.
-    Moves-trans port true _ false _ _ _ _ _ _ (λ p. refl) (λ p. absurd cc) (c.loop-item.invariant.moves port n o) (c.push_row.ensures.moves port n o)
+returns-then-not-push_row-clause-moves c = λ port n.
+    Moves-trans port true _ false _ _ _ _ _ _ _ _ _ (λ p. refl) (λ p. absurd cc) (c.loop-item.invariant.moves port n) (c.push_row.ensures.moves port n (rw c.late_row.ensures.row refl))
 
 pub loop-item-preserved : goal.loop-item-preserved
 loop-item-preserved c =
@@ -22,5 +22,6 @@ loop-item-preserved c =
       boxes = c.push_row.ensures.boxes ∙ c.loop-item.invariant.boxes;
       room = omega (arith, c.loop-item.invariant.room, c.push_row.ensures.len, c.push_row.ensures.capacity);
       senders = rw c.push_row.ensures.boxes ((subst (SendersBelow (length c.loop-item.boxes.items)) head c.loop-item.invariant.senders).1);
-      moves = λ port n o. Moves-trans port true _ true _ _ _ _ _ _ (λ p. refl) (λ p. c.if-not-push_row.false) (c.loop-item.invariant.moves port n o) (c.push_row.ensures.moves port n o);
+      known = c.push_row.ensures.seats ∙ c.loop-item.invariant.known;
+      moves = λ port n. Moves-trans port true _ true _ _ _ _ _ _ _ _ _ (λ p. refl) (λ p. c.if-not-push_row.false) (c.loop-item.invariant.moves port n) (c.push_row.ensures.moves port n (rw c.late_row.ensures.row refl));
     }

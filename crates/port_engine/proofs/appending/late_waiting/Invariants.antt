@@ -14,8 +14,9 @@ invariant-loop-item l = record {
   boxes : length l.boxes.items ≡ length l.initial.boxes.items;
   room : vec_len l.rows + length l.waiting.items ≤ vec_capacity l.rows;
   senders : SendersBelow (length l.boxes.items) l.waiting.items;
-  moves : (port : Opening) → port.number ≡ l.number → port.owner ≡ l.owner
-      → Moves port true (reverse l.initial.rows.items) (reverse l.rows.items) l.initial.boxes.items l.boxes.items;
+  known : length l.links.gone ≡ length l.initial.links.gone;
+  moves : (port : Opening) → port.number ≡ l.number
+      → Moves port true (reverse l.initial.rows.items) (reverse l.rows.items) l.initial.boxes.items l.boxes.items l.initial.links l.links;
 }
 
 abbrev pub decreases-loop-item : goal.decreases-loop-item
