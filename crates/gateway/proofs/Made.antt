@@ -15,7 +15,7 @@ use Rattle.port_signal.specs.declared.row.MarkKind.{MarkKind}
 use Rattle.port_signal.specs.declared.receipt.Outcome.TheVariants.{Accepted, Closed}
 use Rattle.port_signal.specs.declared.receipt.Receipt.{Receipt}
 use Rattle.port_signal.specs.History.{items, item, marks, busy_by, closed_by, stat_word, stat_of, AgreesWith, is_closed}
-use Rattle.driver_entry.specs.History.{Opening}
+use Rattle.driver_entry.specs.Owners.{Opening}
 use Rattle.port_engine.specs.Boxes.{box_at}
 use Rattle.port_engine.specs.Body.{View, Turned, history_of, given_of, given_by}
 use Rattle.driver_entry.specs.Mail.{mails}

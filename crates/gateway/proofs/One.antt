@@ -114,6 +114,7 @@ module _ {D : Type 0} where
       owner = refl;
       config = refl;
       of_kind = named;
+      starts = keeps.starts;
       keeps = rw owner keeps.port_keeps;
     };
     pairs = λ process d l.
@@ -123,7 +124,7 @@ module _ {D : Type 0} where
           | zero ↦ λ _. record {
             tasks = rw (steps-all steps processes) keeps.pair_keeps.tasks;
             mail = rw owner (ap (mail_from 0) keeps.pair_keeps.mail
-                ∙ (mail_from-all 0 _ (mails-from (record { number = 0; kind = kind keeps.driver; config = decl.config; owner = 0 }) 0 (reverse rows))));
+                ∙ (mail_from-all 0 _ (mails-from (record { number = 0; processes = 1; kind = kind keeps.driver; config = decl.config; owner = 0 }) 0 (reverse rows))));
           }
           | suc process ↦ λ l. absurd (omega arith)
         ] l;
@@ -159,7 +160,7 @@ module _ {D : Type 0} where
                 0 (reverse (asks_by steps 1)) (reverse got)
                 (AsksFor-reverse 0 (asks_by steps 1) (AsksFor-append 0 (map ask_of steps) (exit_ask 0 ∷ []) (AsksFor-steps 0 steps ports) (refl, tt)))
                 refl keeps.pair_keeps.receipts);
-            mail = All-below 0 1 came (rw keeps.pair_keeps.mail (mails-from (record { number = 0; kind = kind keeps.driver; config = decl.config; owner = 0 }) 0 (reverse rows))) (omega arith);
+            mail = All-below 0 1 came (rw keeps.pair_keeps.mail (mails-from (record { number = 0; processes = 1; kind = kind keeps.driver; config = decl.config; owner = 0 }) 0 (reverse rows))) (omega arith);
           }
           | suc s ↦ λ l. absurd (omega arith)
         ] l;

@@ -1,7 +1,9 @@
-ghost use Rattle.std.specs.Prelude.{◌≡◌, ◌∷◌, [], IfOk};
+ghost use Rattle.std.specs.Prelude.{◌≡◌, ◌<◌, ◌∷◌, [], ℕ, All, IfOk, IsSome, reverse};
+ghost use Rattle.driver_entry.specs.Drivers.{Kind};
+ghost use Rattle.driver_entry.specs.History.{close_reason};
 ghost use Rattle.port_signal.specs.declared.row.Row.TheVariants.{Handled, Late};
 ghost use Rattle.port_signal.specs.declared.signal.Sender.TheVariants.{Process};
-ghost use Rattle.gateway_report.specs.End.{HasEnded};
+ghost use Rattle.gateway_report.specs.End.{HasEnded, IsFrom};
 
 use super::*;
 use driver_entry::{Config, StartRefusal};
@@ -30,12 +32,6 @@ fn command(alloc: Global, bytes: &[u8]) -> Result<Signal, Fail>
     Ok(Signal::Command(payload(alloc, bytes)?))
 }
 
-fn owner_command(alloc: Global, bytes: &[u8]) -> Result<Signal, Fail>
-    ensures { IfOk result (λ signal. signal ≡ Signal.OwnerCommand (bytes.now ∷ [])) }
-{
-    Ok(Signal::OwnerCommand(payload(alloc, bytes)?))
-}
-
 fn handled(alloc: Global, from: u32, seq: u64, signal: Signal) -> Row
     ensures { result ≡ Handled (Process from) seq (record { signal = signal }) [] [] }
 {
@@ -59,9 +55,12 @@ fn late(from: u32, seq: u64, signal: Signal) -> Row
     }
 }
 
+/// A port that one of two processes opened, with rows of them that close it.
 fn port(name: &str, owner: u32, rows: Vec<Row>) -> Result<PortReport, Fail>
-    ensures owner { IfOk result (λ port. port.owner ≡ owner) }
-    ensures rows { IfOk result (λ port. port.journal.rows ≡ rows.items) }
+    requires opener { owner < 2 }
+    requires senders { All (IsFrom 2) rows.items }
+    requires closed { (number : ℕ) (kind : Kind) → IsSome (close_reason (record { number = number; processes = 2; kind = kind; config = record {}; owner = owner }) (reverse rows.items)) }
+    ensures { IfOk result (HasEnded 2) }
 {
     Ok(PortReport {
         name: reason(name)?,
@@ -76,7 +75,7 @@ fn port(name: &str, owner: u32, rows: Vec<Row>) -> Result<PortReport, Fail>
 
 /// A port of process 0 that took `abc` and was closed.
 fn closed_port(alloc: Global) -> Result<PortReport, Fail>
-    ensures { IfOk result (HasEnded 1) }
+    ensures { IfOk result (HasEnded 2) }
 {
     let rows = vec![in alloc;
         handled(alloc, 0, 0, command(alloc, b"abc")?),
@@ -111,35 +110,40 @@ fn killed_port(alloc: Global) -> Result<PortReport, Fail>
     port("q", 1, rows)
 }
 
-/// A port of process 0, which connected it to process 1. Commands of process 0 as the owner come before and after that, and one of the
-/// new owner. The end of process 0 closes nothing, since it isn't linked any more, and that of process 1 does.
+/// An owner's command with no data.
+fn empty_command(alloc: Global) -> Signal
+    ensures { result ≡ Signal.OwnerCommand [] }
+{
+    Signal::OwnerCommand(IoVec::new(alloc))
+}
+
+/// A port of process 0, which connected it to process 1. Owner's commands of both come after that, and only the new owner's is taken.
 fn connected_port(alloc: Global) -> Result<PortReport, Fail>
     ensures { IfOk result (HasEnded 2) }
 {
+    let first = Signal::OwnerCommand(payload(alloc, b"ab")?);
     let rows = vec![in alloc;
-        handled(alloc, 0, 0, owner_command(alloc, b"ab")?),
+        handled(alloc, 0, 0, first),
         handled(alloc, 0, 1, Signal::Connect(1)),
-        handled(alloc, 0, 2, owner_command(alloc, b"cde")?),
-        handled(alloc, 1, 0, owner_command(alloc, b"f")?),
-        handled(alloc, 0, 3, Signal::Unlink),
-        handled(alloc, 0, 4, Signal::Gone(reason("oops")?)),
-        handled(alloc, 1, 1, Signal::Gone(reason("done")?)),
+        handled(alloc, 0, 2, empty_command(alloc)),
+        handled(alloc, 1, 0, empty_command(alloc)),
+        handled(alloc, 1, 1, Signal::OwnerClose),
         Row::Mark(MarkKind::Closed),
     ]?;
     port("p", 0, rows)
 }
 
-/// A port of process 0 that is closed by the end of process 1, which was linked to it.
+/// A port of process 0 that the end of process 1 closes, which was linked to it.
 fn linked_port(alloc: Global) -> Result<PortReport, Fail>
     ensures { IfOk result (HasEnded 2) }
 {
+    let oops = reason("oops")?;
     let rows = vec![in alloc;
         handled(alloc, 1, 0, Signal::OwnerClose),
         handled(alloc, 1, 1, Signal::Link),
-        handled(alloc, 1, 2, Signal::Gone(reason("oops")?)),
+        handled(alloc, 1, 2, Signal::Gone(oops)),
         Row::Mark(MarkKind::Closed),
-        late(0, 0, owner_command(alloc, b"xy")?),
-        late(0, 1, Signal::Gone(reason("normal")?)),
+        late(0, 0, empty_command(alloc)),
     ]?;
     port("q", 0, rows)
 }
@@ -184,14 +188,18 @@ fn reports_one_command(rt: HostRuntime) -> Result<(), Fail> {
     ]?;
     let report = Report {
         ports: Items::of_vec(vec![in alloc; closed_port(alloc)?]?),
-        processes: Items::of_vec(vec![in alloc; process("a", receipts, mails)?]?),
+        processes: Items::of_vec(vec![in alloc;
+            process("a", receipts, mails)?,
+            process("b", Vec::new(alloc), Vec::new(alloc))?,
+        ]?),
     };
     let text = report_text(alloc, &report)?;
     assert_eq!(rt;
         str::from_utf8(text.as_slice())?,
-        "report processes=1 ports=1\n\
+        "report processes=2 ports=1\n\
         port p driver=echo commands=1 late=0 bytes=3 end=normal\n\
-        process a commands=1 dropped=0 suspended=0 data=1 sha256=ba7816bf8f01cfea414140de5dae2223b00361a396177a9cb410ff61f20015ad\n"
+        process a commands=1 dropped=0 suspended=0 data=1 sha256=ba7816bf8f01cfea414140de5dae2223b00361a396177a9cb410ff61f20015ad\n\
+        process b commands=0 dropped=0 suspended=0 data=0 sha256=e3b0c44298fc1c149afbf4c8996fb92427ae41e4649b934ca495991b7852b855\n"
     );
     Ok(())
 }
@@ -237,7 +245,7 @@ fn reports_connected_and_linked_ports(rt: HostRuntime) -> Result<(), Fail> {
     assert_eq!(rt;
         str::from_utf8(text.as_slice())?,
         "report processes=2 ports=2\n\
-        port p driver=echo commands=2 late=0 bytes=3 end=done\n\
+        port p driver=echo commands=2 late=0 bytes=2 end=normal\n\
         port q driver=echo commands=0 late=1 bytes=0 end=oops\n\
         process a commands=3 dropped=0 suspended=0 data=0 sha256=e3b0c44298fc1c149afbf4c8996fb92427ae41e4649b934ca495991b7852b855\n\
         process b commands=1 dropped=0 suspended=0 data=0 sha256=e3b0c44298fc1c149afbf4c8996fb92427ae41e4649b934ca495991b7852b855\n"

@@ -1,15 +1,17 @@
 use Rattle.std.proofs.Common.{arith, ◌≡◌, ℕ, ◌<◌, ◌∷◌, [], List, length, subst, sym, ap, ◌∙◌, refl}
-use Rattle.std.specs.Prelude.{All, slice_set, map}
+use Rattle.std.specs.Prelude.{All, slice_set, map, reverse}
+use Rattle.std.proofs.lemmas.List.{reverse-reverse}
 use Rattle.gateway_script.specs.declared.decl.Step.{Step}
 use Rattle.gateway_script.specs.Plan.{Plan, IsPlan, port_of}
 use Rattle.gateway_report.proofs.Ends.{HasEnded-closed}
-use Rattle.gateway_report.specs.End.{HasEnded}
+use Rattle.gateway_report.specs.End.{HasEnded, IsFrom}
 use Rattle.gateway_report.specs.declared.report.Report.{Report}
 use Rattle.gateway_script.specs.declared.report.PortReport.{PortReport}
-use Rattle.driver_entry.specs.History.{Opening}
+use Rattle.driver_entry.specs.Owners.{Opening}
 use Rattle.gateway.specs.Headline.{Headline}
 use Rattle.gateway.proofs.One.{Headline-one}
-use Rattle.gateway.proofs.Backs.{back-set, headline-none, kind-named, singleton, plan-one, only-zero, all-ended}
+use Rattle.gateway.proofs.Backs.{back-set, headline-none, kind-named, singleton, plan-one, only-zero, all-ended, unserved-one}
+use Rattle.gateway.proofs.Ending.{from-senders}
 use Rattle.gateway.proofs.reporting.make_report.Goals as goal
 
 pub returns-in_default-serve_port-clause-back : goal.returns-in_default-serve_port-clause-back
@@ -61,7 +63,8 @@ returns-in-Ok-report_of_port-clause-ended g c =
     sym c.processes-in-len1.ensures.value ∙ singleton c.processes-in-len1.result.now c.process-item.result (omega arith) (omega arith) c.process-item.is in
     let owned : decl.owner < 1 = rw (ports, processes) at (c.ports.ensures.plan.owners 0 decl (rw ports (omega arith))) in
     let keeps = c.in-Ok-serve_port.ensures.keeps in
-    let opening : Opening = record { number = 0; kind = g.D.Driver.kind keeps.driver; config = decl.config; owner = 0 } in
+    let opening : Opening = record { number = 0; processes = 1; kind = g.D.Driver.kind keeps.driver; config = decl.config; owner = 0 } in
     let port : PortReport = record { name = decl.name; driver = decl.driver; owner = decl.owner; config = decl.config; journal = c.in-Ok-serve_port.told.journal } in
     rw c.in-Ok-report_of_port.ensures (
-    all-ended port (HasEnded-closed opening port (sym (only-zero decl.owner owned)) keeps.port_keeps.finished.closed))
+    all-ended 1 port (HasEnded-closed opening port 1 (sym (only-zero decl.owner owned)) refl owned
+        (subst (All (IsFrom 1)) (reverse-reverse port.journal.rows) (from-senders 1 (reverse port.journal.rows) keeps.port_keeps.senders)) keeps.port_keeps.finished.closed))
