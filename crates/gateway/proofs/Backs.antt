@@ -1,17 +1,14 @@
 -- The drivers come back, and the report is that of the script.
-use Rattle.std.proofs.Common.{inl, arith, subst, ◌≡◌, ℕ, zero, suc, ◌<◌, ◌≤◌, List, [], ◌∷◌, ◌++◌, ◌+◌, length, take, Bool, true, false, cond, eqb, Option, Some, None, refl, sym, ap, ◌∙◌}
-use Rattle.std.specs.Prelude.{reverse, map, filter, All, IsSomeAnd, count_by, slice_index_or, slice_set}
-use Rattle.std.specs.List.{range_with_len}
+use Rattle.std.proofs.Common.{inl, arith, ◌≡◌, ℕ, zero, suc, ◌<◌, ◌≤◌, List, [], ◌∷◌, ◌+◌, length, take, Bool, true, false, cond, eqb, Option, Some, None, refl, sym, ap, ◌∙◌}
+use Rattle.std.specs.Prelude.{map, All, IsSomeAnd, count_by, slice_index_or, slice_set}
 use Rattle.std.specs.Option.{option_map_or}
 use Rattle.std.specs.Str.{bytes_eq}
 use Rattle.std.proofs.lemmas.List.{length-map, length-set, get_or-set_same, get_or-set_other, get_or-map, get_or_default}
 use Rattle.std.proofs.lemmas.List.Sums.{count_by_more_yes, sum_by-take-le}
 use Rattle.std.proofs.lemmas.Slice.Eq.{bytes_eq-Decides}
 use Rattle.port_signal.specs.declared.row.Row.{Row}
-use Rattle.port_signal.specs.declared.row.MarkKind.{MarkKind}
 use Rattle.port_signal.specs.declared.receipt.Receipt.{Receipt}
 use Rattle.port_signal.specs.declared.mail.Mail.{Mail}
-use Rattle.port_signal.specs.History.{marks}
 use Rattle.driver_entry.specs.declared.life.Life.{Life}
 use Rattle.driver_entry.specs.declared.life.Life.TheVariants.{Fresh}
 use Rattle.driver_entry.specs.declared.life.StartRefusal.{StartRefusal}
@@ -23,18 +20,14 @@ use Rattle.gateway_script.specs.declared.decl.ProcessDecl.{ProcessDecl}
 use Rattle.gateway_script.specs.declared.decl.Step.{Step}
 use Rattle.gateway_script.specs.declared.report.PortReport.{PortReport}
 use Rattle.gateway_script.specs.Plan.{Plan, IsPlan, port_of}
-use Rattle.gateway_report.specs.declared.report.ProcReport.{ProcReport}
 use Rattle.gateway_report.specs.declared.report.Report.{Report}
 use Rattle.gateway_report.specs.End.{HasEnded}
-use Rattle.gateway_report.proofs.Ends.{HasEnded-closed}
 use Rattle.gateway.specs.declared.hosted.Hosted.{Hosted}
-use Rattle.gateway.specs.Asks.{ask_of, exit_ask, asks}
-use Rattle.gateway.specs.Receipts.{AreReceipts}
 use Rattle.gateway.specs.Idle.{idle}
 use Rattle.gateway.specs.Hosts.{IsUnused, is_named, named_count, CameBack, AllCameBack, HostKeeps}
-use Rattle.gateway.specs.Headline.{history_of, ProcessHolds, Headline}
+use Rattle.gateway.specs.Headline.{Headline}
 use Rattle.gateway.specs.Causes.{MakeFails, RefusesStart, unserved_cause}
-use Rattle.gateway.proofs.One.{split, same-from, apart-from, Headline-one}
+use Rattle.gateway.proofs.One.{split, same-from, apart-from}
 
 module _ {D : Type 0} where
   driver-back : (kind : D → Kind) (stage : D → Life) (faults : D → ℕ) (host : Hosted D) (driver : Option D) → host.driver ≡ driver → IsSomeAnd driver (λ d. stage d ≡ Fresh)

@@ -7,7 +7,7 @@ use Rattle.task_queue.specs.Items.{of}
 use Rattle.port_signal.specs.declared.row.Row.{Row}
 use Rattle.port_signal.specs.declared.receipt.Receipt.{Receipt}
 use Rattle.port_signal.specs.declared.mail.Mail.{Mail}
-use Rattle.port_signal.specs.History.{item, items, sender_number}
+use Rattle.port_signal.specs.History.{item, items}
 use Rattle.driver_entry.specs.declared.config.Config.{Config}
 use Rattle.driver_entry.specs.Drivers.{Kind, Own, holds}
 use Rattle.driver_entry.specs.Owners.{Opening}

@@ -1,7 +1,6 @@
 -- What is reported of one port and one process holds of the script.
 use Rattle.std.proofs.Common.{arith, subst, ◌≡◌, ℕ, zero, suc, ◌<◌, List, [], ◌∷◌, ◌++◌, length, Bool, true, false, cond, eqb, Option, Some, None, refl, sym, ap, ◌∙◌}
 use Rattle.std.specs.Prelude.{reverse, map, filter, All, slice_index_or, slice_set}
-use Rattle.std.specs.List.{range_with_len}
 use Rattle.std.proofs.lemmas.List.{reverse-append, length-set, get_or-set_same, get_or-set_other}
 use Rattle.std.proofs.lemmas.Bool.Decides.{nat_tests}
 use Rattle.port_signal.specs.declared.row.Row.{Row}
@@ -13,17 +12,13 @@ use Rattle.driver_entry.specs.Drivers.{Kind, Own, kind_name}
 use Rattle.gateway_script.specs.declared.decl.PortDecl.{PortDecl}
 use Rattle.gateway_script.specs.declared.decl.ProcessDecl.{ProcessDecl}
 use Rattle.gateway_script.specs.declared.decl.Step.{Step}
-use Rattle.gateway_script.specs.declared.report.PortReport.{PortReport}
-use Rattle.gateway_script.specs.Plan.{Plan, port_of}
-use Rattle.gateway_report.specs.declared.report.ProcReport.{ProcReport}
-use Rattle.gateway_report.specs.declared.report.Report.{Report}
+use Rattle.gateway_script.specs.Plan.{port_of}
 use Rattle.gateway.specs.declared.hosted.Hosted.{Hosted}
 use Rattle.gateway.specs.Asks.{Ask, ask_of, exit_ask, asks_by, asks}
-use Rattle.gateway.specs.Receipts.{IsReceiptOf, AreReceipts, accepted}
-use Rattle.gateway.specs.Port.{PortKeeps, PairKeeps}
+use Rattle.gateway.specs.Receipts.{AreReceipts}
 use Rattle.gateway.specs.Hosts.{HostKeeps}
-use Rattle.gateway.specs.Headline.{history_of, mail_from, PortHolds, PairHolds, ProcessHolds, Serves, Headline}
-use Rattle.gateway.proofs.Reports.{mails-from, mail_from-all, All-below, CameFrom}
+use Rattle.gateway.specs.Headline.{history_of, mail_from, PairHolds, ProcessHolds, Serves, Headline}
+use Rattle.gateway.proofs.Reports.{mails-from, mail_from-all, All-below}
 
 -- all calls are of one port
 abbrev AsksFor : ℕ → List Ask → Type 0

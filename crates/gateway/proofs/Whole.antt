@@ -1,8 +1,7 @@
 -- Completeness: a valid run has no other cause than its end, or want of memory.
-use Rattle.std.proofs.Common.{arith, inl, inr, ◌≡◌, ℕ, ◌<◌, ◌≤◌, ◌⊎◌, List, [], ◌∷◌, length, take, Option, Some, None, Result, Ok, Err, refl, sym, ap, ◌∙◌}
-use Rattle.std.specs.Prelude.{IfSome, IfOk, count_by, slice_index_or}
-use Rattle.std.specs.Str.{bytes_eq}
-use Rattle.outside.specs.Causes.{Told, Rose}
+use Rattle.std.proofs.Common.{arith, inl, inr, ◌≡◌, ℕ, ◌<◌, ◌≤◌, List, [], ◌∷◌, length, Option, Some, None, Result, Ok, Err, refl, sym, ◌∙◌}
+use Rattle.std.specs.Prelude.{IfSome, IfOk}
+use Rattle.outside.specs.Causes.{Told}
 use Rattle.driver_entry.specs.declared.life.StartRefusal.{StartRefusal}
 use Rattle.gateway_script.specs.declared.decl.PortDecl.{PortDecl}
 use Rattle.gateway_script.specs.declared.fault.ScriptFault.TheVariants.{BadLine, NoMemory as NoMemoryForScript}
@@ -10,7 +9,7 @@ use Rattle.gateway_script.specs.Plan.{Plan}
 use Rattle.gateway_script.specs.Script.{script}
 use Rattle.gateway_report.specs.declared.cause.Cause.{Cause}
 use Rattle.gateway_report.specs.declared.cause.Cause.TheVariants.{Done, Usage, Script, ReadFault, WriteFault, NoDriver, StartRefused, NoMemory, Limit}
-use Rattle.gateway.specs.Causes.{OfScript, Says, LacksDriver, RefusesStart, AllStart, Counts, CauseComes, NoFault, HasDrivers, Completes}
+use Rattle.gateway.specs.Causes.{OfScript, LacksDriver, RefusesStart, AllStart, Counts, CauseComes, HasDrivers, Completes}
 
 -- what is so of the script that the words name
 of-says : (words : Result (List ℕ) ℕ) (told : Told) (P : Option (List ℕ) → Type 0) (name : List ℕ) (files : List ℕ → Option (List ℕ)) (bytes : List ℕ)

@@ -1,5 +1,5 @@
 -- Why a run ends as it does, and what it wrote.
-use Rattle.std.specs.Prelude.{◌≡◌, ℕ, ◌<◌, ◌≤◌, ◌⊎◌, List, ◌++◌, length, take, count_by, Bool, Option, Some, None, Result, Ok, Err, IfSome, IfOk, IsSome, IsSomeAnd, slice_index_or}
+use Rattle.std.specs.Prelude.{◌≡◌, ℕ, ◌<◌, ◌≤◌, ◌⊎◌, List, ◌++◌, length, take, count_by, Option, Some, None, Result, Ok, Err, IfSome, IfOk, IsSome, IsSomeAnd, slice_index_or}
 use Rattle.std.specs.Option.{option_map}
 use Rattle.std.specs.Str.{bytes_eq}
 use Rattle.outside.specs.Causes.{Told, Rose}
@@ -8,7 +8,6 @@ use Rattle.driver_entry.specs.declared.life.StartRefusal.TheVariants.{General, E
 use Rattle.driver_entry.specs.Drivers.{Kind, kind_name}
 use Rattle.driver_entry.specs.Refusals.{refusal_of}
 use Rattle.gateway_script.specs.declared.decl.PortDecl.{PortDecl}
-use Rattle.gateway_script.specs.declared.fault.ScriptFault.{ScriptFault}
 use Rattle.gateway_script.specs.declared.fault.ScriptFault.TheVariants.{BadLine, NoMemory as NoMemoryForScript}
 use Rattle.gateway_script.specs.Plan.{Plan}
 use Rattle.gateway_script.specs.Script.{script}

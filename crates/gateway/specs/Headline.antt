@@ -1,7 +1,6 @@
 -- What a report promises of each port and each process of the script.
-use Rattle.std.specs.Prelude.{◌≡◌, ℕ, ◌<◌, ◌==◌, List, [], ◌∷◌, length, reverse, filter, Bool, All, Some, None, slice_index_or}
+use Rattle.std.specs.Prelude.{◌≡◌, ℕ, ◌<◌, ◌==◌, List, length, reverse, filter, All, Some, None, slice_index_or}
 use Rattle.task_queue.specs.Items.{of}
-use Rattle.port_signal.specs.declared.row.MarkKind.{MarkKind}
 use Rattle.port_signal.specs.declared.row.Row.{Row}
 use Rattle.port_signal.specs.declared.mail.Mail.{Mail}
 use Rattle.port_signal.specs.declared.mail.Mail.TheVariants.{Message, Closed, Connected, Exit, Down, Reply}

@@ -1,5 +1,5 @@
 -- The drivers that are handed to a run.
-use Rattle.std.specs.Prelude.{◌≡◌, ℕ, ◌<◌, ◌≤◌, ◌⊎◌, List, length, Bool, false, Option, Some, None, slice_index_or, count_by, reverse, IsSomeAnd}
+use Rattle.std.specs.Prelude.{◌≡◌, ℕ, ◌<◌, ◌≤◌, ◌⊎◌, List, length, Bool, false, Some, None, slice_index_or, count_by, reverse, IsSomeAnd}
 use Rattle.std.specs.Option.{option_map_or}
 use Rattle.std.specs.Str.{bytes_eq}
 use Rattle.driver_entry.specs.declared.life.Life.{Life}

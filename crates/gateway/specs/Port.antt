@@ -1,5 +1,5 @@
 -- What a run leaves of one port and one process.
-use Rattle.std.specs.Prelude.{◌≡◌, ℕ, ◌<◌, List, ◌++◌, length, reverse, true, false, []}
+use Rattle.std.specs.Prelude.{◌≡◌, ℕ, ◌<◌, List, length, false, []}
 use Rattle.task_queue.specs.Items.{of}
 use Rattle.port_signal.specs.declared.receipt.Receipt.{Receipt}
 use Rattle.port_signal.specs.declared.row.Row.{Row}

@@ -162,7 +162,8 @@ pub fn run_port<D: Driver, R: Wait>(
 {
     let mut body = match Body::open(alloc, 0, 0, 1, BodyParts { driver, config }) {
         Ok(body) => body,
-        Err((BodyParts { driver, config: _ }, refusal)) => {
+        Err(refused) => {
+            let (BodyParts { driver, config: _ }, refusal) = refused;
             return Ran {
                 driver,
                 opened: false,

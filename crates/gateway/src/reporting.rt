@@ -113,8 +113,8 @@ pub fn make_report<D: Driver, R: Wait>(
                     handed: 0,
                 });
             };
-            let served = serve_port(rt, alloc, &mut hosts[at], port.config, script.steps());
-            let told = match served {
+            let host = &mut hosts[at];
+            let told = match serve_port(rt, alloc, host, port.config, script.steps()) {
                 Ok(told) => told,
                 Err(refusal) => return Err(unserved_cause(port.line, refusal)),
             };
