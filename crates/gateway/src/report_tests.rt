@@ -105,6 +105,7 @@ fn write_mail(text: &mut String, mail: &Mail) -> Result<(), Fail> {
                 Answer::Badarg => write!(text, " badarg")?,
             }
         }
+        Mail::Exit { port, reason } => write!(text, "exit {port} {}", reason.as_str())?,
         _ => write!(text, "another mail")?,
     }
     writeln!(text, "")?;
@@ -161,7 +162,8 @@ fn a_command_and_a_close_are_reported_whole(rt: HostRuntime) -> Result<(), Fail>
         receipt 4 0 Some(1) Some(0) Accepted\n\
         receipt 0 0 None Some(6) Closed\n\
         message 0 Plain abc\n\
-        reply 0 1 true\n"
+        reply 0 1 true\n\
+        exit 0 normal\n"
     );
     Ok(())
 }
