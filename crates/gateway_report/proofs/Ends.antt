@@ -6,7 +6,7 @@ use Rattle.port_signal.specs.declared.signal.Signal.{Signal}
 use Rattle.port_signal.specs.declared.signal.Signal.TheVariants.{Command, OwnerCommand, Control, Call, Close, OwnerClose, Connect, OwnerConnect, Link, Unlink, Monitor, Demonitor, Exit, Gone}
 use Rattle.port_signal.specs.declared.row.Row.{Row}
 use Rattle.port_signal.specs.declared.row.Row.TheVariants.{Handled, Late, Mark}
-use Rattle.driver_entry.specs.Owners.{Opening, next_owner, owner_of, links_after, linked, closing_reason}
+use Rattle.driver_entry.specs.Owners.{Opening, next_owner, owner_of, links_after, linked}
 use Rattle.driver_entry.specs.History.{close_reason, is_open}
 use Rattle.gateway_script.specs.declared.report.PortReport.{PortReport}
 use Rattle.gateway_report.specs.End.{opening_of, IsFrom, HasEnded}

@@ -1,7 +1,5 @@
-use Rattle.std.proofs.Common.{arith}
 use Rattle.std.proofs.lemmas.List.{take_all}
 use Rattle.driver_entry.specs.Drivers.{Echo}
-use Rattle.gateway_report.specs.End.{IsFrom}
 use Rattle.gateway_report.proofs.Walks.{reverse-take_more, from-row}
 use Rattle.gateway_report.proofs.sums.port_sums.Goals as goal
 
