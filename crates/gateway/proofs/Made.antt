@@ -1,5 +1,5 @@
 -- What one call adds to what a process has made.
-use Rattle.std.proofs.Common.{subst, arith, ◌≡◌, ℕ, ◌+◌, ◌*◌, ◌/◌, ◌<◌, ◌≤◌, List, [], ◌∷◌, ◌++◌, length, take, Bool, true, false, cond, eqb, ◌&&◌, Some, None, refl, sym, ap, ◌∙◌, append_assoc, length-append}
+use Rattle.std.proofs.Common.{subst, arith, ◌≡◌, ℕ, ◌/◌, List, [], ◌∷◌, ◌++◌, length, take, Bool, true, false, cond, eqb, ◌&&◌, Some, None, refl, sym, ap, ◌∙◌, append_assoc, length-append}
 use Rattle.std.specs.Prelude.{reverse, map, filter}
 use Rattle.std.proofs.lemmas.List.{append-nil, map-append, reverse-append, take-append-le}
 use Rattle.std.proofs.lemmas.List.Elements.{filter-append}
@@ -15,12 +15,11 @@ use Rattle.port_signal.specs.declared.row.MarkKind.{MarkKind}
 use Rattle.port_signal.specs.declared.receipt.Outcome.TheVariants.{Accepted, Closed}
 use Rattle.port_signal.specs.declared.receipt.Receipt.{Receipt}
 use Rattle.port_signal.specs.History.{items, item, marks, busy_by, closed_by, stat_word, stat_of, AgreesWith, is_closed}
-use Rattle.driver_entry.specs.History.{Opening}
-use Rattle.port_engine.specs.Boxes.{box_at}
+use Rattle.driver_entry.specs.Owners.{Opening}
 use Rattle.port_engine.specs.Body.{View, Turned, history_of, given_of, given_by}
 use Rattle.driver_entry.specs.Mail.{mails}
 use Rattle.gateway.specs.Asks.{Ask}
-use Rattle.gateway.specs.Receipts.{accepted, is_accepted, marks_shown, ShowAtMost, IsReceiptOf, AreReceipts}
+use Rattle.gateway.specs.Receipts.{accepted, ShowAtMost, AreReceipts}
 use Rattle.gateway.specs.Port.{HasMade}
 
 -- the marks of a longer history

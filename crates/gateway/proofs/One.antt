@@ -1,7 +1,6 @@
 -- What is reported of one port and one process holds of the script.
 use Rattle.std.proofs.Common.{arith, subst, ◌≡◌, ℕ, zero, suc, ◌<◌, List, [], ◌∷◌, ◌++◌, length, Bool, true, false, cond, eqb, Option, Some, None, refl, sym, ap, ◌∙◌}
 use Rattle.std.specs.Prelude.{reverse, map, filter, All, slice_index_or, slice_set}
-use Rattle.std.specs.List.{range_with_len}
 use Rattle.std.proofs.lemmas.List.{reverse-append, length-set, get_or-set_same, get_or-set_other}
 use Rattle.std.proofs.lemmas.Bool.Decides.{nat_tests}
 use Rattle.port_signal.specs.declared.row.Row.{Row}
@@ -13,17 +12,13 @@ use Rattle.driver_entry.specs.Drivers.{Kind, Own, kind_name}
 use Rattle.gateway_script.specs.declared.decl.PortDecl.{PortDecl}
 use Rattle.gateway_script.specs.declared.decl.ProcessDecl.{ProcessDecl}
 use Rattle.gateway_script.specs.declared.decl.Step.{Step}
-use Rattle.gateway_script.specs.declared.report.PortReport.{PortReport}
-use Rattle.gateway_script.specs.Plan.{Plan, port_of}
-use Rattle.gateway_report.specs.declared.report.ProcReport.{ProcReport}
-use Rattle.gateway_report.specs.declared.report.Report.{Report}
+use Rattle.gateway_script.specs.Plan.{port_of}
 use Rattle.gateway.specs.declared.hosted.Hosted.{Hosted}
 use Rattle.gateway.specs.Asks.{Ask, ask_of, exit_ask, asks_by, asks}
-use Rattle.gateway.specs.Receipts.{IsReceiptOf, AreReceipts, accepted}
-use Rattle.gateway.specs.Port.{PortKeeps, PairKeeps}
+use Rattle.gateway.specs.Receipts.{AreReceipts}
 use Rattle.gateway.specs.Hosts.{HostKeeps}
-use Rattle.gateway.specs.Headline.{history_of, mail_from, PortHolds, PairHolds, ProcessHolds, Serves, Headline}
-use Rattle.gateway.proofs.Reports.{mails-from, mail_from-all, All-below, CameFrom}
+use Rattle.gateway.specs.Headline.{history_of, mail_from, PairHolds, ProcessHolds, Serves, Headline}
+use Rattle.gateway.proofs.Reports.{mails-from, mail_from-all, All-below}
 
 -- all calls are of one port
 abbrev AsksFor : ℕ → List Ask → Type 0
@@ -114,6 +109,7 @@ module _ {D : Type 0} where
       owner = refl;
       config = refl;
       of_kind = named;
+      starts = keeps.starts;
       keeps = rw owner keeps.port_keeps;
     };
     pairs = λ process d l.
@@ -123,7 +119,7 @@ module _ {D : Type 0} where
           | zero ↦ λ _. record {
             tasks = rw (steps-all steps processes) keeps.pair_keeps.tasks;
             mail = rw owner (ap (mail_from 0) keeps.pair_keeps.mail
-                ∙ (mail_from-all 0 _ (mails-from (record { number = 0; kind = kind keeps.driver; config = decl.config; owner = 0 }) 0 (reverse rows))));
+                ∙ (mail_from-all 0 _ (mails-from (record { number = 0; processes = 1; kind = kind keeps.driver; config = decl.config; owner = 0 }) 0 (reverse rows))));
           }
           | suc process ↦ λ l. absurd (omega arith)
         ] l;
@@ -159,7 +155,7 @@ module _ {D : Type 0} where
                 0 (reverse (asks_by steps 1)) (reverse got)
                 (AsksFor-reverse 0 (asks_by steps 1) (AsksFor-append 0 (map ask_of steps) (exit_ask 0 ∷ []) (AsksFor-steps 0 steps ports) (refl, tt)))
                 refl keeps.pair_keeps.receipts);
-            mail = All-below 0 1 came (rw keeps.pair_keeps.mail (mails-from (record { number = 0; kind = kind keeps.driver; config = decl.config; owner = 0 }) 0 (reverse rows))) (omega arith);
+            mail = All-below 0 1 came (rw keeps.pair_keeps.mail (mails-from (record { number = 0; processes = 1; kind = kind keeps.driver; config = decl.config; owner = 0 }) 0 (reverse rows))) (omega arith);
           }
           | suc s ↦ λ l. absurd (omega arith)
         ] l;

@@ -1,21 +1,22 @@
 -- The report of one port and one process.
-use Rattle.std.proofs.Common.{arith, subst, ◌≡◌, ℕ, zero, suc, ◌<◌, ◌≤◌, ◌==◌, List, [], ◌∷◌, ◌++◌, length, Bool, true, false, cond, eqb, ◌||◌, Option, Some, None, refl, sym, ap, ◌∙◌}
-use Rattle.std.specs.Prelude.{reverse, map, filter, All, slice_index_or, slice_set}
+use Rattle.std.proofs.Common.{arith, ◌≡◌, ℕ, zero, suc, ◌<◌, List, [], ◌∷◌, ◌++◌, length, Bool, true, false, cond, eqb, ◌&&◌, Option, Some, None, refl, ap}
+use Rattle.std.specs.Prelude.{map, filter, All, slice_index_or}
 use Rattle.std.specs.List.{flat_map}
-use Rattle.std.proofs.lemmas.List.{append-nil, map-append}
-use Rattle.std.proofs.lemmas.List.Elements.{filter-append}
-use Rattle.std.proofs.lemmas.Bool.Decides.{nat_tests}
 use Rattle.port_signal.specs.declared.signal.Sender.{Sender}
 use Rattle.port_signal.specs.declared.signal.Signal.{Signal}
-use Rattle.port_signal.specs.declared.signal.Signal.TheVariants.{Command, Control, Call, Close, Gone}
+use Rattle.port_signal.specs.declared.signal.Signal.TheVariants.{Command, OwnerCommand, Control, Call, Close, OwnerClose, Connect, OwnerConnect, Link, Unlink, Monitor as MonitorSignal, Demonitor, Exit, Gone}
 use Rattle.port_signal.specs.declared.row.Row.{Row}
 use Rattle.port_signal.specs.declared.row.Row.TheVariants.{Handled, Late, Mark}
 use Rattle.port_signal.specs.declared.row.Effect.{Effect}
-use Rattle.port_signal.specs.declared.row.Effect.TheVariants.{Message as Data, Busy, Reply as ReplyEffect, ReplyBadarg}
+use Rattle.port_signal.specs.declared.row.Effect.TheVariants.{Message as Data, Busy, Watch, Reply as ReplyEffect, ReplyBadarg}
 use Rattle.port_signal.specs.declared.mail.Mail.{Mail}
-use Rattle.port_signal.specs.declared.mail.Mail.TheVariants.{Message, Reply}
-use Rattle.driver_entry.specs.History.{Opening}
-use Rattle.driver_entry.specs.Mail.{Post, effect_posts, answer_posts, late_posts, row_posts, mail_for, mails, is_gone}
+use Rattle.port_signal.specs.declared.mail.Post.{Post}
+use Rattle.port_signal.specs.declared.monitor.Monitor.{Monitor}
+use Rattle.port_signal.specs.Links.{exit_post, down_post, end_posts}
+use Rattle.port_signal.specs.Reasons.{told_reason}
+use Rattle.driver_entry.specs.Owners.{Opening, owner_of, may_own, is_gone, linked, links_after, monitors, monitors_after, closing_reason}
+use Rattle.driver_entry.specs.History.{calls, has_stop, owns, row_calls}
+use Rattle.driver_entry.specs.Mail.{effect_posts, answer_posts, late_posts, closing_posts, closed_posts, bad_signal_posts, row_posts, mail_for, mails}
 use Rattle.gateway.specs.Headline.{sender_of, mail_from}
 use Rattle.gateway.proofs.Made.{same-number}
 
@@ -33,31 +34,91 @@ FromPort-append : (number : ℕ) (posts more : List Post) → FromPort number po
 FromPort-append number [] more f g = g
 FromPort-append number (post ∷ posts) more f g = (f.0, FromPort-append number posts more f.1 g)
 
-effects-from : (port : Opening) (owner : ℕ) (effects : List Effect) → FromPort port.number (flat_map (effect_posts port owner) effects)
-effects-from port owner [] = tt
-effects-from port owner (Data flag bytes ∷ effects) = (refl, effects-from port owner effects)
-effects-from port owner (Busy busy ∷ effects) = effects-from port owner effects
-effects-from port owner (ReplyEffect bytes ∷ effects) = effects-from port owner effects
-effects-from port owner (ReplyBadarg ∷ effects) = effects-from port owner effects
+FromPort-if : (number : ℕ) (b : Bool) (posts others : List Post) → FromPort number posts → FromPort number others → FromPort number (cond b posts others)
+FromPort-if number true posts others f g = f
+FromPort-if number false posts others f g = g
 
-answer-from : (port : Opening) (from : Sender) (seq : ℕ) (effects : List Effect) (signal : Signal) → FromPort port.number (answer_posts port from seq effects signal)
-answer-from port from seq effects (Command payload) = tt
-answer-from port from seq effects (Control op bytes) = (refl, tt)
-answer-from port from seq effects (Call op bytes) = (refl, tt)
-answer-from port from seq effects Close = (refl, tt)
-answer-from port from seq effects (Gone reason) = tt
+effects-from : (number owner : ℕ) (effects : List Effect) → FromPort number (flat_map (effect_posts number owner) effects)
+effects-from number owner [] = tt
+effects-from number owner (Data flag bytes ∷ effects) = (refl, effects-from number owner effects)
+effects-from number owner (Busy busy ∷ effects) = effects-from number owner effects
+effects-from number owner (Watch process ∷ effects) = effects-from number owner effects
+effects-from number owner (ReplyEffect bytes ∷ effects) = effects-from number owner effects
+effects-from number owner (ReplyBadarg ∷ effects) = effects-from number owner effects
 
-late-from : (port : Opening) (from : Sender) (seq : ℕ) (signal : Signal) → FromPort port.number (late_posts port from seq signal)
-late-from port from seq (Command payload) = tt
-late-from port from seq (Control op bytes) = (refl, tt)
-late-from port from seq (Call op bytes) = (refl, tt)
-late-from port from seq Close = (refl, tt)
-late-from port from seq (Gone reason) = tt
+answer-from : (number owner : ℕ) (owns : Bool) (here : ℕ → Bool) (from : Sender) (seq : ℕ) (effects : List Effect) (signal : Signal)
+    → FromPort number (answer_posts number owner owns here from seq effects signal)
+answer-from number owner owns here from seq effects (Command payload) = tt
+answer-from number owner owns here from seq effects (OwnerCommand payload) = FromPort-if number owns [] (bad_signal_posts number owner) tt (refl, tt)
+answer-from number owner owns here from seq effects (Control op bytes) = (refl, tt)
+answer-from number owner owns here from seq effects (Call op bytes) = (refl, tt)
+answer-from number owner owns here from seq effects Close = (refl, tt)
+answer-from number owner owns here from seq effects OwnerClose = FromPort-if number owns [] (bad_signal_posts number owner) tt (refl, tt)
+answer-from number owner owns here from seq effects (Connect process) = (refl, tt)
+answer-from number owner owns here from seq effects (OwnerConnect process) = FromPort-if number (owns && here process) _ (bad_signal_posts number owner) (refl, tt) (refl, tt)
+answer-from number owner owns here from seq effects Link = tt
+answer-from number owner owns here from seq effects Unlink = tt
+answer-from number owner owns here from seq effects (MonitorSignal m) = tt
+answer-from number owner owns here from seq effects (Demonitor m) = tt
+answer-from number owner owns here from seq effects (Exit reason) = tt
+answer-from number owner owns here from seq effects (Gone reason) = tt
+
+late-from : (number : ℕ) (from : Sender) (seq : ℕ) (signal : Signal) → FromPort number (late_posts number from seq signal)
+late-from number from seq (Command payload) = tt
+late-from number from seq (OwnerCommand payload) = tt
+late-from number from seq (Control op bytes) = (refl, tt)
+late-from number from seq (Call op bytes) = (refl, tt)
+late-from number from seq Close = (refl, tt)
+late-from number from seq OwnerClose = tt
+late-from number from seq (Connect process) = (refl, tt)
+late-from number from seq (OwnerConnect process) = tt
+late-from number from seq Link = (refl, tt)
+late-from number from seq Unlink = tt
+late-from number from seq (MonitorSignal m) = (refl, tt)
+late-from number from seq (Demonitor m) = tt
+late-from number from seq (Exit reason) = tt
+late-from number from seq (Gone reason) = tt
+
+exits-from : (number : ℕ) (reason : List ℕ) (others : List ℕ) → FromPort number (map (exit_post number reason) others)
+exits-from number reason [] = tt
+exits-from number reason (process ∷ others) = (refl, exits-from number reason others)
+
+downs-from : (number : ℕ) (reason : List ℕ) (watchers : List Monitor) → FromPort number (map (down_post number reason) watchers)
+downs-from number reason [] = tt
+downs-from number reason (m ∷ watchers) = (refl, downs-from number reason watchers)
+
+ends-from : (number : ℕ) (reason : List ℕ) (others : List ℕ) (watchers : List Monitor) → FromPort number (end_posts number reason others watchers)
+ends-from number reason others watchers =
+    FromPort-append number (map (exit_post number reason) others) (map (down_post number reason) watchers) (exits-from number reason others) (downs-from number reason watchers)
+
+closing-from : (port : Opening) (older : List Row) (from : Sender) (signal : Signal) (reason : Option (List ℕ)) → FromPort port.number (closing_posts port older from signal reason)
+closing-from port older from signal None = tt
+closing-from port older from signal (Some reason) =
+    ends-from port.number (told_reason reason) (links_after port older (owner_of port older) from signal (linked port older)) (monitors_after from signal (monitors port older))
+
+closed-from : (number : ℕ) (stops : Bool) (from : Sender) (signal : Signal) → FromPort number (closed_posts number stops from signal)
+closed-from number stops from (Command payload) = tt
+closed-from number stops from (OwnerCommand payload) = tt
+closed-from number stops from (Control op bytes) = tt
+closed-from number stops from (Call op bytes) = tt
+closed-from number stops from Close = tt
+closed-from number stops from OwnerClose = FromPort-if number stops _ [] (refl, tt) tt
+closed-from number stops from (Connect process) = tt
+closed-from number stops from (OwnerConnect process) = tt
+closed-from number stops from Link = tt
+closed-from number stops from Unlink = tt
+closed-from number stops from (MonitorSignal m) = tt
+closed-from number stops from (Demonitor m) = tt
+closed-from number stops from (Exit reason) = tt
+closed-from number stops from (Gone reason) = tt
 
 row-from : (port : Opening) (older : List Row) (row : Row) → FromPort port.number (row_posts port older row)
 row-from port older (Handled from seq task outside effects) =
-    FromPort-append port.number (flat_map (effect_posts port port.owner) effects) (answer_posts port from seq effects task.signal) (effects-from port port.owner effects) (answer-from port from seq effects task.signal)
-row-from port older (Late from seq task) = late-from port from seq task.signal
+    FromPort-append port.number _ _ (effects-from port.number (owner_of port older) effects)
+    (FromPort-append port.number _ _ (answer-from port.number (owner_of port older) (owns port older from) (may_own port older) from seq effects task.signal)
+    (FromPort-append port.number _ _ (closing-from port older from task.signal (closing_reason port older from task.signal))
+    (closed-from port.number (has_stop (row_calls port older (calls port older) (Handled from seq task outside effects))) from task.signal)))
+row-from port older (Late from seq task) = late-from port.number from seq task.signal
 row-from port older (Mark kind) = tt
 
 CameFrom-append : (number : ℕ) (came more : List Mail) → CameFrom number came → CameFrom number more → CameFrom number (came ++ more)

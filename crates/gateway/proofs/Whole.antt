@@ -1,15 +1,15 @@
 -- Completeness: a valid run has no other cause than its end, or want of memory.
-use Rattle.std.proofs.Common.{arith, inl, inr, ◌≡◌, ℕ, ◌<◌, ◌≤◌, ◌⊎◌, List, [], ◌∷◌, length, take, Option, Some, None, Result, Ok, Err, refl, sym, ap, ◌∙◌}
-use Rattle.std.specs.Prelude.{IfSome, IfOk, count_by, slice_index_or}
-use Rattle.std.specs.Str.{bytes_eq}
-use Rattle.outside.specs.Causes.{Told, Rose}
+use Rattle.std.proofs.Common.{arith, inl, inr, ◌≡◌, ℕ, ◌<◌, ◌≤◌, List, [], ◌∷◌, length, Option, Some, None, Result, Ok, Err, refl, sym, ◌∙◌}
+use Rattle.std.specs.Prelude.{IfSome, IfOk}
+use Rattle.outside.specs.Causes.{Told}
+use Rattle.driver_entry.specs.declared.life.StartRefusal.{StartRefusal}
 use Rattle.gateway_script.specs.declared.decl.PortDecl.{PortDecl}
 use Rattle.gateway_script.specs.declared.fault.ScriptFault.TheVariants.{BadLine, NoMemory as NoMemoryForScript}
 use Rattle.gateway_script.specs.Plan.{Plan}
 use Rattle.gateway_script.specs.Script.{script}
 use Rattle.gateway_report.specs.declared.cause.Cause.{Cause}
-use Rattle.gateway_report.specs.declared.cause.Cause.TheVariants.{Done, Usage, Script, ReadFault, WriteFault, NoDriver, NoMemory, Limit}
-use Rattle.gateway.specs.Causes.{OfScript, Says, LacksDriver, Counts, CauseComes, NoFault, HasDrivers, Completes}
+use Rattle.gateway_report.specs.declared.cause.Cause.TheVariants.{Done, Usage, Script, ReadFault, WriteFault, NoDriver, StartRefused, NoMemory, Limit}
+use Rattle.gateway.specs.Causes.{OfScript, LacksDriver, RefusesStart, AllStart, Counts, CauseComes, HasDrivers, Completes}
 
 -- what is so of the script that the words name
 of-says : (words : Result (List ℕ) ℕ) (told : Told) (P : Option (List ℕ) → Type 0) (name : List ℕ) (files : List ℕ → Option (List ℕ)) (bytes : List ℕ)
@@ -43,22 +43,29 @@ no-lack count plan line handed has l d =
     less : {m n : ℕ} → m < n → n ≤ m → ⊥
     less a c = omega arith
 
+no-refusal : (count : List ℕ → ℕ) (plan : Plan) (line : ℕ) (refusal : StartRefusal) → AllStart plan → RefusesStart count plan line refusal → (d : PortDecl) → ⊥
+no-refusal count plan line refusal starts r d = some≢none refusal (sym r.refuses ∙ starts r.at d r.kind r.within (r.named d))
+
 pub completes : (words : Result (List ℕ) ℕ) (told : Told) (count : List ℕ → ℕ) (before after : Counts) (cause : Cause)
     → CauseComes words told count before after cause → Completes words told count before after cause
-completes words told count before after Done c plan s fits has n = inl refl
-completes words told count before after (Usage at) c plan s fits has n = absurd (ok≢err words s.name at s.named c)
-completes words told count before after (Script (BadLine line)) c plan s fits has n =
+completes words told count before after Done c plan s fits has starts n = inl refl
+completes words told count before after (Usage at) c plan s fits has starts n = absurd (ok≢err words s.name at s.named c)
+completes words told count before after (Script (BadLine line)) c plan s fits has starts n =
     absurd (ok≢err (script s.bytes) plan line s.says (of-says words told _ s.name s.files s.bytes s.named s.tells s.held c))
-completes words told count before after (Script NoMemoryForScript) c plan s fits has n = absurd c
-completes words told count before after (ReadFault line) c plan s fits has n = absurd (
+completes words told count before after (Script NoMemoryForScript) c plan s fits has starts n = absurd c
+completes words told count before after (ReadFault line) c plan s fits has starts n = absurd (
     elim c.1 [ inl rose ↦ n.reads rose | inr missing ↦ some≢none s.bytes (of-says words told (λ held. held ≡ None) s.name s.files s.bytes s.named s.tells s.held missing.1) ])
-completes words told count before after WriteFault c plan s fits has n = absurd (n.puts c)
-completes words told count before after (NoDriver line handed) c plan s fits has n =
+completes words told count before after WriteFault c plan s fits has starts n = absurd (n.puts c)
+completes words told count before after (NoDriver line handed) c plan s fits has starts n =
     let l = if-ok (λ plan. LacksDriver count plan line handed) (script s.bytes) plan s.says
     (of-says words told (λ held. IfSome held (λ bytes. IfOk (script bytes) (λ plan. LacksDriver count plan line handed))) s.name s.files s.bytes s.named s.tells s.held c) in
     absurd (no-lack count plan line handed has l (some-port plan.ports (positive l.within)))
-completes words told count before after NoMemory c plan s fits has n = inr refl
-completes words told count before after (Limit line) c plan s fits has n =
+completes words told count before after (StartRefused line refusal) c plan s fits has starts n =
+    let r = if-ok (λ plan. RefusesStart count plan line refusal) (script s.bytes) plan s.says
+    (of-says words told (λ held. IfSome held (λ bytes. IfOk (script bytes) (λ plan. RefusesStart count plan line refusal))) s.name s.files s.bytes s.named s.tells s.held c.1) in
+    absurd (no-refusal count plan line refusal starts r (some-port plan.ports (positive r.within)))
+completes words told count before after NoMemory c plan s fits has starts n = inr refl
+completes words told count before after (Limit line) c plan s fits has starts n =
     absurd (above (of-says words told (λ held. IfSome held (λ bytes. 1048576 < length bytes)) s.name s.files s.bytes s.named s.tells s.held c.1) fits)
   where
     above : {m : ℕ} → 1048576 < m → m ≤ 1048576 → ⊥

@@ -1,15 +1,19 @@
 -- Why a run ends as it does, and what it wrote.
-use Rattle.std.specs.Prelude.{◌≡◌, ℕ, ◌<◌, ◌≤◌, ◌⊎◌, List, ◌++◌, length, take, count_by, Bool, Option, Some, None, Result, Ok, Err, IfSome, IfOk, IsSome, IsSomeAnd, slice_index_or}
+use Rattle.std.specs.Prelude.{◌≡◌, ℕ, ◌<◌, ◌≤◌, ◌⊎◌, List, ◌++◌, length, take, count_by, Option, Some, None, Result, Ok, Err, IfSome, IfOk, IsSome, IsSomeAnd, slice_index_or}
 use Rattle.std.specs.Option.{option_map}
 use Rattle.std.specs.Str.{bytes_eq}
 use Rattle.outside.specs.Causes.{Told, Rose}
+use Rattle.driver_entry.specs.declared.life.StartRefusal.{StartRefusal}
+use Rattle.driver_entry.specs.declared.life.StartRefusal.TheVariants.{General, Errno, Badarg, NoMemory as NoMemoryToStart}
+use Rattle.driver_entry.specs.Drivers.{Kind, kind_name}
+use Rattle.driver_entry.specs.Refusals.{refusal_of}
 use Rattle.gateway_script.specs.declared.decl.PortDecl.{PortDecl}
-use Rattle.gateway_script.specs.declared.fault.ScriptFault.{ScriptFault}
 use Rattle.gateway_script.specs.declared.fault.ScriptFault.TheVariants.{BadLine, NoMemory as NoMemoryForScript}
 use Rattle.gateway_script.specs.Plan.{Plan}
 use Rattle.gateway_script.specs.Script.{script}
 use Rattle.gateway_report.specs.declared.cause.Cause.{Cause}
-use Rattle.gateway_report.specs.declared.cause.Cause.TheVariants.{Done, Usage, Script, ReadFault, WriteFault, NoDriver, NoMemory, Limit}
+use Rattle.gateway_report.specs.declared.cause.Cause.TheVariants.{Done, Usage, Script, ReadFault, WriteFault, NoDriver, StartRefused, NoMemory, Limit}
+use Rattle.gateway_report.specs.Cause.{IsOfDriver}
 use Rattle.gateway_report.specs.declared.report.Report.{Report}
 use Rattle.gateway_report.specs.Report.{text_of}
 
@@ -36,6 +40,16 @@ pub record LacksDriver (count : List ℕ → ℕ) (plan : Plan) (line handed : �
   pub counted : (d : PortDecl) → handed ≡ count (slice_index_or plan.ports at d).driver
   pub taken : (d : PortDecl) → handed ≤ count_by (λ p. bytes_eq p.driver (slice_index_or plan.ports at d).driver) (take at plan.ports)
 
+-- a driver is left for a port on this line, and it is of a kind that refuses to start so
+pub record RefusesStart (count : List ℕ → ℕ) (plan : Plan) (line : ℕ) (refusal : StartRefusal) : Type 0 where
+  pub at : ℕ
+  pub kind : Kind
+  pub within : at < length plan.ports
+  pub stands : (d : PortDecl) → (slice_index_or plan.ports at d).line ≡ line
+  pub named : (d : PortDecl) → kind_name kind ≡ (slice_index_or plan.ports at d).driver
+  pub left : (d : PortDecl) → count_by (λ p. bytes_eq p.driver (slice_index_or plan.ports at d).driver) (take at plan.ports) < count (slice_index_or plan.ports at d).driver
+  pub refuses : refusal_of kind ≡ Some refusal
+
 -- the counts of faults before and after a run
 pub record Counts : Type 0 where
   pub reads : ℕ
@@ -52,6 +66,8 @@ CauseComes words told count before after (ReadFault line) = (line ≡ 0) × (Ros
 CauseComes words told count before after WriteFault = Rose before.puts after.puts
 CauseComes words told count before after (NoDriver line handed) =
     OfScript words told (λ held. IfSome held (λ bytes. IfOk (script bytes) (λ plan. LacksDriver count plan line handed)))
+CauseComes words told count before after (StartRefused line refusal) =
+    IsOfDriver refusal × OfScript words told (λ held. IfSome held (λ bytes. IfOk (script bytes) (λ plan. RefusesStart count plan line refusal)))
 CauseComes words told count before after NoMemory = Unit {0}
 CauseComes words told count before after (Limit line) = (line ≡ 0) × OfScript words told (λ held. IfSome held (λ bytes. 1048576 < length bytes))
 
@@ -63,6 +79,7 @@ IsReported (Script fault) report = report ≡ None
 IsReported (ReadFault line) report = report ≡ None
 IsReported WriteFault report = IsSome report
 IsReported (NoDriver line handed) report = report ≡ None
+IsReported (StartRefused line refusal) report = report ≡ None
 IsReported NoMemory report = report ≡ None
 IsReported (Limit line) report = report ≡ None
 
@@ -80,10 +97,18 @@ Wrote old new (Usage at) (Some report) = ⊥
 Wrote old new (Script fault) (Some report) = ⊥
 Wrote old new (ReadFault line) (Some report) = ⊥
 Wrote old new (NoDriver line handed) (Some report) = ⊥
+Wrote old new (StartRefused line refusal) (Some report) = ⊥
 Wrote old new NoMemory (Some report) = ⊥
 Wrote old new (Limit line) (Some report) = ⊥
 
--- why no report of a script could be made: a driver is missing, or memory is wanting
+-- the cause of a port on this line that was not served: the refusal of its driver, or want of memory
+abbrev pub unserved_cause : ℕ → StartRefusal → Cause
+unserved_cause line General = StartRefused line General
+unserved_cause line Errno = StartRefused line Errno
+unserved_cause line Badarg = StartRefused line Badarg
+unserved_cause line NoMemoryToStart = NoMemory
+
+-- why no report of a script could be made: a driver is missing or refuses to start, or memory is wanting
 abbrev pub MakeFails : (List ℕ → ℕ) → Plan → Cause → Type 0
 MakeFails count plan Done = ⊥
 MakeFails count plan (Usage at) = ⊥
@@ -91,6 +116,7 @@ MakeFails count plan (Script fault) = ⊥
 MakeFails count plan (ReadFault line) = ⊥
 MakeFails count plan WriteFault = ⊥
 MakeFails count plan (NoDriver line handed) = LacksDriver count plan line handed
+MakeFails count plan (StartRefused line refusal) = IsOfDriver refusal × RefusesStart count plan line refusal
 MakeFails count plan NoMemory = Unit {0}
 MakeFails count plan (Limit line) = ⊥
 
@@ -107,6 +133,7 @@ LoadErr told before after name (Script NoMemoryForScript) = ⊥
 LoadErr told before after name (ReadFault line) = (line ≡ 0) × (Rose before after ⊎ IsSomeAnd told (λ files. files name ≡ None))
 LoadErr told before after name WriteFault = ⊥
 LoadErr told before after name (NoDriver line handed) = ⊥
+LoadErr told before after name (StartRefused line refusal) = ⊥
 LoadErr told before after name NoMemory = Unit {0}
 LoadErr told before after name (Limit line) = (line ≡ 0) × IfSome told (λ files. IfSome (files name) (λ bytes. 1048576 < length bytes) × IsSome (files name))
 
@@ -118,6 +145,7 @@ WriteComes before after (Script fault) = ⊥
 WriteComes before after (ReadFault line) = ⊥
 WriteComes before after WriteFault = Rose before after
 WriteComes before after (NoDriver line handed) = ⊥
+WriteComes before after (StartRefused line refusal) = ⊥
 WriteComes before after NoMemory = Unit {0}
 WriteComes before after (Limit line) = ⊥
 
@@ -131,8 +159,12 @@ abbrev pub HasDrivers : (List ℕ → ℕ) → Plan → Type 0
 HasDrivers count plan = (at : ℕ) (d : PortDecl) → at < length plan.ports
     → count_by (λ p. bytes_eq p.driver (slice_index_or plan.ports at d).driver) (take at plan.ports) < count (slice_index_or plan.ports at d).driver
 
--- where the words name a script that the files tell, which is valid and within its limit, a driver is there for each of its ports, and no
--- count of faults rose, the run was made, or memory was wanting
+-- no port wants a driver of a kind that refuses to start
+abbrev pub AllStart : Plan → Type 0
+AllStart plan = (at : ℕ) (d : PortDecl) (kind : Kind) → at < length plan.ports → kind_name kind ≡ (slice_index_or plan.ports at d).driver → refusal_of kind ≡ None
+
+-- where the words name a script that the files tell, which is valid and within its limit, a driver that starts is there for each of its
+-- ports, and no count of faults rose, the run was made, or memory was wanting
 abbrev pub Completes : Result (List ℕ) ℕ → Told → (List ℕ → ℕ) → Counts → Counts → Cause → Type 0
-Completes words told count before after cause = (plan : Plan) (says : Says words told plan) → length says.bytes ≤ 1048576 → HasDrivers count plan → NoFault before after
+Completes words told count before after cause = (plan : Plan) (says : Says words told plan) → length says.bytes ≤ 1048576 → HasDrivers count plan → AllStart plan → NoFault before after
     → (cause ≡ Done) ⊎ (cause ≡ NoMemory)

@@ -1,13 +1,12 @@
 -- What a report promises of each port and each process of the script.
-use Rattle.std.specs.Prelude.{◌≡◌, ℕ, ◌<◌, ◌==◌, List, [], ◌∷◌, length, reverse, filter, Bool, All, Some, None, slice_index_or}
+use Rattle.std.specs.Prelude.{◌≡◌, ℕ, ◌<◌, ◌==◌, List, length, reverse, filter, All, Some, None, slice_index_or}
 use Rattle.task_queue.specs.Items.{of}
-use Rattle.port_signal.specs.declared.row.MarkKind.{MarkKind}
 use Rattle.port_signal.specs.declared.row.Row.{Row}
 use Rattle.port_signal.specs.declared.mail.Mail.{Mail}
-use Rattle.port_signal.specs.declared.mail.Mail.TheVariants.{Message, Reply}
+use Rattle.port_signal.specs.declared.mail.Mail.TheVariants.{Message, Closed, Connected, Exit, Down, Reply}
 use Rattle.port_signal.specs.History.{items, marks}
 use Rattle.driver_entry.specs.Drivers.{Kind, Own, kind_name}
-use Rattle.driver_entry.specs.History.{Opening}
+use Rattle.driver_entry.specs.Refusals.{refusal_of}
 use Rattle.driver_entry.specs.Mail.{mails}
 use Rattle.gateway_script.specs.declared.decl.PortDecl.{PortDecl}
 use Rattle.gateway_script.specs.declared.decl.ProcessDecl.{ProcessDecl}
@@ -28,13 +27,17 @@ history_of port = reverse port.journal.rows
 -- the port that a mail came from
 abbrev pub sender_of : Mail → ℕ
 sender_of (Message port flag bytes) = port
+sender_of (Closed port) = port
+sender_of (Connected port) = port
+sender_of (Exit port reason) = port
+sender_of (Down port monitor reason) = port
 sender_of (Reply port seq answer) = port
 
 -- the mail that came from this port
 abbrev pub mail_from : ℕ → List Mail → List Mail
 mail_from port came = filter (λ m. sender_of m == port) came
 
--- a reported port is the declared one, and its journal is one lawful and finished history of its driver, which holds what the calls of
+-- a reported port is the declared one, its driver is of a kind that starts, and its journal is one lawful and finished history of its driver, which holds what the calls of
 -- that history leave
 pub record PortHolds (decl : PortDecl) (number : ℕ) (kind : Kind) (own : Own) (processes : ℕ) (port : PortReport) : Type 0 where
   pub name : port.name ≡ decl.name
@@ -42,13 +45,14 @@ pub record PortHolds (decl : PortDecl) (number : ℕ) (kind : Kind) (own : Own) 
   pub owner : port.owner ≡ decl.owner
   pub config : port.config ≡ decl.config
   pub of_kind : kind_name kind ≡ decl.driver
-  pub keeps : PortKeeps (opening_of number kind port) processes own (history_of port)
+  pub starts : refusal_of kind ≡ None
+  pub keeps : PortKeeps (opening_of number kind processes port) processes own (history_of port)
 
 -- of a process and a port: its tasks that have a row are those that were accepted of it, in the order sent, each once; and the mail that
 -- came from the port is what the rows sent it, in their order
 pub record PairHolds (plan : Plan) (process number : ℕ) (kind : Kind) (port : PortReport) (told : ProcReport) : Type 0 where
   pub tasks : of process (items (history_of port)) ≡ accepted number (reverse (asks plan process)) (reverse told.receipts)
-  pub mail : mail_from number told.mails ≡ mails (opening_of number kind port) process (history_of port)
+  pub mail : mail_from number told.mails ≡ mails (opening_of number kind (length plan.processes) port) process (history_of port)
 
 -- a reported process is the declared one, with one receipt for each of its calls, and mail from the reported ports alone
 pub record ProcessHolds (plan : Plan) (decl : ProcessDecl) (process : ℕ) (ports : List PortReport) (told : ProcReport) : Type 0 where

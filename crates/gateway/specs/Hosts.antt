@@ -1,11 +1,12 @@
 -- The drivers that are handed to a run.
-use Rattle.std.specs.Prelude.{◌≡◌, ℕ, ◌<◌, ◌≤◌, ◌⊎◌, List, length, Bool, false, Option, Some, None, slice_index_or, count_by, reverse, IsSomeAnd}
+use Rattle.std.specs.Prelude.{◌≡◌, ℕ, ◌<◌, ◌≤◌, ◌⊎◌, List, length, Bool, false, Some, None, slice_index_or, count_by, reverse, IsSomeAnd}
 use Rattle.std.specs.Option.{option_map_or}
 use Rattle.std.specs.Str.{bytes_eq}
 use Rattle.driver_entry.specs.declared.life.Life.{Life}
 use Rattle.driver_entry.specs.declared.life.Life.TheVariants.{Fresh, Stopped}
 use Rattle.driver_entry.specs.declared.config.Config.{Config}
 use Rattle.driver_entry.specs.Drivers.{Kind, Own, kind_name}
+use Rattle.driver_entry.specs.Refusals.{refusal_of}
 use Rattle.gateway_script.specs.declared.decl.Step.{Step}
 use Rattle.port_signal.specs.declared.row.Row.{Row}
 use Rattle.port_signal.specs.declared.receipt.Receipt.{Receipt}
@@ -42,9 +43,10 @@ module _ {D : Type 0} where
     pub len : length new ≡ length old
     pub hosts : (at : ℕ) (d : Hosted D) → at < length old → CameBack kind stage faults (slice_index_or old at d) (slice_index_or new at d)
 
-  -- the driver at this place served port 0 for process 0, and what is told of the two holds of it
+  -- the driver at this place, of a kind that starts, served port 0 for process 0, and what is told of the two holds of it
   pub record HostKeeps (kind : D → Kind) (own : D → Own) (config : Config) (steps : List Step) (host : Hosted D) (rows : List Row) (got : List Receipt) (came : List Mail) : Type 0 where
     pub driver : D
+    pub starts : refusal_of (kind driver) ≡ None
     pub served : host ≡ record { port = Some 0; driver = Some driver }
-    pub port_keeps : PortKeeps (record { number = 0; kind = kind driver; config = config; owner = 0 }) 1 (own driver) (reverse rows)
-    pub pair_keeps : PairKeeps (record { number = 0; kind = kind driver; config = config; owner = 0 }) 0 (reverse (asks_by steps 1)) (reverse rows) (reverse got) came
+    pub port_keeps : PortKeeps (record { number = 0; processes = 1; kind = kind driver; config = config; owner = 0 }) 1 (own driver) (reverse rows)
+    pub pair_keeps : PairKeeps (record { number = 0; processes = 1; kind = kind driver; config = config; owner = 0 }) 0 (reverse (asks_by steps 1)) (reverse rows) (reverse got) came

@@ -1,12 +1,13 @@
 -- What a run leaves of one port and one process.
-use Rattle.std.specs.Prelude.{◌≡◌, ℕ, ◌<◌, List, ◌++◌, length, reverse, true, false, []}
+use Rattle.std.specs.Prelude.{◌≡◌, ℕ, ◌<◌, List, length, false, []}
 use Rattle.task_queue.specs.Items.{of}
 use Rattle.port_signal.specs.declared.receipt.Receipt.{Receipt}
 use Rattle.port_signal.specs.declared.row.Row.{Row}
 use Rattle.port_signal.specs.declared.mail.Mail.{Mail}
 use Rattle.port_signal.specs.History.{items, marks}
 use Rattle.driver_entry.specs.Drivers.{Own, holds}
-use Rattle.driver_entry.specs.History.{Opening, Lawful, IsFinished, calls}
+use Rattle.driver_entry.specs.Owners.{Opening}
+use Rattle.driver_entry.specs.History.{Lawful, IsFinished, calls}
 use Rattle.driver_entry.specs.Mail.{mails}
 use Rattle.waiting_list.specs.Order.{SendersBelow}
 use Rattle.port_engine.specs.Boxes.{box_at}

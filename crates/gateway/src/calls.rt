@@ -1,6 +1,6 @@
 ghost use Rattle.std.specs.Prelude.{◌≡◌, ◌≤◌, ◌<◌, ◌++◌, [], ◌∷◌, length, reverse, true, false, List, OnOk, IfOk};
 ghost use Rattle.port_signal.specs.History.{is_closed};
-ghost use Rattle.driver_entry.specs.History.{Opening};
+ghost use Rattle.driver_entry.specs.Owners.{Opening};
 ghost use Rattle.port_engine.specs.Body.{Turned};
 ghost use Rattle.gateway.specs.Asks.{Ask, signal_of, vector_of};
 ghost use Rattle.gateway.specs.Port.{HasMade};

@@ -1,14 +1,14 @@
-ghost use Rattle.std.specs.Prelude.{◌≡◌, ◌<◌, ◌∷◌, ◌⊎◌, None, ℕ, length, reverse, true, false, All, IfSome, IfNone, IfOk, slice_index_or, Some};
+ghost use Rattle.std.specs.Prelude.{◌≡◌, ◌<◌, ◌∷◌, ◌⊎◌, None, ℕ, length, reverse, true, false, All, IfSome, IfNone, IfOk, IfErr, IsSomeAnd, slice_index_or, Some};
 ghost use Rattle.gateway_script.specs.Plan.{port_of};
-ghost use Rattle.driver_entry.specs.Drivers.{kind_name};
+ghost use Rattle.driver_entry.specs.Refusals.{Refuses};
 ghost use Rattle.gateway.specs.declared.hosted.Hosted.{Hosted};
 ghost use Rattle.gateway.specs.Hosts.{CameBack, HostKeeps, IsUnused, is_named, named_count};
 
 use crate::Hosted;
 use crate::port_run::{Ran, Told, run_port};
-use driver_entry::{Config, Driver};
+use driver_entry::{Config, Driver, StartRefusal};
 use gateway_script::Step;
-use port_signal::{NoMemory, Reason};
+use port_signal::Reason;
 use std::alloc::Global;
 use std::sync::Wait;
 
@@ -38,16 +38,18 @@ pub fn find_driver<D: Driver>(hosts: &[Hosted<D>], name: &Reason) -> Option<usiz
 }
 
 /// Has a driver serve the one port for its owner, the one process. The driver comes back to its place, with its port if it was opened.
+/// Where the port wasn't served to its end, the driver refused to start, or memory was wanting.
 pub fn serve_port<D: Driver, R: Wait>(
     rt: &R,
     alloc: Global,
     host: &mut Hosted<D>,
     config: Config,
     steps: &[Step],
-) -> Result<Told, NoMemory>
+) -> Result<Told, StartRefusal>
     requires unused { IsUnused D.stage host.old }
     requires named { All (λ s. port_of s.act ≡ 0) steps.now }
     ensures back { CameBack D.kind D.stage D.faults host.old host.new }
+    ensures refusal { IfErr result (λ refusal. IsSomeAnd host.old.driver (λ d. Refuses (D.kind d) refusal)) }
     ensures port { (host.new.port ≡ None) ⊎ (host.new.port ≡ Some 0) }
     ensures keeps { IfOk result (λ told. HostKeeps D.kind D.own config steps.now host.new told.journal.rows told.receipts.items told.mails.items) }
 {

@@ -17,6 +17,8 @@ pub use top::{Ended, gateway};
 pub use words::script_name;
 
 #[cfg(test)]
+mod report_tests;
+#[cfg(test)]
 mod script_tests;
 #[cfg(test)]
 mod tests;

@@ -1,5 +1,6 @@
-ghost use Rattle.std.specs.Prelude.{◌≡◌, ◌≤◌, ◌<◌, ◌++◌, [], ◌∷◌, ◌⊎◌, List, length, map, reverse, true, false, All, OnOk, IfOk, IsOk, codes};
-ghost use Rattle.driver_entry.specs.History.{Opening};
+ghost use Rattle.std.specs.Prelude.{◌≡◌, ◌≤◌, ◌<◌, ◌++◌, [], ◌∷◌, ◌⊎◌, List, length, map, reverse, true, false, All, OnOk, IfOk, IfErr, None, codes};
+ghost use Rattle.driver_entry.specs.Owners.{Opening};
+ghost use Rattle.driver_entry.specs.Refusals.{refusal_of, Refuses};
 ghost use Rattle.port_engine.specs.Boxes.{box_at};
 ghost use Rattle.port_engine.specs.Body.{history_of};
 ghost use Rattle.gateway_script.specs.Plan.{port_of};
@@ -22,11 +23,12 @@ pub struct Told {
     pub mails: Vec<Mail>,
 }
 
-/// What a run of one port left: the driver, whether it served the port, and what is told.
+/// What a run of one port left: the driver, whether it served the port, and what is told, or why nothing is: the driver refused to start, or
+/// memory was wanting.
 pub struct Ran<D: Drop> {
     pub driver: D,
     pub opened: bool,
-    pub told: Result<Told, NoMemory>,
+    pub told: Result<Told, StartRefusal>,
 }
 
 /// The reason of a process that reached the end of its script.
@@ -150,19 +152,22 @@ pub fn run_port<D: Driver, R: Wait>(
     ensures kind { D.kind result.driver ≡ D.kind driver }
     ensures faults { D.faults driver ≤ D.faults result.driver }
     ensures stage { (D.stage result.driver ≡ Life.Fresh) ⊎ (D.stage result.driver ≡ Life.Stopped) }
+    ensures starts { OnOk result.told (refusal_of (D.kind driver) ≡ None) }
+    ensures refusal { IfErr result.told (Refuses (D.kind driver)) }
     ensures opened { OnOk result.told (result.opened ≡ true) }
-    ensures port { IfOk result.told (λ told. PortKeeps (record { number = 0; kind = D.kind driver; config = config; owner = 0 }) 1
+    ensures port { IfOk result.told (λ told. PortKeeps (record { number = 0; processes = 1; kind = D.kind driver; config = config; owner = 0 }) 1
         (D.own result.driver) (reverse told.journal.rows)) }
-    ensures pair { IfOk result.told (λ told. PairKeeps (record { number = 0; kind = D.kind driver; config = config; owner = 0 }) 0
+    ensures pair { IfOk result.told (λ told. PairKeeps (record { number = 0; processes = 1; kind = D.kind driver; config = config; owner = 0 }) 0
         (reverse (asks_by steps.now 1)) (reverse told.journal.rows) (reverse told.receipts.items) told.mails.items) }
 {
     let mut body = match Body::open(alloc, 0, 0, 1, BodyParts { driver, config }) {
         Ok(body) => body,
-        Err((BodyParts { driver, config: _ }, StartRefusal::NoMemory)) => {
+        Err(refused) => {
+            let (BodyParts { driver, config: _ }, refusal) = refused;
             return Ran {
                 driver,
                 opened: false,
-                told: Err(NoMemory),
+                told: Err(refusal),
             };
         }
     };
@@ -182,7 +187,7 @@ pub fn run_port<D: Driver, R: Wait>(
         Err(NoMemory) => Ran {
             driver,
             opened: true,
-            told: Err(NoMemory),
+            told: Err(StartRefusal::NoMemory),
         },
     }
 }

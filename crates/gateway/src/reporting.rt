@@ -2,13 +2,13 @@ ghost use Rattle.std.specs.Prelude.{◌≡◌, ◌≤◌, ◌<◌, [], ◌∷◌
 ghost use Rattle.gateway_report.specs.End.{HasEnded};
 ghost use Rattle.gateway.specs.Hosts.{AllCameBack, IsUnused, named_count};
 ghost use Rattle.gateway.specs.Headline.{Headline};
-ghost use Rattle.gateway.specs.Causes.{MakeFails};
+ghost use Rattle.gateway.specs.Causes.{MakeFails, unserved_cause};
 ghost use Rattle.gateway.specs.Idle.{idle};
 
 use crate::Hosted;
 use crate::hosting::{find_driver, serve_port};
 use crate::port_run::Told;
-use driver_entry::Driver;
+use driver_entry::{Driver, StartRefusal};
 use gateway_report::{Cause, PortReport, ProcReport, Report};
 use gateway_script::{PortDecl, ProcessDecl, Script};
 use port_signal::{Items, Mails, NoMemory, Receipts};
@@ -71,6 +71,18 @@ fn report_of_port(
     })
 }
 
+/// Why a run ends whose port on this line was not served.
+fn unserved_cause(line: u32, refusal: StartRefusal) -> Cause
+    ensures { result ≡ unserved_cause line refusal }
+{
+    match refusal {
+        StartRefusal::General | StartRefusal::Errno | StartRefusal::Badarg => {
+            Cause::StartRefused { line, refusal }
+        }
+        StartRefusal::NoMemory => Cause::NoMemory,
+    }
+}
+
 /// Makes the runs of a script: finds the driver of its port, has it serve, and reports. Each driver comes back to its place.
 pub fn make_report<D: Driver, R: Wait>(
     rt: &R,
@@ -81,7 +93,7 @@ pub fn make_report<D: Driver, R: Wait>(
     requires { All (IsUnused D.stage) hosts.old.items }
     ensures back { AllCameBack D.kind D.stage D.faults hosts.old.items hosts.new.items }
     ensures headline { IfOk result (λ report. Headline D.kind D.own script.now hosts.new.items report) }
-    ensures ended { IfOk result (λ report. All HasEnded report.ports) }
+    ensures ended { IfOk result (λ report. All (HasEnded (length report.processes)) report.ports) }
     ensures cause { IfErr result (MakeFails (λ name. named_count D.kind name hosts.old.items) script.now) }
 {
     match script.ports() {
@@ -101,8 +113,10 @@ pub fn make_report<D: Driver, R: Wait>(
                     handed: 0,
                 });
             };
-            let Ok(told) = serve_port(rt, alloc, &mut hosts[at], port.config, script.steps()) else {
-                return Err(Cause::NoMemory);
+            let host = &mut hosts[at];
+            let told = match serve_port(rt, alloc, host, port.config, script.steps()) {
+                Ok(told) => told,
+                Err(refusal) => return Err(unserved_cause(port.line, refusal)),
             };
             let Ok(report) = report_of_port(alloc, port, process, told) else {
                 return Err(Cause::NoMemory);

@@ -2,7 +2,7 @@ ghost use Rattle.std.specs.Prelude.{All, IfOk};
 ghost use Rattle.gateway.specs.Hosts.{IsUnused};
 
 use super::*;
-use driver_entry::{Driver, Echo, Life};
+use driver_entry::{Driver, Echo, Life, Refuse, Refused, StartRefusal};
 use gateway_script::ScriptFault;
 use outside::{MemFiles, MemPoll, MemSink, OpenGate};
 use std::alloc::Global;
@@ -10,7 +10,7 @@ use std::sync::Wait;
 use std::test::Fail;
 
 /// A process that hands three bytes to its port and closes it.
-const ABC: &[u8] = b"process a\nport p a echo\na command p \"abc\"\na close p\n";
+pub const ABC: &[u8] = b"process a\nport p a echo\na command p \"abc\"\na close p\n";
 
 /// The report of that script.
 const ABC_REPORT: &str = "report processes=1 ports=1\n\
@@ -18,7 +18,7 @@ const ABC_REPORT: &str = "report processes=1 ports=1\n\
     process a commands=1 dropped=0 suspended=0 data=1 sha256=ba7816bf8f01cfea414140de5dae2223b00361a396177a9cb410ff61f20015ad\n";
 
 /// So many fresh echo drivers.
-fn echoes(alloc: Global, count: usize) -> Result<Vec<Hosted>, Fail>
+pub fn echoes(alloc: Global, count: usize) -> Result<Vec<Hosted>, Fail>
     ensures { IfOk result (λ hosts. All (IsUnused (λ b. stage b)) hosts.items) }
 {
     let mut drivers = Vec::new(alloc);
@@ -36,6 +36,16 @@ fn holding(alloc: Global, script: &[u8]) -> Result<MemFiles, Fail> {
     Ok(files)
 }
 
+/// One fresh driver that refuses to start.
+fn refusing(alloc: Global, refused: Refused) -> Result<Vec<Hosted>, Fail>
+    ensures { IfOk result (λ hosts. All (IsUnused (λ b. stage b)) hosts.items) }
+{
+    let mut drivers = Vec::new(alloc);
+    let refuse: Box<dyn Driver + Send> = Box::new(alloc, Refuse::new(refused))?;
+    drivers.push(refuse)?;
+    Ok(host_drivers(alloc, drivers)?)
+}
+
 /// Runs the words over the files, with so many echo drivers.
 fn run<R: Sync + Wait>(
     rt: &R,
@@ -45,11 +55,24 @@ fn run<R: Sync + Wait>(
     out: &mut MemSink,
     count: usize,
 ) -> Result<Ended<MemPoll>, Fail> {
+    run_over(rt, alloc, words, files, out, echoes(alloc, count)?)
+}
+
+/// Runs the words over the files, with these drivers.
+fn run_over<R: Sync + Wait>(
+    rt: &R,
+    alloc: Global,
+    words: &[&str],
+    files: &mut MemFiles,
+    out: &mut MemSink,
+    drivers: Vec<Hosted>,
+) -> Result<Ended<MemPoll>, Fail>
+    requires { All (IsUnused (λ b. stage b)) drivers.items }
+{
     let mut owned = Vec::new(alloc);
     for word in words {
         owned.push(String::from_str(alloc, word)?)?;
     }
-    let drivers = echoes(alloc, count)?;
     let poll = MemPoll::new(alloc);
     Ok(gateway(
         rt,
@@ -74,6 +97,21 @@ fn end_of<R: Sync + Wait>(
     let mut out = MemSink::new(alloc);
     let Ended { status, cause, .. } = run(rt, alloc, &["run", "s"], &mut files, &mut out, count)?;
     Ok((status, cause))
+}
+
+/// The report of a run of this script, with these drivers.
+pub fn report_of<R: Sync + Wait>(
+    rt: &R,
+    alloc: Global,
+    script: &[u8],
+    drivers: Vec<Hosted>,
+) -> Result<Option<Report>, Fail>
+    requires { All (IsUnused (λ b. stage b)) drivers.items }
+{
+    let mut files = holding(alloc, script)?;
+    let mut out = MemSink::new(alloc);
+    let Ended { report, .. } = run_over(rt, alloc, &["run", "s"], &mut files, &mut out, drivers)?;
+    Ok(report)
 }
 
 /// The cause of a run of this script with one echo driver, and what it wrote.
@@ -222,6 +260,31 @@ fn a_bad_line_is_told(rt: HostRuntime) -> Result<(), Fail> {
 fn a_port_wants_a_driver(rt: HostRuntime) -> Result<(), Fail> {
     let cause = Cause::NoDriver { line: 2, handed: 0 };
     assert_eq!(rt; end_of(&rt, rt.alloc(), ABC, 0)?, (5, cause));
+    Ok(())
+}
+
+#[test]
+fn a_driver_may_refuse_to_start(rt: HostRuntime) -> Result<(), Fail> {
+    let alloc = rt.alloc();
+    for (refused, name, refusal) in [
+        (Refused::General, "refuse1", StartRefusal::General),
+        (Refused::Errno, "refuse2", StartRefusal::Errno),
+        (Refused::Badarg, "refuse3", StartRefusal::Badarg),
+    ] {
+        let script = format!(in alloc; "process a\n\nport p a {name}\n")?;
+        let mut files = holding(alloc, script.as_bytes())?;
+        let mut out = MemSink::new(alloc);
+        let drivers = refusing(alloc, refused)?;
+        let ended = run_over(&rt, alloc, &["run", "s"], &mut files, &mut out, drivers)?;
+        assert_eq!(rt; ended.status, 6);
+        assert_eq!(rt; ended.cause, Cause::StartRefused { line: 3, refusal });
+        assert!(rt; out.bytes().is_empty());
+        assert!(rt; ended.report.is_none());
+        for host in ended.drivers.iter() {
+            assert!(rt; host.port.is_none());
+            assert!(rt; host.driver.is_some());
+        }
+    }
     Ok(())
 }
 

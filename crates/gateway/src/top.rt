@@ -66,7 +66,7 @@ impl Outcome {
 
 /// Writes the text of a report.
 fn write_report<K: Sink>(alloc: Global, out: &mut K, report: Report) -> Outcome
-    requires { All HasEnded report.ports }
+    requires { All (HasEnded (length report.processes)) report.ports }
     ensures cause { WriteComes (K.faults out.old) (K.faults out.new) result.cause }
     ensures reported { IsReported result.cause result.report }
     ensures same { IfSome result.report (λ r. r ≡ report) }

@@ -1,7 +1,9 @@
 //! The program `gateway`: it runs a script of processes and ports, and prints the report.
 #![tactic(auto)]
 
-use driver_entry::{Driver, Echo, Store, Tally, Valve, ValveSoft};
+use driver_entry::{
+    Driver, Echo, Refuse, Refused, StartRefusal, Store, Tally, Valve, ValveSoft,
+};
 use gateway::{Cause, Ended, cause_text, gateway, host_drivers};
 use gateway_script::ScriptFault;
 use no_memory::NoMemory;
@@ -47,6 +49,13 @@ fn say(rt: &impl Eprint, alloc: Global, cause: &Cause) {
     {
         return;
     }
+    if let Cause::StartRefused {
+        refusal: StartRefusal::NoMemory,
+        ..
+    } = cause
+    {
+        return;
+    }
     let Ok(text) = cause_text(alloc, cause) else {
         return;
     };
@@ -73,6 +82,10 @@ fn run<R: AllocGlobal + Clone + Drop + Env + Eprint + Files + Print + Sync + Wai
         drivers.push(valve)?;
         let soft: Box<dyn Driver + Send> = Box::new(alloc, ValveSoft::new())?;
         drivers.push(soft)?;
+        for refused in [Refused::General, Refused::Errno, Refused::Badarg] {
+            let refuse: Box<dyn Driver + Send> = Box::new(alloc, Refuse::new(refused))?;
+            drivers.push(refuse)?;
+        }
     }
     let drivers = host_drivers(alloc, drivers)?;
     let mut files = RealFiles::new(rt.clone()?);

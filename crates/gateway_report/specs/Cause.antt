@@ -3,8 +3,10 @@ use Rattle.std.specs.Prelude.{ℕ, List, [], ◌∷◌, ◌++◌, codes}
 use Rattle.std.specs.Fmt.{decimal}
 use Rattle.gateway_script.specs.declared.fault.ScriptFault.{ScriptFault}
 use Rattle.gateway_script.specs.declared.fault.ScriptFault.TheVariants.{BadLine, NoMemory as NoMemoryForScript}
+use Rattle.driver_entry.specs.declared.life.StartRefusal.{StartRefusal}
+use Rattle.driver_entry.specs.declared.life.StartRefusal.TheVariants.{General, Errno, Badarg, NoMemory as NoMemoryToStart}
 use Rattle.gateway_report.specs.declared.cause.Cause.{Cause}
-use Rattle.gateway_report.specs.declared.cause.Cause.TheVariants.{Done, Usage, Script, ReadFault, WriteFault, NoDriver, NoMemory, Limit}
+use Rattle.gateway_report.specs.declared.cause.Cause.TheVariants.{Done, Usage, Script, ReadFault, WriteFault, NoDriver, StartRefused, NoMemory, Limit}
 
 -- the status with which the program ends
 abbrev pub status_of : Cause → ℕ
@@ -14,6 +16,7 @@ status_of (Script fault) = 2
 status_of (ReadFault line) = 3
 status_of WriteFault = 4
 status_of (NoDriver line handed) = 5
+status_of (StartRefused line refusal) = 6
 status_of NoMemory = 8
 status_of (Limit line) = 10
 
@@ -22,7 +25,14 @@ abbrev pub IsOfScript : ScriptFault → Type 0
 IsOfScript (BadLine line) = Unit {0}
 IsOfScript NoMemoryForScript = ⊥
 
--- a cause that tells a fault of a script tells one of the script, and not want of memory
+-- the driver refused for a reason of its own, and not for want of memory
+abbrev pub IsOfDriver : StartRefusal → Type 0
+IsOfDriver General = Unit {0}
+IsOfDriver Errno = Unit {0}
+IsOfDriver Badarg = Unit {0}
+IsOfDriver NoMemoryToStart = ⊥
+
+-- a cause that tells a fault of a script or a refusal of a driver doesn't tell want of memory
 abbrev pub HasText : Cause → Type 0
 HasText Done = Unit {0}
 HasText (Usage at) = Unit {0}
@@ -30,6 +40,7 @@ HasText (Script fault) = IsOfScript fault
 HasText (ReadFault line) = Unit {0}
 HasText WriteFault = Unit {0}
 HasText (NoDriver line handed) = Unit {0}
+HasText (StartRefused line refusal) = IsOfDriver refusal
 HasText NoMemory = Unit {0}
 HasText (Limit line) = Unit {0}
 
@@ -37,6 +48,13 @@ HasText (Limit line) = Unit {0}
 unfoldable pub fault_line_of : ScriptFault → List ℕ
 fault_line_of (BadLine line) = codes "gateway: script line " ++ decimal line ++ codes ": bad line" ++ 10 ∷ []
 fault_line_of NoMemoryForScript = []
+
+-- what is said of a refusal, and no byte for want of memory
+abbrev pub refusal_text : StartRefusal → List ℕ
+refusal_text General = codes "general"
+refusal_text Errno = codes "errno"
+refusal_text Badarg = codes "badarg"
+refusal_text NoMemoryToStart = []
 
 -- the text of a cause: one line, and none where the run is done
 unfoldable pub cause_text_of : Cause → List ℕ
@@ -47,5 +65,7 @@ cause_text_of (ReadFault line) = codes "gateway: read fault at line " ++ decimal
 cause_text_of WriteFault = codes "gateway: write fault" ++ 10 ∷ []
 cause_text_of (NoDriver line handed) =
     codes "gateway: no driver for line " ++ decimal line ++ codes ", handed " ++ decimal handed ++ 10 ∷ []
+cause_text_of (StartRefused line refusal) =
+    codes "gateway: start refused at line " ++ decimal line ++ codes ": " ++ refusal_text refusal ++ 10 ∷ []
 cause_text_of NoMemory = codes "gateway: no memory" ++ 10 ∷ []
 cause_text_of (Limit line) = codes "gateway: limit at line " ++ decimal line ++ 10 ∷ []

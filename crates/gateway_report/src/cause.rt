@@ -1,6 +1,7 @@
 ghost use Rattle.std.specs.Prelude.{◌≡◌, IfOk, string_bytes};
-ghost use Rattle.gateway_report.specs.Cause.{status_of, IsOfScript, HasText, fault_line_of, cause_text_of};
+ghost use Rattle.gateway_report.specs.Cause.{status_of, IsOfScript, IsOfDriver, HasText, fault_line_of, refusal_text, cause_text_of};
 
+use driver_entry::StartRefusal;
 use gateway_script::ScriptFault;
 use no_memory::NoMemory;
 use std::alloc::Global;
@@ -20,6 +21,8 @@ pub enum Cause {
     WriteFault,
     /// No unused driver has the name that this line gives. `handed` is how many drivers of that name were handed in.
     NoDriver { line: u32, handed: u64 },
+    /// The driver of the port on this line refused to start. It isn't for want of memory.
+    StartRefused { line: u32, refusal: StartRefusal },
     /// No memory was found.
     NoMemory,
     /// The script, or what this line names, is larger than is allowed.
@@ -38,6 +41,7 @@ impl Cause {
             Cause::ReadFault { .. } => 3,
             Cause::WriteFault => 4,
             Cause::NoDriver { .. } => 5,
+            Cause::StartRefused { .. } => 6,
             Cause::NoMemory => 8,
             Cause::Limit { .. } => 10,
         }
@@ -58,6 +62,10 @@ pub fn cause_text(alloc: Global, cause: &Cause) -> Result<Vec<u8>, NoMemory>
         Cause::NoDriver { line, handed } => {
             format!(in alloc; "gateway: no driver for line {line}, handed {handed}\n")?
         }
+        Cause::StartRefused { line, refusal } => {
+            let refusal = refusal_text(*refusal);
+            format!(in alloc; "gateway: start refused at line {line}: {refusal}\n")?
+        }
         Cause::NoMemory => format!(in alloc; "gateway: no memory\n")?,
         Cause::Limit { line } => format!(in alloc; "gateway: limit at line {line}\n")?,
     };
@@ -74,5 +82,17 @@ fn fault_line(alloc: Global, fault: &ScriptFault) -> Result<String, NoMemory>
             "gateway: script line {line}: bad line\n"
         )?),
         ScriptFault::NoMemory => unreachable!(),
+    }
+}
+
+fn refusal_text(refusal: StartRefusal) -> &'static str
+    requires { IsOfDriver refusal }
+    ensures { result.now ≡ refusal_text refusal }
+{
+    match refusal {
+        StartRefusal::General => "general",
+        StartRefusal::Errno => "errno",
+        StartRefusal::Badarg => "badarg",
+        StartRefusal::NoMemory => unreachable!(),
     }
 }

@@ -1,35 +1,22 @@
-ghost use Rattle.std.specs.Prelude.{◌≡◌, ◌+◌, length, IfOk};
+ghost use Rattle.std.specs.Prelude.{◌≡◌, ◌==◌, ◌+◌, List, length, IfOk};
 ghost use Rattle.std.specs.List.{concat};
-ghost use Rattle.port_signal.specs.Signals.{is_command};
-ghost use Rattle.gateway_report.specs.Count.{command_data, is_handled_command, is_late_command, is_command_of, driver_data, handled_commands, late_commands, handled_bytes, commands_of, is_dropped, is_suspended, dropped_commands, suspended_commands, is_data, data_messages};
+ghost use Rattle.std.specs.Option.{option_map};
+ghost use Rattle.port_signal.specs.History.{sender_number};
+ghost use Rattle.port_signal.specs.declared.row.Row.{Row as RowValue};
+ghost use Rattle.driver_entry.specs.Owners.{Opening};
+ghost use Rattle.port_ties.specs.Tied.{Tied};
+ghost use Rattle.gateway_report.specs.Count.{command_data, row_data, is_late_command, is_command_of, late_commands, commands_of, is_dropped, is_suspended, dropped_commands, suspended_commands, is_data, data_messages};
 
 use gateway_script::PortReport;
+use links_owner::Links;
 use no_memory::NoMemory;
 use port_signal::{IoVec, Mail, Outcome, Receipt, Row, Sender, Signal};
-
-/// How many commands called the driver.
-pub fn handled_commands(rows: &[Row]) -> usize
-    ensures { result ≡ handled_commands rows.now }
-{
-    rows.iter().filter(|row| is_handled_command(row)).count()
-}
 
 /// How many commands came when the port was no longer open.
 pub fn late_commands(rows: &[Row]) -> usize
     ensures { result ≡ late_commands rows.now }
 {
     rows.iter().filter(|row| is_late_command(row)).count()
-}
-
-/// How many bytes the handled commands have together.
-pub fn handled_bytes(rows: &[Row]) -> Result<u64, NoMemory>
-    ensures { IfOk result (λ bytes. bytes ≡ handled_bytes rows.now) }
-{
-    let mut bytes = 0;
-    for row in rows {
-        bytes = checked_sum(bytes, driver_bytes(row)?)?;
-    }
-    Ok(bytes)
 }
 
 /// How many commands the process at this place put, over the histories of all ports.
@@ -76,32 +63,17 @@ pub fn data_messages(mails: &[Mail]) -> usize
 }
 
 /// The sum. One that 64 bits don't hold is answered as want of memory.
-fn checked_sum(a: u64, b: u64) -> Result<u64, NoMemory>
+pub fn checked_sum(a: u64, b: u64) -> Result<u64, NoMemory>
     ensures { IfOk result (λ sum. sum ≡ a + b) }
 {
     a.checked_add(b).ok_or(NoMemory)
-}
-
-fn is_command(signal: &Signal) -> bool
-    ensures { result ≡ is_command signal.now }
-{
-    matches!(signal, Signal::Command(_))
-}
-
-fn is_handled_command(row: &Row) -> bool
-    ensures { result ≡ is_handled_command row.now }
-{
-    match row {
-        Row::Handled { task, .. } => is_command(&task.signal),
-        Row::Late { .. } | Row::Mark(_) => false,
-    }
 }
 
 fn is_late_command(row: &Row) -> bool
     ensures { result ≡ is_late_command row.now }
 {
     match row {
-        Row::Late { task, .. } => is_command(&task.signal),
+        Row::Late { task, .. } => task.signal.is_command(),
         Row::Handled { .. } | Row::Mark(_) => false,
     }
 }
@@ -111,28 +83,43 @@ fn is_command_of(process: u32, row: &Row) -> bool
 {
     match row {
         Row::Handled { from, task, .. } | Row::Late { from, task, .. } => {
-            is_command(&task.signal) && *from == Sender::Process(process)
+            task.signal.is_command() && *from == Sender::Process(process)
         }
         Row::Mark(_) => false,
     }
 }
 
-/// How many bytes the driver was called with.
-fn driver_bytes(row: &Row) -> Result<u64, NoMemory>
-    ensures { IfOk result (λ bytes. bytes ≡ length (driver_data row.now)) }
+/// With how many bytes the command of a row calls the driver, if it does, by the ties before the row.
+pub fn driver_bytes(links: &Links, row: &Row) -> Result<Option<u64>, NoMemory>
+    ensures { IfOk result (λ bytes. (port : Opening) (older : List RowValue) → Tied port older links.now → bytes ≡ option_map length (row_data port older row.now)) }
 {
     match row {
-        Row::Handled { task, .. } => signal_bytes(&task.signal),
-        Row::Late { .. } | Row::Mark(_) => Ok(0),
+        Row::Handled { from, task, .. } => command_bytes(owns(links, *from), &task.signal),
+        Row::Late { .. } | Row::Mark(_) => Ok(None),
     }
 }
 
-fn signal_bytes(signal: &Signal) -> Result<u64, NoMemory>
-    ensures { IfOk result (λ bytes. bytes ≡ length (command_data signal.now)) }
+/// Whether the sender is the owner.
+fn owns(links: &Links, from: Sender) -> bool
+    ensures { result ≡ (sender_number from == links.now.owner) }
+{
+    let Sender::Process(sender) = from;
+    sender == links.owner()
+}
+
+/// With how many bytes a handled command calls the driver, if it does.
+fn command_bytes(owns: bool, signal: &Signal) -> Result<Option<u64>, NoMemory>
+    ensures { IfOk result (λ bytes. bytes ≡ option_map length (command_data owns signal.now)) }
 {
     match signal {
-        Signal::Command(payload) => payload_bytes(payload),
-        Signal::Control { .. } | Signal::Call { .. } | Signal::Close | Signal::Gone(_) => Ok(0),
+        Signal::Command(payload) => Ok(Some(payload_bytes(payload)?)),
+        Signal::OwnerCommand(payload) if owns => Ok(Some(payload_bytes(payload)?)),
+        Signal::OwnerCommand(_) => Ok(None),
+        Signal::Control { .. } | Signal::Call { .. } => Ok(None),
+        Signal::Close | Signal::OwnerClose => Ok(None),
+        Signal::Connect(_) | Signal::OwnerConnect(_) => Ok(None),
+        Signal::Link | Signal::Unlink | Signal::Monitor(_) | Signal::Demonitor(_) => Ok(None),
+        Signal::Exit(_) | Signal::Gone(_) => Ok(None),
     }
 }
 

@@ -41,5 +41,7 @@ fn hash_mail<D: Digest>(hasher: &mut D, port: u32, mail: &Mail)
             }
         }
         Mail::Message { .. } | Mail::Reply { .. } => {}
+        Mail::Closed(_) | Mail::Connected(_) => {}
+        Mail::Exit { .. } | Mail::Down { .. } => {}
     }
 }

@@ -7,8 +7,8 @@
 mod cause;
 mod count;
 mod digest;
-mod end;
 mod report;
+mod sums;
 mod text;
 
 pub use cause::{Cause, cause_text};

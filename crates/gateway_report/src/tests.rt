@@ -1,10 +1,12 @@
-ghost use Rattle.std.specs.Prelude.{◌≡◌, ◌∷◌, [], IfOk};
+ghost use Rattle.std.specs.Prelude.{◌≡◌, ◌<◌, ◌∷◌, [], ℕ, All, IfOk, IsSome, reverse};
+ghost use Rattle.driver_entry.specs.Drivers.{Kind};
+ghost use Rattle.driver_entry.specs.History.{close_reason};
 ghost use Rattle.port_signal.specs.declared.row.Row.TheVariants.{Handled, Late};
 ghost use Rattle.port_signal.specs.declared.signal.Sender.TheVariants.{Process};
-ghost use Rattle.gateway_report.specs.End.{HasEnded};
+ghost use Rattle.gateway_report.specs.End.{HasEnded, IsFrom};
 
 use super::*;
-use driver_entry::Config;
+use driver_entry::{Config, StartRefusal};
 use io_vector::{Flag, IoVec, Piece};
 use port_signal::{
     Answer, Items, Journal, Log, Mail, MarkKind, Outcome, Receipt, Row, Sender, Signal, Task,
@@ -13,14 +15,21 @@ use port_signal::{
 use std::alloc::Global;
 use std::test::Fail;
 
-fn command(alloc: Global, bytes: &[u8]) -> Result<Signal, Fail>
-    ensures { IfOk result (λ signal. signal ≡ Signal.Command (bytes.now ∷ [])) }
+/// The bytes as a vector of one piece.
+fn payload(alloc: Global, bytes: &[u8]) -> Result<IoVec, Fail>
+    ensures { IfOk result (λ payload. payload ≡ bytes.now ∷ []) }
 {
     let mut payload = IoVec::new(alloc);
     match payload.push(Piece::of_slice(alloc, bytes)?) {
-        Ok(()) => Ok(Signal::Command(payload)),
+        Ok(()) => Ok(payload),
         Err((_, refusal)) => Err(refusal.into()),
     }
+}
+
+fn command(alloc: Global, bytes: &[u8]) -> Result<Signal, Fail>
+    ensures { IfOk result (λ signal. signal ≡ Signal.Command (bytes.now ∷ [])) }
+{
+    Ok(Signal::Command(payload(alloc, bytes)?))
 }
 
 fn handled(alloc: Global, from: u32, seq: u64, signal: Signal) -> Row
@@ -46,9 +55,12 @@ fn late(from: u32, seq: u64, signal: Signal) -> Row
     }
 }
 
+/// A port that one of two processes opened, with rows of them that close it.
 fn port(name: &str, owner: u32, rows: Vec<Row>) -> Result<PortReport, Fail>
-    ensures owner { IfOk result (λ port. port.owner ≡ owner) }
-    ensures rows { IfOk result (λ port. port.journal.rows ≡ rows.items) }
+    requires opener { owner < 2 }
+    requires senders { All (IsFrom 2) rows.items }
+    requires closed { (number : ℕ) (kind : Kind) → IsSome (close_reason (record { number = number; processes = 2; kind = kind; config = record {}; owner = owner }) (reverse rows.items)) }
+    ensures { IfOk result (HasEnded 2) }
 {
     Ok(PortReport {
         name: reason(name)?,
@@ -63,7 +75,7 @@ fn port(name: &str, owner: u32, rows: Vec<Row>) -> Result<PortReport, Fail>
 
 /// A port of process 0 that took `abc` and was closed.
 fn closed_port(alloc: Global) -> Result<PortReport, Fail>
-    ensures { IfOk result HasEnded }
+    ensures { IfOk result (HasEnded 2) }
 {
     let rows = vec![in alloc;
         handled(alloc, 0, 0, command(alloc, b"abc")?),
@@ -75,7 +87,7 @@ fn closed_port(alloc: Global) -> Result<PortReport, Fail>
 
 /// A port of process 0 that took `abc` and was closed, and then found a command of process 1.
 fn late_port(alloc: Global) -> Result<PortReport, Fail>
-    ensures { IfOk result HasEnded }
+    ensures { IfOk result (HasEnded 2) }
 {
     let rows = vec![in alloc;
         handled(alloc, 0, 0, command(alloc, b"abc")?),
@@ -88,7 +100,7 @@ fn late_port(alloc: Global) -> Result<PortReport, Fail>
 
 /// A port of process 1 that took `de` and whose owner was killed.
 fn killed_port(alloc: Global) -> Result<PortReport, Fail>
-    ensures { IfOk result HasEnded }
+    ensures { IfOk result (HasEnded 2) }
 {
     let rows = vec![in alloc;
         handled(alloc, 1, 0, command(alloc, b"de")?),
@@ -96,6 +108,44 @@ fn killed_port(alloc: Global) -> Result<PortReport, Fail>
         Row::Mark(MarkKind::Closed),
     ]?;
     port("q", 1, rows)
+}
+
+/// An owner's command with no data.
+fn empty_command(alloc: Global) -> Signal
+    ensures { result ≡ Signal.OwnerCommand [] }
+{
+    Signal::OwnerCommand(IoVec::new(alloc))
+}
+
+/// A port of process 0, which connected it to process 1. Owner's commands of both come after that, and only the new owner's is taken.
+fn connected_port(alloc: Global) -> Result<PortReport, Fail>
+    ensures { IfOk result (HasEnded 2) }
+{
+    let first = Signal::OwnerCommand(payload(alloc, b"ab")?);
+    let rows = vec![in alloc;
+        handled(alloc, 0, 0, first),
+        handled(alloc, 0, 1, Signal::Connect(1)),
+        handled(alloc, 0, 2, empty_command(alloc)),
+        handled(alloc, 1, 0, empty_command(alloc)),
+        handled(alloc, 1, 1, Signal::OwnerClose),
+        Row::Mark(MarkKind::Closed),
+    ]?;
+    port("p", 0, rows)
+}
+
+/// A port of process 0 that the end of process 1 closes, which was linked to it.
+fn linked_port(alloc: Global) -> Result<PortReport, Fail>
+    ensures { IfOk result (HasEnded 2) }
+{
+    let oops = reason("oops")?;
+    let rows = vec![in alloc;
+        handled(alloc, 1, 0, Signal::OwnerClose),
+        handled(alloc, 1, 1, Signal::Link),
+        handled(alloc, 1, 2, Signal::Gone(oops)),
+        Row::Mark(MarkKind::Closed),
+        late(0, 0, empty_command(alloc)),
+    ]?;
+    port("q", 0, rows)
 }
 
 fn process(name: &str, receipts: Vec<Receipt>, mails: Vec<Mail>) -> Result<ProcReport, Fail> {
@@ -138,14 +188,18 @@ fn reports_one_command(rt: HostRuntime) -> Result<(), Fail> {
     ]?;
     let report = Report {
         ports: Items::of_vec(vec![in alloc; closed_port(alloc)?]?),
-        processes: Items::of_vec(vec![in alloc; process("a", receipts, mails)?]?),
+        processes: Items::of_vec(vec![in alloc;
+            process("a", receipts, mails)?,
+            process("b", Vec::new(alloc), Vec::new(alloc))?,
+        ]?),
     };
     let text = report_text(alloc, &report)?;
     assert_eq!(rt;
         str::from_utf8(text.as_slice())?,
-        "report processes=1 ports=1\n\
+        "report processes=2 ports=1\n\
         port p driver=echo commands=1 late=0 bytes=3 end=normal\n\
-        process a commands=1 dropped=0 suspended=0 data=1 sha256=ba7816bf8f01cfea414140de5dae2223b00361a396177a9cb410ff61f20015ad\n"
+        process a commands=1 dropped=0 suspended=0 data=1 sha256=ba7816bf8f01cfea414140de5dae2223b00361a396177a9cb410ff61f20015ad\n\
+        process b commands=0 dropped=0 suspended=0 data=0 sha256=e3b0c44298fc1c149afbf4c8996fb92427ae41e4649b934ca495991b7852b855\n"
     );
     Ok(())
 }
@@ -173,6 +227,28 @@ fn reports_late_commands_and_lines(rt: HostRuntime) -> Result<(), Fail> {
         port q driver=echo commands=1 late=0 bytes=2 end=killed\n\
         process a commands=1 dropped=0 suspended=0 data=1 sha256=edeaaff3f1774ad2888673770c6d64097e391bc362d7d6fb34982ddf0efd18cb\n\
         process b commands=2 dropped=0 suspended=0 data=2 sha256=b598b3a62a3f7cedb17e66d1cb31d53dffeebaf5c07e2c60d5e31971936fd35e\n"
+    );
+    Ok(())
+}
+
+#[test]
+fn reports_connected_and_linked_ports(rt: HostRuntime) -> Result<(), Fail> {
+    let alloc = rt.alloc();
+    let report = Report {
+        ports: Items::of_vec(vec![in alloc; connected_port(alloc)?, linked_port(alloc)?]?),
+        processes: Items::of_vec(vec![in alloc;
+            process("a", Vec::new(alloc), Vec::new(alloc))?,
+            process("b", Vec::new(alloc), vec![in alloc; Mail::Closed(0)]?)?,
+        ]?),
+    };
+    let text = report_text(alloc, &report)?;
+    assert_eq!(rt;
+        str::from_utf8(text.as_slice())?,
+        "report processes=2 ports=2\n\
+        port p driver=echo commands=2 late=0 bytes=2 end=normal\n\
+        port q driver=echo commands=0 late=1 bytes=0 end=oops\n\
+        process a commands=3 dropped=0 suspended=0 data=0 sha256=e3b0c44298fc1c149afbf4c8996fb92427ae41e4649b934ca495991b7852b855\n\
+        process b commands=1 dropped=0 suspended=0 data=0 sha256=e3b0c44298fc1c149afbf4c8996fb92427ae41e4649b934ca495991b7852b855\n"
     );
     Ok(())
 }
@@ -217,6 +293,30 @@ fn tells_each_cause(rt: HostRuntime) -> Result<(), Fail> {
             },
             5,
             "gateway: no driver for line 2, handed 32\n",
+        ),
+        (
+            Cause::StartRefused {
+                line: 3,
+                refusal: StartRefusal::General,
+            },
+            6,
+            "gateway: start refused at line 3: general\n",
+        ),
+        (
+            Cause::StartRefused {
+                line: 4,
+                refusal: StartRefusal::Errno,
+            },
+            6,
+            "gateway: start refused at line 4: errno\n",
+        ),
+        (
+            Cause::StartRefused {
+                line: 12,
+                refusal: StartRefusal::Badarg,
+            },
+            6,
+            "gateway: start refused at line 12: badarg\n",
         ),
         (Cause::NoMemory, 8, "gateway: no memory\n"),
         (Cause::Limit { line: 0 }, 10, "gateway: limit at line 0\n"),

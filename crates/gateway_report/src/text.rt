@@ -5,12 +5,11 @@ ghost use Rattle.gateway_report.specs.End.{HasEnded};
 ghost use Rattle.gateway_report.specs.Report.{port_line, process_line, text_of};
 
 use crate::count::{
-    commands_of, data_messages, dropped_commands, handled_bytes, handled_commands, late_commands,
-    suspended_commands,
+    commands_of, data_messages, dropped_commands, late_commands, suspended_commands,
 };
 use crate::digest::data_digest;
-use crate::end::end_of;
 use crate::report::{ProcReport, Report};
+use crate::sums::port_sums;
 use gateway_script::PortReport;
 use no_memory::NoMemory;
 use std::alloc::Global;
@@ -18,10 +17,10 @@ use std::alloc::Global;
 /// The text of a report: a line for the whole, a line for each port and a line for each process, each ended with byte 10.
 ///
 /// The digest of a process's line is the SHA-256 of FIPS 180-4, in lowercase hex, of what saves of its data would write.
-/// A sum of bytes or commands above 2^64 - 1 is answered as want of memory. For each process all rows are gone through once,
-/// and for each process and port the process's mail. No data is copied.
+/// A sum of bytes or commands above 2^64 - 1 is answered as want of memory. The rows of each port are gone through once beside a table
+/// of its ties, for each process all rows once, and for each process and port the process's mail. No data is copied.
 pub fn report_text(alloc: Global, report: &Report) -> Result<Vec<u8>, NoMemory>
-    requires { All HasEnded report.now.ports }
+    requires { All (HasEnded (length report.now.processes)) report.now.ports }
     ensures { IfOk result (λ text. text.items ≡ text_of report.now) }
 {
     let ports = report.ports.as_slice();
@@ -33,32 +32,43 @@ pub fn report_text(alloc: Global, report: &Report) -> Result<Vec<u8>, NoMemory>
         processes.len(),
         ports.len()
     )?;
-    write_ports(&mut text, ports)?;
+    write_ports(alloc, &mut text, processes.len() as u32, ports)?;
     write_processes(alloc, &mut text, ports, processes)?;
     Ok(text.into_bytes())
 }
 
-fn write_ports(text: &mut String, ports: &[PortReport]) -> Result<(), NoMemory>
-    requires { All HasEnded ports.now }
-    ensures { OnOk result (string_bytes text.new ≡ string_bytes text.old ++ flat_map port_line ports.now) }
+fn write_ports(
+    alloc: Global,
+    text: &mut String,
+    processes: u32,
+    ports: &[PortReport],
+) -> Result<(), NoMemory>
+    requires { All (HasEnded processes) ports.now }
+    ensures { OnOk result (string_bytes text.new ≡ string_bytes text.old ++ flat_map (port_line processes) ports.now) }
 {
     for port in ports {
-        write_port(text, port)?;
+        write_port(alloc, text, processes, port)?;
     }
     Ok(())
 }
 
-fn write_port(text: &mut String, port: &PortReport) -> Result<(), NoMemory>
-    requires { HasEnded port.now }
-    ensures { OnOk result (string_bytes text.new ≡ string_bytes text.old ++ port_line port.now) }
+fn write_port(
+    alloc: Global,
+    text: &mut String,
+    processes: u32,
+    port: &PortReport,
+) -> Result<(), NoMemory>
+    requires { HasEnded processes port.now }
+    ensures { OnOk result (string_bytes text.new ≡ string_bytes text.old ++ port_line processes port.now) }
 {
     let rows = port.journal.rows.as_slice();
     let name = port.name.as_str();
     let driver = port.driver.as_str();
-    let commands = handled_commands(rows);
     let late = late_commands(rows);
-    let bytes = handled_bytes(rows)?;
-    let end = end_of(port);
+    let sums = port_sums(alloc, processes, port)?;
+    let commands = sums.commands;
+    let bytes = sums.bytes;
+    let end = sums.told_end();
     writeln!(
         text,
         "port {name} driver={driver} commands={commands} late={late} bytes={bytes} end={end}"

@@ -1,6 +1,5 @@
 use Rattle.std.proofs.Common.{◌≡◌, ℕ, ◌<◌, take, false}
 use Rattle.std.specs.Prelude.{slice_index_or}
-use Rattle.gateway.specs.declared.hosted.Hosted.{Hosted}
 use Rattle.gateway.specs.Hosts.{is_named, named_count}
 use Rattle.gateway.proofs.hosting.find_driver.Given as goal
 

@@ -1,6 +1,6 @@
 use Rattle.std.proofs.Common.{◌≡◌, ◌≤◌, ◌++◌, List, length, take, false}
 use Rattle.std.specs.Prelude.{All, map, reverse}
-use Rattle.driver_entry.specs.History.{Opening}
+use Rattle.driver_entry.specs.Owners.{Opening}
 use Rattle.gateway_script.specs.Plan.{port_of}
 use Rattle.gateway.specs.Asks.{Ask, ask_of}
 use Rattle.gateway.specs.Port.{HasMade}

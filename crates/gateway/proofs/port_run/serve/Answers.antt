@@ -1,8 +1,8 @@
-use Rattle.std.proofs.Common.{◌∷◌, ◌≡◌, ◌∙◌, [], ◌++◌, List, true, false, sym, ap}
+use Rattle.std.proofs.Common.{[], List, ap}
 use Rattle.std.specs.Prelude.{map, reverse}
 use Rattle.std.proofs.lemmas.List.{append-nil}
 use Rattle.port_engine.specs.Body.{history_of}
-use Rattle.gateway.specs.Asks.{Ask, ask_of, exit_ask}
+use Rattle.gateway.specs.Asks.{Ask, ask_of}
 use Rattle.gateway.proofs.Made.{HasMade-turned}
 use Rattle.gateway.proofs.Ending.{kept}
 use Rattle.gateway.proofs.port_run.serve.Goals as goal

@@ -1,7 +1,7 @@
 use Rattle.std.proofs.Common.{refl, append_assoc}
 use Rattle.gateway_report.specs.Cause.{cause_text_of}
 use Rattle.gateway_report.proofs.cause.cause_text.Goals as goal
-use Rattle.gateway_report.proofs.cause.cause_text.Goals.{in-Done, in-Usage+in_ok-text-in-Usage, in-Script+in_ok-text-in-Script, in-ReadFault+in_ok-text-in-ReadFault, in-WriteFault+in_ok-text-in-WriteFault, in-NoDriver+in_ok-text-in-NoDriver, in-NoMemory+in_ok-text-in-NoMemory, in-Limit+in_ok-text-in-Limit}
+use Rattle.gateway_report.proofs.cause.cause_text.Goals.{in-Done, in-Usage+in_ok-text-in-Usage, in-Script+in_ok-text-in-Script, in-ReadFault+in_ok-text-in-ReadFault, in-WriteFault+in_ok-text-in-WriteFault, in-NoDriver+in_ok-text-in-NoDriver, in-StartRefused+in_ok-text-in-StartRefused, in-NoMemory+in_ok-text-in-NoMemory, in-Limit+in_ok-text-in-Limit}
 
 pub returns : goal.returns
 unfolding cause_text_of
@@ -13,6 +13,7 @@ returns c =
       | in-ReadFault+in_ok-text-in-ReadFault w ↦ rw (w.text-is, w.in_ok-text-in-ReadFault.ensures.ok, w.in-ReadFault.is) refl
       | in-WriteFault+in_ok-text-in-WriteFault w ↦ rw (w.text-is, w.in_ok-text-in-WriteFault.ensures.ok, w.in-WriteFault.is) refl
       | in-NoDriver+in_ok-text-in-NoDriver w ↦ rw (w.text-is, w.in_ok-text-in-NoDriver.ensures.ok, w.in-NoDriver.is) (simp append_assoc)
+      | in-StartRefused+in_ok-text-in-StartRefused w ↦ rw (w.text-is, w.in_ok-text-in-StartRefused.ensures.ok, w.refusal_text-refusal.ensures, w.in-StartRefused.is) (simp append_assoc)
       | in-NoMemory+in_ok-text-in-NoMemory w ↦ rw (w.text-is, w.in_ok-text-in-NoMemory.ensures.ok, w.in-NoMemory.is) refl
       | in-Limit+in_ok-text-in-Limit w ↦ rw (w.text-is, w.in_ok-text-in-Limit.ensures.ok, w.in-Limit.is) refl
     ])

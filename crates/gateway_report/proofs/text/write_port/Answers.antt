@@ -1,6 +1,10 @@
 use Rattle.std.proofs.Common.{append_assoc}
+use Rattle.driver_entry.specs.Drivers.{Echo}
 use Rattle.gateway_report.specs.Report.{port_line}
 use Rattle.gateway_report.proofs.text.write_port.Goals as goal
+
+pub told_end-end-requires : goal.told_end-end-requires
+told_end-end-requires c = rw (c.in_ok-sums.ensures 0 Echo).end (c.requires.closed 0 Echo)
 
 pub returns : goal.returns
 unfolding port_line
@@ -9,9 +13,10 @@ returns c =
     rw (
       c.as_str-name.ensures.value,
       c.as_str-driver.ensures.value,
-      c.handled_commands-commands.ensures,
       c.late_commands-late.ensures,
-      c.in_ok-bytes.ensures,
-      c.end_of-end.ensures,
+      c.told_end-end.ensures,
+      (c.in_ok-sums.ensures 0 Echo).commands,
+      (c.in_ok-sums.ensures 0 Echo).bytes,
+      (c.in_ok-sums.ensures 0 Echo).end,
       c.as_slice-rows.ensures,
     )))
