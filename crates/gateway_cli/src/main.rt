@@ -1,9 +1,7 @@
 //! The program `gateway`: it runs a script of processes and ports, and prints the report.
 #![tactic(auto)]
 
-use driver_entry::{
-    Driver, Echo, Refuse, Refused, StartRefusal, Store, Tally, Valve, ValveSoft,
-};
+use driver_entry::{Driver, Echo, Refuse, Refused, StartRefusal, Store, Tally, Valve, ValveSoft};
 use gateway::{Cause, Ended, cause_text, gateway, host_drivers};
 use gateway_script::ScriptFault;
 use no_memory::NoMemory;
