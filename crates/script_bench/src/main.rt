@@ -43,7 +43,8 @@ fn main(rt: HostRuntime) -> Result<()> {
     println!(rt; "bytes {}, steps {steps}", text.len())?;
     if bytes.is_some() {
         let time = best_time(&rt, text.as_bytes())?;
-        println!(rt; "read {} ms", time.as_millis())?;
+        let us = time.as_micros();
+        println!(rt; "read {}.{:03} ms", us / 1000, us % 1000)?;
     }
     Ok(())
 }
