@@ -1,5 +1,5 @@
 -- What a call leaves of the one body: the tasks given, the marks, and the mail.
-use Rattle.std.proofs.Common.{subst, arith, ◌≡◌, ◌≢◌, ℕ, ◌<◌, List, [], ◌∷◌, ◌++◌, length, Bool, true, false, cond, eqb, Option, Some, None, refl, sym, ap, ◌∙◌, append_assoc}
+use Rattle.std.proofs.Common.{arith, ◌≡◌, ◌≢◌, ℕ, List, [], ◌∷◌, ◌++◌, length, Bool, true, false, cond, eqb, Option, refl, sym, ap, ◌∙◌, append_assoc}
 use Rattle.std.specs.Prelude.{reverse, map, filter}
 use Rattle.std.proofs.lemmas.List.{append-nil, map-append, reverse-append}
 use Rattle.std.proofs.lemmas.List.Elements.{filter-append}
@@ -8,12 +8,10 @@ use Rattle.task_queue.specs.declared.item.Item.{Item}
 use Rattle.task_queue.specs.Items.{of}
 use Rattle.port_signal.specs.declared.signal.Sender.TheVariants.{Process}
 use Rattle.port_signal.specs.declared.signal.Task.{Task}
-use Rattle.port_signal.specs.declared.mail.Mail.{Mail}
 use Rattle.port_signal.specs.History.{items, item, marks, is_closed}
 use Rattle.port_engine.specs.Body.{View, Turned, history_of, given_of, given_by}
 use Rattle.process_calls.specs.Calls.{Called, stat_at}
 use Rattle.process_calls.specs.Receipts.{is_accepted, outcome_of}
-use Rattle.process_calls.specs.Served.{HasTaken, IsServing}
 use Rattle.process_calls.proofs.Shown.{Extends, marks-append}
 
 pub split : {X : Type 0} (b : Bool) → (b ≡ true → X) → (b ≡ false → X) → X

@@ -1,15 +1,15 @@
 -- What a call of one port leaves of the bodies of all.
-use Rattle.std.proofs.Common.{subst, arith, ◌≡◌, ◌≢◌, ℕ, ◌<◌, List, [], ◌∷◌, ◌++◌, length, Bool, true, false, cond, eqb, ◌&&◌, Option, Some, None, refl, sym, ap, ◌∙◌}
+use Rattle.std.proofs.Common.{subst, arith, ◌≡◌, ◌≢◌, ℕ, ◌<◌, List, [], ◌∷◌, ◌++◌, length, Bool, true, false, cond, eqb, ◌&&◌, Option, Some, refl, sym, ap, ◌∙◌}
 use Rattle.std.specs.Prelude.{slice_index_or, slice_set}
 use Rattle.std.proofs.lemmas.List.{append-nil, get_or-set_same, get_or-set_other, get_or_read, length-set}
 use Rattle.std.proofs.lemmas.Bool.Decides.{nat_tests}
 use Rattle.port_signal.specs.declared.signal.Task.{Task}
 use Rattle.port_signal.specs.declared.row.MarkKind.{MarkKind}
 use Rattle.port_signal.specs.declared.receipt.Receipt.{Receipt}
-use Rattle.port_signal.specs.History.{marks, stat_of, is_closed}
+use Rattle.port_signal.specs.History.{marks}
 use Rattle.port_engine.specs.Body.{View, history_of, given_by}
 use Rattle.process_calls.specs.Asks.{Ask}
-use Rattle.process_calls.specs.Receipts.{accepted, is_accepted, outcome_of, receipt_of, IsReceiptOf, ShowAtMost, AreReceipts}
+use Rattle.process_calls.specs.Receipts.{accepted, is_accepted, outcome_of, receipt_of, IsReceiptOf}
 use Rattle.process_calls.specs.Calls.{Called, stat_at}
 use Rattle.process_calls.specs.Served.{HasAsked}
 use Rattle.process_calls.proofs.Shown.{Extends, AreReceipts-more, all-shown, agrees-more, shows-all, stat-agrees}
@@ -81,7 +81,7 @@ HasAsked-called process port task old new number line stat asks got c w within h
   receipts = λ d. (
     receipt-asked process port task old new number line stat asks got d c h within (w d),
     AreReceipts-more (λ k. marks (history_of (slice_index_or old k d))) (λ k. marks (history_of (slice_index_or new k d))) asks got
-    (all-extend process port task old new number c d) (h.receipts d),
+        (all-extend process port task old new number c d) (h.receipts d),
   );
 }
 

@@ -1,5 +1,5 @@
 -- Marks that come later leave the receipts of earlier calls true.
-use Rattle.std.proofs.Common.{subst, arith, ◌≡◌, ℕ, ◌/◌, ◌≤◌, List, [], ◌∷◌, ◌++◌, length, take, Bool, true, false, refl, sym, ap, ◌∙◌, append_assoc, length-append}
+use Rattle.std.proofs.Common.{subst, arith, ◌≡◌, ℕ, ◌/◌, ◌≤◌, List, [], ◌∷◌, ◌++◌, length, take, Bool, true, false, sym, ap, ◌∙◌, append_assoc, length-append}
 use Rattle.std.specs.Prelude.{reverse}
 use Rattle.std.proofs.lemmas.List.{append-nil, take-append-le}
 use Rattle.std.proofs.Math.Seq.{take-length}
@@ -66,6 +66,8 @@ pub all-shown : (ms : ℕ → List MarkKind) (port : ℕ) (asks : List Ask) (rec
 all-shown ms port [] [] a = tt
 all-shown ms port [] (receipt ∷ receipts) a = absurd a
 all-shown ms port (ask ∷ asks) [] a = tt
-all-shown ms port (ask ∷ asks) (receipt ∷ receipts) a =
-    (λ e. let at : ask.port ≡ port = sym a.0.port ∙ e in
-    rw a.0.found (subst (λ p. a.0.stat / 4 ≤ length (ms p)) at a.0.agrees.0), all-shown ms port asks receipts a.1)
+all-shown ms port (ask ∷ asks) (receipt ∷ receipts) a = (
+  λ e. let at : ask.port ≡ port = sym a.0.port ∙ e in
+      rw a.0.found (subst (λ p. a.0.stat / 4 ≤ length (ms p)) at a.0.agrees.0),
+  all-shown ms port asks receipts a.1,
+)

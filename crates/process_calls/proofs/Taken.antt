@@ -1,14 +1,13 @@
 -- What a taken mail leaves of the bodies of all ports.
-use Rattle.std.proofs.Common.{subst, arith, ◌≡◌, ◌≢◌, ℕ, ◌<◌, ◌≤◌, List, [], ◌∷◌, ◌++◌, length, Bool, true, false, eqb, refl, sym, ap, ◌∙◌}
+use Rattle.std.proofs.Common.{arith, ◌≡◌, ℕ, ◌<◌, List, [], length, eqb, refl, sym, ap, ◌∙◌}
 use Rattle.std.specs.Prelude.{slice_index_or, slice_set}
 use Rattle.std.proofs.lemmas.List.{append-nil, get_or-set_same, get_or-set_other, get_or_read, length-set}
 use Rattle.port_signal.specs.declared.receipt.Receipt.{Receipt}
 use Rattle.port_signal.specs.History.{marks}
 use Rattle.port_engine.specs.Body.{View, history_of, given_by}
 use Rattle.process_calls.specs.Asks.{Ask}
-use Rattle.process_calls.specs.Calls.{IsSame}
 use Rattle.process_calls.specs.Served.{AreSame, HasAsked}
-use Rattle.process_calls.proofs.Shown.{Extends, AreReceipts-more}
+use Rattle.process_calls.proofs.Shown.{AreReceipts-more}
 use Rattle.process_calls.proofs.Gave.{split}
 use Rattle.process_calls.proofs.Places.{same-from, apart-from}
 

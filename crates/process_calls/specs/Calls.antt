@@ -11,15 +11,15 @@ abbrev pub stat_at : View → ℕ
 stat_at body = stat_of (marks (history_of body))
 
 -- a process sent a task to a port. A closed port refuses it and stays as it was; any other gets it behind what came before, with the next
--- number of its sender, and makes turns until no task came
+-- number of its sender, and makes turns until its queue is empty
 pub record Called (process : ℕ) (task : Task) (old new : View) (number : Option ℕ) : Type 0 where
   pub refused : is_closed (stat_at old) ≡ true → (number ≡ None) × (new ≡ old)
   pub put : is_closed (stat_at old) ≡ false → (number ≡ Some (length (given_by process old)))
       × Turned (record old { queue = old.queue ++ item (Process process) (length (given_by process old)) task ∷ [] }) new
       × (new.queue ≡ []) × (new.broken ≡ false)
 
--- what stays of a body whatever is done with it: what was fixed when the port was opened, the rows, and for how many processes it has mail;
--- and its driver's outside failed no less often
+-- a body is the same one: what was fixed when the port was opened stays, and so do the rows and the number of processes that it has mail for;
+-- its driver's outside failed no less often
 pub record IsSame (old new : View) : Type 0 where
   pub opening : new.opening ≡ old.opening
   pub rows : (more : List Row) × (new.rows ≡ old.rows ++ more)

@@ -18,7 +18,7 @@ pub record IsServing (processes port : ℕ) (body : View) : Type 0 where
   pub memory : body.broken ≡ false
   pub idle : body.queue ≡ []
 
--- the bodies serve so many processes, and each is idle
+-- each body is that of the port of its place, serves so many processes, and is idle
 abbrev pub AreServing : ℕ → List View → Type 0
 AreServing processes bodies = (k : ℕ) (d : View) → k < length bodies → IsServing processes k (slice_index_or bodies k d)
 

@@ -15,7 +15,7 @@ pub struct Answered {
     pub number: Option<u64>,
 }
 
-/// Makes turns of a port until no task came that it didn't take.
+/// Makes turns of a port until each task that came was taken. A busy port may keep some that wait.
 pub fn run_until_idle<D: Driver>(body: &mut Body<D>) -> Result<(), NoMemory>
     requires { body.old.broken ≡ false }
     ensures turned { Turned body.old body.new }

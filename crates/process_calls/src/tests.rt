@@ -1,12 +1,10 @@
 ghost use Rattle.std.specs.Prelude.{◌≡◌, ◌<◌, length, OnOk, IfOk};
-ghost use Rattle.process_calls.specs.Served.{AreServing};
+ghost use Rattle.process_calls.specs.Served.{AreServing, IsServing};
 
 use crate::{make_call, take_mail};
 use driver_entry::{Config, Echo};
 use port_engine::{Body, BodyParts};
-use port_signal::{
-    Answer, IoVec, Mail, MarkKind, NoMemory, Outcome, Piece, Receipt, Row, Sender, Signal,
-};
+use port_signal::{Answer, IoVec, Mail, NoMemory, Outcome, Piece, Receipt, Signal};
 use std::alloc::Global;
 use std::test::Fail;
 
@@ -70,6 +68,17 @@ fn mail(bodies: &mut Vec<Body<Echo>>, process: u32, port: u32) -> Option<Mail>
     take_mail(bodies, process, port)
 }
 
+/// The receipt of a call of port 0.
+fn receipt(seq: Option<u64>, stat: u64, outcome: Outcome) -> Receipt {
+    Receipt {
+        line: 7,
+        port: 0,
+        seq,
+        stat: Some(stat),
+        outcome,
+    }
+}
+
 fn is_data(mail: Option<Mail>, from: u32, wanted: &[u8]) -> bool {
     match mail {
         Some(Mail::Message { port, bytes, .. }) => port == from && bytes.as_slice() == wanted,
@@ -80,12 +89,25 @@ fn is_data(mail: Option<Mail>, from: u32, wanted: &[u8]) -> bool {
 /// The port that a mail is of and the number of the signal that it answers with True.
 fn answered(mail: Option<Mail>) -> Option<(u32, u64)> {
     match mail {
-        Some(Mail::Reply {
-            port,
-            seq,
-            answer: Answer::True,
-        }) => Some((port, seq)),
+        Some(
+            Mail::Reply {
+                port,
+                seq,
+                answer: Answer::True,
+            },
+        ) => Some((port, seq)),
         _ => None,
+    }
+}
+
+/// How many rows a port has, which is run no more.
+fn rows_of(body: Option<Body<Echo>>) -> usize {
+    match body {
+        Some(mut body) => {
+            body.end();
+            body.into_end().journal.rows.as_slice().len()
+        }
+        None => 0,
     }
 }
 
@@ -94,14 +116,21 @@ fn each_port_has_a_history_of_its_own(rt: HostRuntime) -> Result<(), Fail> {
     let alloc = rt.alloc();
     let mut bodies = two_ports(alloc)?;
     let mut receipts = Vec::new(alloc);
-    assert_eq!(rt; call(&mut bodies, &mut receipts, 0, 0, command(alloc, b"abc")?)?, Some(0));
-    assert_eq!(rt; call(&mut bodies, &mut receipts, 1, 1, command(alloc, b"de")?)?, Some(0));
-    assert_eq!(rt; call(&mut bodies, &mut receipts, 1, 1, Signal::Close)?, Some(1));
+    assert_eq!(rt;
+        call(&mut bodies, &mut receipts, 0, 0, command(alloc, b"abc")?)?,
+        Some(0)
+    );
+    assert_eq!(rt;
+        call(&mut bodies, &mut receipts, 1, 1, command(alloc, b"de")?)?,
+        Some(0)
+    );
+    assert_eq!(rt;
+        call(&mut bodies, &mut receipts, 1, 1, Signal::Close)?,
+        Some(1)
+    );
     assert!(rt; mail(&mut bodies, 1, 0).is_none());
-    assert!(rt; is_data(mail(&mut bodies, 0, 0), 0, b"abc"));
-    assert!(rt; is_data(mail(&mut bodies, 1, 1), 1, b"de"));
-    let second = rows_of(bodies.pop());
-    let first = rows_of(bodies.pop());
+    assert_eq!(rt; rows_of(bodies.pop()), 3);
+    assert_eq!(rt; rows_of(bodies.pop()), 1);
     Ok(())
 }
 
@@ -110,18 +139,18 @@ fn a_closed_port_refuses(rt: HostRuntime) -> Result<(), Fail> {
     let alloc = rt.alloc();
     let mut bodies = two_ports(alloc)?;
     let mut receipts = Vec::new(alloc);
-    assert_eq!(rt; call(&mut bodies, &mut receipts, 0, 0, Signal::Close)?, Some(0));
-    assert_eq!(rt; call(&mut bodies, &mut receipts, 0, 0, command(alloc, b"abc")?)?, None);
-    assert_eq!(rt; call(&mut bodies, &mut receipts, 0, 1, command(alloc, b"abc")?)?, Some(0));
-    assert!(rt;
-        matches!(
-            receipts.as_slice(),
-            [
-                Receipt { line: 7, port: 0, seq: Some(0), outcome: Outcome::Accepted, .. },
-                Receipt { line: 7, port: 0, seq: None, outcome: Outcome::Closed, .. },
-                Receipt { line: 7, port: 1, seq: Some(0), outcome: Outcome::Accepted, .. },
-            ]
-        )
+    assert_eq!(rt;
+        call(&mut bodies, &mut receipts, 0, 0, Signal::Close)?,
+        Some(0)
+    );
+    assert_eq!(rt;
+        call(&mut bodies, &mut receipts, 0, 0, command(alloc, b"abc")?)?,
+        None
+    );
+    assert_eq!(rt; receipts.pop(), Some(receipt(None, 6, Outcome::Closed)));
+    assert_eq!(rt;
+        receipts.pop(),
+        Some(receipt(Some(0), 0, Outcome::Accepted))
     );
     Ok(())
 }
@@ -134,6 +163,9 @@ fn a_reply_has_the_number_of_its_call(rt: HostRuntime) -> Result<(), Fail> {
     call(&mut bodies, &mut receipts, 1, 1, command(alloc, b"abc")?)?;
     let number = call(&mut bodies, &mut receipts, 1, 1, Signal::Close)?;
     assert!(rt; is_data(mail(&mut bodies, 1, 1), 1, b"abc"));
-    assert_eq!(rt; answered(mail(&mut bodies, 1, 1)).map(|reply| reply.1), number);
+    assert_eq!(rt;
+        answered(mail(&mut bodies, 1, 1)).map(|reply| reply.1),
+        number
+    );
     Ok(())
 }

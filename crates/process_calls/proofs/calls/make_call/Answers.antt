@@ -1,8 +1,5 @@
-use Rattle.std.proofs.Common.{◌≡◌}
-use Rattle.std.specs.Prelude.{slice_set}
-use Rattle.std.proofs.lemmas.List.{reverse-append, get_or_read}
-use Rattle.port_engine.specs.Body.{View}
-use Rattle.process_calls.proofs.Places.{HasAsked-called, HasAsked-others, CalledAt, CalledAt-set, stat-read}
+use Rattle.std.proofs.lemmas.List.{reverse-append}
+use Rattle.process_calls.proofs.Places.{HasAsked-called, HasAsked-others, CalledAt-set, stat-read}
 use Rattle.process_calls.proofs.calls.make_call.Goals as goal
 
 pub returns-clause-asked : goal.returns-clause-asked

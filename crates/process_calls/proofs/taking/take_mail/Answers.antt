@@ -1,4 +1,3 @@
-use Rattle.std.proofs.Common.{◌≡◌}
 use Rattle.process_calls.proofs.Taken.{AreSame-mail, HasAsked-mail}
 use Rattle.process_calls.proofs.taking.take_mail.Goals as goal
 
