@@ -9,7 +9,7 @@ use driver_entry::Driver;
 use port_engine::Body;
 use port_signal::Mail;
 
-/// Takes the next mail of a port for a process: None exactly where none waits. The bodies stand at the places of their ports' numbers.
+/// Takes the next mail that a port sent to a process. The bodies stand at the places of their ports' numbers.
 pub fn take_mail<D: Driver>(bodies: &mut Vec<Body<D>>, process: u32, port: u32) -> Option<Mail>
     requires port { port < length bodies.old.items }
     requires place { (d : View) → process < length (slice_index_or bodies.old.items port d).mail }
