@@ -1,0 +1,4 @@
+pub mod Shown
+pub mod Gave
+pub mod Places
+pub mod Taken

@@ -1,0 +1,4 @@
+pub mod Asks
+pub mod Receipts
+pub mod Calls
+pub mod Served
