@@ -1,0 +1,15 @@
+//! The drivers that serve the ports of a script: which of those that were handed in each port gets.
+#![tactic(auto)]
+
+mod finding;
+mod hosted;
+#[cfg(test)]
+mod tests;
+mod wanted;
+
+pub use driver_entry::{Config, Driver};
+pub use finding::{Lacking, find_drivers};
+pub use hosted::Hosted;
+pub use no_memory::NoMemory;
+pub use port_signal::Reason;
+pub use wanted::Wanted;
