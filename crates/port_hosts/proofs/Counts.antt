@@ -27,22 +27,24 @@ module _ {A : Type 0} (test : A → Bool) (xs : List A) where
       → (a : ℕ) × (a < b) × (test (slice_index_or xs a d) ≡ true) × (count_by test (take a xs) ≡ m)
   one-behind zero m d within few = absurd (omega arith)
   one-behind (suc b) m d within few = elim (cases_Bool (test (slice_index_or xs b d))) [
-      inl passes ↦
+    | inl passes ↦
         let more = count_by_more_yes test xs b d (omega arith) passes in
         let few' : m < count_by test (take b xs) + 1 = rw (sym more ∙ ap (λ n. count_by test (take n xs)) (next b)) few in
         elim (least m (count_by test (take b xs)) few') [
-          inl less ↦ wider b m d (one-behind b m d (omega arith) less)
-        | inr same ↦ (b, omega arith, passes, sym same)
+          | inl less ↦ wider b m d (one-behind b m d (omega arith) less)
+          | inr same ↦ (b, omega arith, passes, sym same)
         ]
     | inr fails ↦
         let more = count_by_more_no test xs b d (omega arith) fails in
         wider b m d (one-behind b m d (omega arith) (rw (sym (ap (λ n. count_by test (take n xs)) (next b)) ∙ more) at few))
-    ]
+  ]
     where
       next : (b : ℕ) → b + 1 ≡ suc b
       next b = omega arith
+
       least : (m n : ℕ) → m < n + 1 → (m < n) ⊎ (m ≡ n)
       least m n h = elim (cases_lt m n) [ inl l ↦ inl l | inr g ↦ inr (omega arith) ]
+
       wider : (b m : ℕ) (d : A) → (a : ℕ) × (a < b) × (test (slice_index_or xs a d) ≡ true) × (count_by test (take a xs) ≡ m)
           → (a : ℕ) × (a < suc b) × (test (slice_index_or xs a d) ≡ true) × (count_by test (take a xs) ≡ m)
       wider b m d (a, l, p, e) = (a, omega arith, p, e)
@@ -51,9 +53,9 @@ module _ {A : Type 0} (test : A → Bool) (xs : List A) where
   pub same-place : (a b : ℕ) (d : A) → a < length xs → b < length xs → test (slice_index_or xs a d) ≡ true → test (slice_index_or xs b d) ≡ true
       → count_by test (take a xs) ≡ count_by test (take b xs) → a ≡ b
   same-place a b d in_a in_b pass_a pass_b same = elim (cases_lt a b) [
-      inl l ↦ let rises = count-rises a b d l in_a pass_a in absurd (omega (arith, same, rises))
+    | inl l ↦ let rises = count-rises a b d l in_a pass_a in absurd (omega (arith, same, rises))
     | inr g ↦ elim (cases_lt b a) [
-        inl l ↦ let rises = count-rises b a d l in_b pass_b in absurd (omega (arith, same, rises))
+      | inl l ↦ let rises = count-rises b a d l in_b pass_b in absurd (omega (arith, same, rises))
       | inr h ↦ omega arith
-      ]
     ]
+  ]

@@ -55,16 +55,16 @@ module _ {D : Type 0} where
     ranked-push places n at port r len more stands within named behind = record {
       len = rw (length_push places at) (omega arith);
       within = λ k l. elim (cases_lt k (length places)) [
-        inl h ↦ rw (get_or_append_left places (at ∷ []) 0 k h) (r.within k h)
-      | inr h ↦ rw (get_or_push places at 0 k (last k l h)) within
+        | inl h ↦ rw (get_or_append_left places (at ∷ []) 0 k h) (r.within k h)
+        | inr h ↦ rw (get_or_push places at 0 k (last k l h)) within
       ];
       named = λ k w d l. elim (cases_lt k (length places)) [
-        inl h ↦ rw (get_or_append_left places (at ∷ []) 0 k h) (r.named k w d h)
-      | inr h ↦ rw (get_or_push places at 0 k (last k l h), sym (last k l h) ∙ len, sym (get_or_read wanted n port more stands w)) (named d)
+        | inl h ↦ rw (get_or_append_left places (at ∷ []) 0 k h) (r.named k w d h)
+        | inr h ↦ rw (get_or_push places at 0 k (last k l h), sym (last k l h) ∙ len, sym (get_or_read wanted n port more stands w)) (named d)
       ];
       behind = λ k w l. elim (cases_lt k (length places)) [
-        inl h ↦ rw (get_or_append_left places (at ∷ []) 0 k h) (r.behind k w h)
-      | inr h ↦ rw (get_or_push places at 0 k (last k l h), sym (last k l h) ∙ len, sym (get_or_read wanted n port more stands w)) behind
+        | inl h ↦ rw (get_or_append_left places (at ∷ []) 0 k h) (r.behind k w h)
+        | inr h ↦ rw (get_or_push places at 0 k (last k l h), sym (last k l h) ∙ len, sym (get_or_read wanted n port more stands w)) behind
       ];
     }
       where
@@ -94,7 +94,7 @@ module _ {D : Type 0} where
             → named_count kind (slice_index_or wanted j w).driver (take at hosts) ≡ earlier_count wanted j w → ⊥
         apart i j w at less l name a b =
             let rises = count-rises (λ p. bytes_eq p.driver (slice_index_or wanted i w).driver) wanted i j w less l
-                ((bytes_eq-Decides (slice_index_or wanted i w).driver (slice_index_or wanted i w).driver).1 refl) in
+            ((bytes_eq-Decides (slice_index_or wanted i w).driver (slice_index_or wanted i w).driver).1 refl) in
             let b' = rw (sym name) at b in
             omega (arith, a, b', rises)
 

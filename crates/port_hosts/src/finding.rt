@@ -78,7 +78,10 @@ pub fn find_drivers<D: Driver>(
                     return Err(Lacking::NoMemory);
                 };
             }
-            Err(handed) => return Err(Lacking::NoDriver { at: at as u32, handed }),
+            Err(handed) => return Err(Lacking::NoDriver {
+                at: at as u32,
+                handed,
+            }),
         }
     }
     Ok(places)

@@ -16,7 +16,7 @@ pub loop-at-preserved : goal.loop-at-preserved
 loop-at-preserved g c =
     let places = c.in-Ok-push.ensures.items in (
       rw places (ranked-push _ _ _ _ c.loop-at.at _ c.index-wanted-at.result c.loop-at.invariant.0 c.loop-at.invariant.1 (omega arith) c.index-wanted-at.is c.in-Ok.ensures.within c.in-Ok.ensures.named
-      (c.in-Ok.ensures.behind ∙ c.wanting-earlier.ensures)),
+          (c.in-Ok.ensures.behind ∙ c.wanting-earlier.ensures)),
       rw places (length_push _ _ ∙ ap (λ n. n + 1) c.loop-at.invariant.1),
     )
 
