@@ -1,6 +1,7 @@
 //! The drivers that serve the ports of a script: which of those that were handed in each port gets.
 #![tactic(auto)]
 
+mod ending;
 mod finding;
 mod hosted;
 #[cfg(test)]
@@ -8,6 +9,7 @@ mod tests;
 mod wanted;
 
 pub use driver_entry::{Config, Driver};
+pub use ending::take_back;
 pub use finding::{Lacking, find_drivers};
 pub use hosted::Hosted;
 pub use no_memory::NoMemory;
