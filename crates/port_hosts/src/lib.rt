@@ -4,14 +4,17 @@
 mod ending;
 mod finding;
 mod hosted;
+mod opening;
 #[cfg(test)]
 mod tests;
 mod wanted;
 
-pub use driver_entry::{Config, Driver};
+pub use driver_entry::{Config, Driver, StartRefusal};
 pub use ending::take_back;
 pub use finding::{Lacking, find_drivers};
+pub use opening::{Unopened, open_ports};
 pub use hosted::Hosted;
 pub use no_memory::NoMemory;
-pub use port_signal::Reason;
+pub use port_engine::Body;
+pub use port_signal::{Journal, Reason};
 pub use wanted::Wanted;
