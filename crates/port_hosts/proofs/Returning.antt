@@ -1,9 +1,8 @@
 -- One more port has ended, and its driver is back.
-use Rattle.std.proofs.Common.{inl, inr, arith, ◌≡◌, ◌≢◌, ℕ, ◌+◌, ◌<◌, ◌≤◌, List, [], ◌∷◌, ◌++◌, length, map, Result, Ok, Err, Vec, refl, sym, ap, ap₂, ◌∙◌}
+use Rattle.std.proofs.Common.{inl, inr, arith, ◌≡◌, ◌≢◌, ℕ, ◌<◌, ◌≤◌, List, [], ◌∷◌, ◌++◌, length, map, Result, Ok, Err, Vec, refl, sym, ap, ap₂, ◌∙◌}
 use Rattle.std.specs.Prelude.{IfOk, IsOkAnd, slice_index, slice_index_or, slice_set}
 use Rattle.std.proofs.lemmas.Bool.{cases_lt}
 use Rattle.std.proofs.lemmas.List.{get_or_append_left, get_or_push, get_or_default, get_or-set_same, get_or-set_other, length-set, length_push, map_push}
-use Rattle.port_signal.specs.declared.row.Row.{Row}
 use Rattle.port_signal.specs.declared.row.Journal.{Journal}
 use Rattle.driver_entry.specs.declared.life.Life.{Life}
 use Rattle.driver_entry.specs.Drivers.{Kind, Own}
@@ -35,9 +34,15 @@ module _ {D : Type 0} (kind : D → Kind) (stage : D → Life) (faults : D → �
   returned-more bodies places old new port at body before after r counts stands within apart was back = record {
     len = length-set new at after ∙ r.len;
     returned = λ k b d l. elim (cases_lt k (length bodies)) [
-      inl h ↦ rw (get_or_append_left bodies (body ∷ []) b k h, get_or-set_other new at (slice_index places k) after d (apart k (omega arith))) (r.returned k b d h)
-    | inr h ↦ rw (get_or_push bodies body b k (last k l h), ap (slice_index places) (sym (last k l h) ∙ sym counts) ∙ stands, get_or-set_same new at after d inside,
-          sym (r.others at d (λ p q. apart p (omega arith))), get_or_default new at d before inside, sym was) back
+      | inl h ↦ rw (get_or_append_left bodies (body ∷ []) b k h, get_or-set_other new at (slice_index places k) after d (apart k (omega arith))) (r.returned k b d h)
+      | inr h ↦ rw (
+        get_or_push bodies body b k (last k l h),
+        ap (slice_index places) (sym (last k l h) ∙ sym counts) ∙ stands,
+        get_or-set_same new at after d inside,
+        sym (r.others at d (λ p q. apart p (omega arith))),
+        get_or_default new at d before inside,
+        sym was,
+      ) back
     ];
     others = λ k d not. get_or-set_other new at k after d (λ e. not port (rw length_push (omega arith)) (stands ∙ sym e))
         ∙ r.others k d (λ p q. not p (rw length_push (omega arith)));
@@ -45,5 +50,6 @@ module _ {D : Type 0} (kind : D → Kind) (stage : D → Life) (faults : D → �
     where
       inside : at < length new
       inside = rw r.len within
+
       last : (k : ℕ) → k < length (bodies ++ body ∷ []) → length bodies ≤ k → length bodies ≡ k
       last k l h = let e = length_push bodies body in omega (arith, e, l)

@@ -20,7 +20,10 @@ fn end_port<D: Driver>(host: &mut Hosted<D>, body: Body<D>) -> Journal
 }
 
 /// The histories with one more, unless memory was wanting.
-fn with_journal(journals: Result<Vec<Journal>, NoMemory>, journal: Journal) -> Result<Vec<Journal>, NoMemory>
+fn with_journal(
+    journals: Result<Vec<Journal>, NoMemory>,
+    journal: Journal,
+) -> Result<Vec<Journal>, NoMemory>
     ensures { IfOk result (λ more. IsOkAnd journals (λ told. more.items ≡ told.items ++ journal ∷ [])) }
 {
     let mut journals = journals?;

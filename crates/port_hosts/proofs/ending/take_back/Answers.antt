@@ -1,8 +1,7 @@
-use Rattle.std.proofs.Common.{arith, rules, ◌≡◌, ◌<◌, ◌+◌, ℕ, length, get_or, ap, refl, sym, ◌∙◌, map, IfOk}
-use Rattle.std.proofs.lemmas.List.{length_push, get_or_default, map-id}
+use Rattle.std.proofs.Common.{rules, ◌≡◌, ◌<◌, ◌+◌, length, get_or, ap, refl, sym, ◌∙◌}
+use Rattle.std.proofs.lemmas.List.{length_push, map-id}
 use Rattle.std.proofs.lemmas.Iterator.Adapters.{YieldsList-from_vec}
 use Rattle.std.proofs.lemmas.Iterator.Consumers.{YieldsList-turn, YieldsList-end}
-use Rattle.port_hosts.specs.Hosts.{AllReturned}
 use Rattle.port_hosts.proofs.Returning.{more-journals, returned-more}
 use Rattle.port_hosts.proofs.ending.take_back.Goals as goal
 

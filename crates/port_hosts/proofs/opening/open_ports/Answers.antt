@@ -1,4 +1,4 @@
-use Rattle.std.proofs.Common.{arith, ◌≡◌, ◌<◌, ◌+◌, ℕ, length, get_or, ap, refl, subst, sym, ◌∙◌}
+use Rattle.std.proofs.Common.{arith, ◌<◌, ◌+◌, length, get_or, ap, refl, subst, sym, ◌∙◌}
 use Rattle.std.specs.Prelude.{IsSomeAnd}
 use Rattle.std.proofs.lemmas.List.{length_push, length-set}
 use Rattle.std.proofs.lemmas.List.Elements.{All-take}
