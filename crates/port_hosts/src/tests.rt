@@ -1,4 +1,4 @@
-ghost use Rattle.std.specs.Prelude.{◌≡◌, All, IfOk, None, Some};
+ghost use Rattle.std.specs.Prelude.{◌≡◌, ◌<◌, ◌≤◌, length, All, IfOk};
 ghost use Rattle.port_hosts.specs.Hosts.{IsUnused};
 
 use super::*;
@@ -7,13 +7,17 @@ use port_signal::reason;
 use std::alloc::Global;
 use std::test::Fail;
 
-/// A driver as it is handed in.
-fn handed(driver: Box<dyn Driver + Send>) -> Hosted
-    ensures { result ≡ record { port = None; driver = Some driver } }
+/// A fresh driver as it is handed in.
+fn handed(driver: Box<dyn Driver + Send>) -> Result<Hosted, Fail>
+    ensures { IfOk result (IsUnused (λ b. stage b)) }
 {
-    Hosted {
-        port: None,
-        driver: Some(driver),
+    if driver.life() == Life::Fresh {
+        Ok(Hosted {
+            port: None,
+            driver: Some(driver),
+        })
+    } else {
+        Err("the driver was started".into())
     }
 }
 
@@ -21,19 +25,19 @@ fn echo(alloc: Global) -> Result<Hosted, Fail>
     ensures { IfOk result (IsUnused (λ b. stage b)) }
 {
     let echo: Box<dyn Driver + Send> = Box::new(alloc, Echo::new())?;
-    Ok(handed(echo))
+    handed(echo)
 }
 
 fn refuse(alloc: Global) -> Result<Hosted, Fail>
     ensures { IfOk result (IsUnused (λ b. stage b)) }
 {
     let refuse: Box<dyn Driver + Send> = Box::new(alloc, Refuse::new(Refused::General))?;
-    Ok(handed(refuse))
+    handed(refuse)
 }
 
 fn tally(alloc: Global) -> Result<Hosted, Fail> {
     let tally: Box<dyn Driver + Send> = Box::new(alloc, Tally::new())?;
-    Ok(handed(tally))
+    handed(tally)
 }
 
 /// A port of process 0 that wants a driver of this name.
@@ -71,33 +75,68 @@ fn a_third_echo_is_lacking_where_two_were_handed_in(rt: HostRuntime) -> Result<(
     Ok(())
 }
 
-/// An echo, and then a driver that refuses to start.
-fn echo_and_refuse(alloc: Global) -> Result<Vec<Hosted>, Fail>
+/// Opens two ports, each with the driver that it gets, and ends them at once. Answers how many histories they left.
+fn open_and_end<D: Driver>(
+    alloc: Global,
+    hosts: &mut Vec<Hosted<D>>,
+    wanted: &[Wanted],
+) -> Result<Result<usize, Unopened>, Fail>
+    requires few { length wanted.now ≤ 32 }
+    requires unused { All (IsUnused D.stage) hosts.old.items }
+    requires owners { All (λ port. port.owner < 1) wanted.now }
+{
+    let Ok(places) = find_drivers(alloc, hosts.as_slice(), wanted) else {
+        return Err("a port has no driver".into());
+    };
+    match open_ports(alloc, hosts, places.as_slice(), wanted, 1) {
+        Ok(bodies) => {
+            let journals = take_back(alloc, hosts, places.as_slice(), bodies)?;
+            Ok(Ok(journals.len()))
+        }
+        Err(unopened) => Ok(Err(unopened)),
+    }
+}
+
+/// Two drivers as they are handed in.
+fn both(alloc: Global, first: Hosted, second: Hosted) -> Result<Vec<Hosted>, Fail>
+    requires first { IsUnused (λ b. stage b) first }
+    requires second { IsUnused (λ b. stage b) second }
     ensures { IfOk result (λ hosts. All (IsUnused (λ b. stage b)) hosts.items) }
 {
     let mut hosts = Vec::new(alloc);
-    hosts.push(echo(alloc)?)?;
-    hosts.push(refuse(alloc)?)?;
+    hosts.push(first)?;
+    hosts.push(second)?;
     Ok(hosts)
+}
+
+/// Whether each driver is back and stopped.
+fn are_stopped(hosts: &[Hosted]) -> bool {
+    for host in hosts {
+        if !matches!(&host.driver, Some(driver) if driver.life() == Life::Stopped) {
+            return false;
+        }
+    }
+    true
+}
+
+#[test]
+fn each_port_leaves_its_history(rt: HostRuntime) -> Result<(), Fail> {
+    let alloc = rt.alloc();
+    let mut hosts = both(alloc, echo(alloc)?, echo(alloc)?)?;
+    let wanted = [wants("echo")?, wants("echo")?];
+    assert_eq!(rt; open_and_end(alloc, &mut hosts, &wanted)?, Ok(2));
+    assert!(rt; are_stopped(hosts.as_slice()));
+    Ok(())
 }
 
 #[test]
 fn a_refusal_has_the_earlier_port_started_and_stopped(rt: HostRuntime) -> Result<(), Fail> {
     let alloc = rt.alloc();
-    let mut hosts = echo_and_refuse(alloc)?;
+    let mut hosts = both(alloc, echo(alloc)?, refuse(alloc)?)?;
     let wanted = [wants("echo")?, wants("refuse1")?];
-    let Ok(places) = find_drivers(alloc, hosts.as_slice(), &wanted) else {
-        return Err("a port has no driver".into());
-    };
-    match open_ports(alloc, &mut hosts, places.as_slice(), &wanted, 1) {
-        Ok(_) => return Err("both ports opened".into()),
-        Err(unopened) => {
-            let refusal = StartRefusal::General;
-            assert_eq!(rt; unopened, Unopened::Refused { at: 1, refusal });
-        }
-    }
-    for host in &hosts {
-        assert!(rt; matches!(&host.driver, Some(driver) if driver.life() == Life::Stopped));
-    }
+    let refusal = StartRefusal::General;
+    let refused = Err(Unopened::Refused { at: 1, refusal });
+    assert_eq!(rt; open_and_end(alloc, &mut hosts, &wanted)?, refused);
+    assert!(rt; are_stopped(hosts.as_slice()));
     Ok(())
 }
