@@ -2,7 +2,7 @@ ghost use Rattle.std.specs.Prelude.{◌≡◌, ◌<◌, ◌∷◌, [], true, fal
 ghost use Rattle.port_signal.specs.Links.{has, with_process, without_process, has_monitor, with_monitor, without_monitor, without_watcher, end_posts, exit_closes, end_closes};
 ghost use Rattle.links_owner.specs.Ties.{is_here};
 
-use crate::posts::{is_normal, posts_of_end};
+use crate::posts::posts_of_end;
 use crate::{Monitor, NoMemory, Post, Reason};
 use std::alloc::Global;
 use std::collections::BTreeSet;
@@ -148,14 +148,14 @@ impl Links {
     pub fn exit_closes(&self, process: u32, reason: &Reason) -> bool
         ensures { result ≡ exit_closes self.now.owner process reason.now }
     {
-        !is_normal(reason) || process == self.owner
+        !reason.is_normal() || process == self.owner
     }
 
     /// Whether the end of the process, for this reason, closes the port. It is asked before `gone` is told.
     pub fn end_closes(&self, process: u32, reason: &Reason) -> bool
         ensures { result ≡ end_closes self.now.owner self.now.linked process reason.now }
     {
-        process == self.owner || (self.is_linked(process) && !is_normal(reason))
+        process == self.owner || (self.is_linked(process) && !reason.is_normal())
     }
 
     /// What the end of the port sends, for this reason. The links and the monitors go.

@@ -1,18 +1,10 @@
 ghost use Rattle.std.specs.Prelude.{◌≡◌, ◌≤◌, ◌^◌, length, IfOk};
 ghost use Rattle.port_signal.specs.Links.{end_posts, exit_post as exit_post_of, down_post as down_post_of};
-ghost use Rattle.port_signal.specs.Reasons.{is_normal};
 ghost use Rattle.links_owner.specs.Flags.{set_flags};
 
 use crate::{Mail, Monitor, NoMemory, Post, Reason};
 use std::alloc::Global;
 use std::collections::BTreeSet;
-
-/// The reason is that of an end which is no failure.
-pub(crate) fn is_normal(reason: &Reason) -> bool
-    ensures { result ≡ is_normal reason.now }
-{
-    reason.as_bytes() == b"normal".as_slice()
-}
 
 fn exit_post(port: u32, reason: &Reason, process: u32) -> Post
     ensures { result ≡ exit_post_of port reason.now process }

@@ -6,7 +6,6 @@ mod body;
 mod mailbox;
 mod next;
 mod posting;
-mod reason;
 mod row;
 mod sending;
 mod turn;

@@ -10,7 +10,6 @@ ghost use Rattle.port_engine.specs.Boxes.{Adds, KeepsGone};
 ghost use Rattle.port_engine.specs.Sent.{ended_posts};
 
 use crate::mailbox::{Mailbox, post};
-use crate::reason::{badsig, noproc, told_reason};
 use links_owner::Links;
 use port_signal::{Answer, Effect, Mail, NoMemory, Post, Reason, Sender, Signal};
 
@@ -138,7 +137,7 @@ fn post_no_port(
     let mail = Mail::Down {
         port: number,
         monitor,
-        reason: noproc(),
+        reason: Reason::noproc(),
     };
     post(boxes, sender, mail)
 }
@@ -157,7 +156,7 @@ fn post_bad_signal(
     if done {
         return Ok(());
     }
-    post_exit(boxes, number, badsig(), owner)
+    post_exit(boxes, number, Reason::badsig(), owner)
 }
 
 /// Answers a connect.
@@ -190,7 +189,7 @@ fn post_owner_connect(
     ensures ok { OnOk result (Adds boxes.old boxes.new (if done then record { to = sender_number from; mail = Mail.Connected number } ∷ [] else bad_signal_posts number owner)) }
 {
     if !done {
-        return post_exit(boxes, number, badsig(), owner);
+        return post_exit(boxes, number, Reason::badsig(), owner);
     }
     let Sender::Process(sender) = from;
     post(boxes, sender, Mail::Connected(number))
@@ -251,7 +250,7 @@ pub fn post_late(
         Signal::Call { .. } => post_reply(boxes, number, from, seq, Answer::Badarg),
         Signal::Close => post_reply(boxes, number, from, seq, Answer::Badarg),
         Signal::Connect(_) => post_reply(boxes, number, from, seq, Answer::Badarg),
-        Signal::Link => post_exit(boxes, number, noproc(), sender),
+        Signal::Link => post_exit(boxes, number, Reason::noproc(), sender),
         Signal::Monitor(monitor) => post_no_port(boxes, number, from, *monitor),
         Signal::Command(_) | Signal::OwnerCommand(_) => Ok(()),
         Signal::OwnerClose | Signal::OwnerConnect(_) => Ok(()),
@@ -287,7 +286,7 @@ pub fn post_end(
     let Some(reason) = reason else {
         return Ok(());
     };
-    let posts = links.end(number, &told_reason(reason))?;
+    let posts = links.end(number, &reason.told())?;
     post_all(boxes, posts)?;
     Ok(())
 }

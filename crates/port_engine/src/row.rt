@@ -14,7 +14,6 @@ ghost use Rattle.port_engine.specs.Late.{late_row};
 ghost use Rattle.port_engine.specs.Made.{Called, Ending, Extends, ShutDown};
 ghost use Rattle.port_ties.specs.Tied.{Tied};
 
-use crate::reason::is_kill;
 use driver_entry::{Driver, DriverCtx, Life};
 use driver_queue::DriverQueue;
 use links_owner::Links;
@@ -156,7 +155,7 @@ fn shut_down<D: Driver>(
     let Some(reason) = reason else {
         return Ok(false);
     };
-    if is_kill(reason) || ctx.is_drained() {
+    if reason.is_kill() || ctx.is_drained() {
         driver.stop();
         return Ok(true);
     }

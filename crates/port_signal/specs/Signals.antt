@@ -1,5 +1,6 @@
 -- What a signal is.
-use Rattle.std.specs.Prelude.{Bool, true, false}
+use Rattle.std.specs.Prelude.{ℕ, length, Bool, true, false}
+use Rattle.std.specs.List.{concat}
 use Rattle.port_signal.specs.declared.signal.Signal.{Signal}
 use Rattle.port_signal.specs.declared.signal.Signal.TheVariants.{Command, OwnerCommand, Control, Call, Close, OwnerClose, Connect, OwnerConnect, Link, Unlink, Monitor, Demonitor, Exit, Gone}
 
@@ -36,3 +37,20 @@ is_end (Monitor number) = false
 is_end (Demonitor number) = false
 is_end (Exit reason) = false
 is_end (Gone reason) = true
+
+-- how many bytes of data the signal carries to a driver
+abbrev pub data_size : Signal → ℕ
+data_size (Command payload) = length (concat payload)
+data_size (OwnerCommand payload) = length (concat payload)
+data_size (Control op bytes) = length bytes
+data_size (Call op bytes) = length bytes
+data_size Close = 0
+data_size OwnerClose = 0
+data_size (Connect process) = 0
+data_size (OwnerConnect process) = 0
+data_size Link = 0
+data_size Unlink = 0
+data_size (Monitor number) = 0
+data_size (Demonitor number) = 0
+data_size (Exit reason) = 0
+data_size (Gone reason) = 0

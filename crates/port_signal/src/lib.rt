@@ -7,9 +7,9 @@
 
 mod items;
 mod mail;
+mod meanings;
 mod monitor;
 mod name;
-mod receipt;
 mod row;
 mod signal;
 mod spelling;
@@ -20,7 +20,6 @@ pub use mail::{Answer, Mail, Mails, Post};
 pub use monitor::Monitor;
 pub use name::{MAX_NAME, Reason, ReasonFault};
 pub use no_memory::NoMemory;
-pub use receipt::{Outcome, Receipt, Receipts};
 pub use row::{Effect, Journal, MarkKind, Outside, Row, Rows};
 pub use signal::{Sender, Signal, Task};
 pub use spelling::reason;

@@ -1,5 +1,5 @@
 ghost use Rattle.std.specs.Prelude.{◌≡◌};
-ghost use Rattle.port_signal.specs.Signals.{is_command};
+ghost use Rattle.port_signal.specs.Signals.{data_size, is_command};
 
 use crate::Reason;
 use io_vector::{IoVec, Piece};
@@ -49,6 +49,19 @@ impl Signal {
         ensures { result ≡ is_command self.now }
     {
         matches!(self, Signal::Command(_) | Signal::OwnerCommand(_))
+    }
+
+    /// How many bytes of data it carries to a driver: those of a command, a control or a call.
+    pub fn size(&self) -> u64
+        ensures { result ≡ data_size self.now }
+    {
+        match self {
+            Signal::Command(payload) | Signal::OwnerCommand(payload) => payload.size(),
+            Signal::Control { bytes, .. } | Signal::Call { bytes, .. } => bytes.len() as u64,
+            Signal::Close | Signal::OwnerClose | Signal::Connect(_) | Signal::OwnerConnect(_) => 0,
+            Signal::Link | Signal::Unlink | Signal::Monitor(_) | Signal::Demonitor(_) => 0,
+            Signal::Exit(_) | Signal::Gone(_) => 0,
+        }
     }
 }
 

@@ -1,18 +1,8 @@
-ghost use Rattle.std.specs.Prelude.{◌≡◌, codes, Some, None, if◌then◌else◌};
+ghost use Rattle.std.specs.Prelude.{◌≡◌, Some, None, if◌then◌else◌};
 ghost use Rattle.driver_entry.specs.Owners.{closes_for};
 
 use links_owner::Links;
 use port_signal::{Reason, Sender, Signal};
-
-/// The reason of what ends as it should.
-fn normal() -> Reason
-    ensures { result ≡ codes "normal" }
-{
-    match Reason::of_bytes(b"normal") {
-        Ok(reason) => reason,
-        Err(_) => unreachable!(),
-    }
-}
 
 fn reason_if(closes: bool, reason: &Reason) -> Option<Reason>
     ensures { result ≡ (if closes then Some reason.now else None) }
@@ -26,8 +16,8 @@ pub fn reason_to_close(links: &Links, from: Sender, signal: &Signal) -> Option<R
 {
     let Sender::Process(sender) = from;
     match signal {
-        Signal::Close => Some(normal()),
-        Signal::OwnerClose => reason_if(sender == links.owner(), &normal()),
+        Signal::Close => Some(Reason::normal()),
+        Signal::OwnerClose => reason_if(sender == links.owner(), &Reason::normal()),
         Signal::Exit(reason) => reason_if(links.exit_closes(sender, reason), reason),
         Signal::Gone(reason) => reason_if(links.end_closes(sender, reason), reason),
         Signal::Command(_) | Signal::OwnerCommand(_) => None,

@@ -11,7 +11,7 @@ use Rattle.port_signal.specs.declared.signal.Task.{Task}
 use Rattle.port_signal.specs.History.{items, item, marks, is_closed}
 use Rattle.port_engine.specs.Body.{View, Turned, history_of, given_of, given_by}
 use Rattle.process_calls.specs.Calls.{Called, stat_at}
-use Rattle.process_calls.specs.Receipts.{is_accepted, outcome_of}
+use Rattle.call_receipts.specs.Receipts.{is_accepted, outcome_of}
 use Rattle.process_calls.proofs.Shown.{Extends, marks-append}
 
 pub split : {X : Type 0} (b : Bool) → (b ≡ true → X) → (b ≡ false → X) → X

@@ -5,11 +5,11 @@ use Rattle.std.proofs.lemmas.List.{append-nil, get_or-set_same, get_or-set_other
 use Rattle.std.proofs.lemmas.Bool.Decides.{nat_tests}
 use Rattle.port_signal.specs.declared.signal.Task.{Task}
 use Rattle.port_signal.specs.declared.row.MarkKind.{MarkKind}
-use Rattle.port_signal.specs.declared.receipt.Receipt.{Receipt}
+use Rattle.call_receipts.specs.declared.receipt.Receipt.{Receipt}
 use Rattle.port_signal.specs.History.{marks}
 use Rattle.port_engine.specs.Body.{View, history_of, given_by}
-use Rattle.process_calls.specs.Asks.{Ask}
-use Rattle.process_calls.specs.Receipts.{accepted, is_accepted, outcome_of, receipt_of, IsReceiptOf}
+use Rattle.call_receipts.specs.Asks.{Ask}
+use Rattle.call_receipts.specs.Receipts.{accepted, is_accepted, outcome_of, receipt_of, IsReceiptOf}
 use Rattle.process_calls.specs.Calls.{Called, stat_at}
 use Rattle.process_calls.specs.Served.{HasAsked}
 use Rattle.process_calls.proofs.Shown.{Extends, AreReceipts-more, all-shown, agrees-more, shows-all, stat-agrees}

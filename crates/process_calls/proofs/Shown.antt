@@ -6,10 +6,10 @@ use Rattle.std.proofs.Math.Seq.{take-length}
 use Rattle.port_signal.specs.declared.row.Row.{Row}
 use Rattle.port_signal.specs.declared.row.Row.TheVariants.{Handled, Late, Mark}
 use Rattle.port_signal.specs.declared.row.MarkKind.{MarkKind}
-use Rattle.port_signal.specs.declared.receipt.Receipt.{Receipt}
+use Rattle.call_receipts.specs.declared.receipt.Receipt.{Receipt}
 use Rattle.port_signal.specs.History.{marks, busy_by, closed_by, stat_word, stat_of, AgreesWith}
-use Rattle.process_calls.specs.Asks.{Ask}
-use Rattle.process_calls.specs.Receipts.{ShowAtMost, AreReceipts}
+use Rattle.call_receipts.specs.Asks.{Ask}
+use Rattle.call_receipts.specs.Receipts.{ShowAtMost, AreReceipts}
 
 -- the marks of a longer history
 pub marks-append : (newer older : List Row) → marks (newer ++ older) ≡ marks older ++ marks newer

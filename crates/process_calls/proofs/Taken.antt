@@ -2,10 +2,10 @@
 use Rattle.std.proofs.Common.{arith, ◌≡◌, ℕ, ◌<◌, List, [], length, eqb, refl, sym, ap, ◌∙◌}
 use Rattle.std.specs.Prelude.{slice_index_or, slice_set}
 use Rattle.std.proofs.lemmas.List.{append-nil, get_or-set_same, get_or-set_other, get_or_read, length-set}
-use Rattle.port_signal.specs.declared.receipt.Receipt.{Receipt}
+use Rattle.call_receipts.specs.declared.receipt.Receipt.{Receipt}
 use Rattle.port_signal.specs.History.{marks}
 use Rattle.port_engine.specs.Body.{View, history_of, given_by}
-use Rattle.process_calls.specs.Asks.{Ask}
+use Rattle.call_receipts.specs.Asks.{Ask}
 use Rattle.process_calls.specs.Served.{AreSame, HasAsked}
 use Rattle.process_calls.proofs.Shown.{AreReceipts-more}
 use Rattle.process_calls.proofs.Gave.{split}

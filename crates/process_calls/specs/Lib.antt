@@ -1,4 +1,2 @@
-pub mod Asks
-pub mod Receipts
 pub mod Calls
 pub mod Served

@@ -1,13 +1,13 @@
 -- What holds of the bodies of several ports, each at the place of its number.
 use Rattle.std.specs.Prelude.{◌≡◌, ℕ, ◌<◌, List, [], ◌++◌, length, false, slice_index_or}
-use Rattle.port_signal.specs.declared.receipt.Receipt.{Receipt}
+use Rattle.call_receipts.specs.declared.receipt.Receipt.{Receipt}
 use Rattle.port_signal.specs.declared.mail.Mail.{Mail}
 use Rattle.port_signal.specs.History.{marks}
 use Rattle.driver_entry.specs.Mail.{mails}
 use Rattle.port_engine.specs.Boxes.{box_at}
 use Rattle.port_engine.specs.Body.{View, history_of, given_by}
-use Rattle.process_calls.specs.Asks.{Ask}
-use Rattle.process_calls.specs.Receipts.{accepted, AreReceipts}
+use Rattle.call_receipts.specs.Asks.{Ask}
+use Rattle.call_receipts.specs.Receipts.{accepted, AreReceipts}
 use Rattle.process_calls.specs.Calls.{IsSame}
 
 -- a body is that of this port, serves so many processes, found memory, and is idle

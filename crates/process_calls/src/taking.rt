@@ -1,8 +1,8 @@
 ghost use Rattle.std.specs.Prelude.{◌≡◌, ◌≢◌, ◌↔◌, ◌⊎◌, ℕ, ◌<◌, ◌++◌, [], ◌∷◌, List, length, IsNone, IfNone, IfSome, slice_index_or};
-ghost use Rattle.port_signal.specs.declared.receipt.Receipt.{Receipt};
+ghost use Rattle.call_receipts.specs.declared.receipt.Receipt.{Receipt};
 ghost use Rattle.port_engine.specs.Boxes.{box_at};
 ghost use Rattle.port_engine.specs.Body.{View};
-ghost use Rattle.process_calls.specs.Asks.{Ask};
+ghost use Rattle.call_receipts.specs.Asks.{Ask};
 ghost use Rattle.process_calls.specs.Served.{AreSame, AreServing, HasAsked, HasTaken};
 
 use driver_entry::Driver;

@@ -2,9 +2,10 @@ ghost use Rattle.std.specs.Prelude.{◌≡◌, ◌<◌, length, OnOk, IfOk};
 ghost use Rattle.process_calls.specs.Served.{AreServing, IsServing};
 
 use crate::{make_call, take_mail};
+use call_receipts::{Outcome, Receipt};
 use driver_entry::{Config, Echo};
 use port_engine::{Body, BodyParts};
-use port_signal::{Answer, IoVec, Mail, NoMemory, Outcome, Piece, Receipt, Signal};
+use port_signal::{Answer, IoVec, Mail, NoMemory, Piece, Signal};
 use std::alloc::Global;
 use std::test::Fail;
 

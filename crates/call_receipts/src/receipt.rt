@@ -1,4 +1,4 @@
-use crate::Log;
+use port_signal::Log;
 
 /// What became of a call by which a process sends a signal to a port.
 #[derive(Clone, Copy, Debug, PartialEq, Eq)]
@@ -7,6 +7,8 @@ pub enum Outcome {
     Accepted,
     /// The port was found closed, and nothing was put.
     Closed,
+    /// The signal has more than 262,143 bytes of data. The port wasn't looked at, and nothing was put.
+    TooLong,
 }
 
 /// The receipt of one call by which a process sends a signal to a port.
