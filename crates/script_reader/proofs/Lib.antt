@@ -3,3 +3,4 @@ pub mod Numbers
 pub mod SoFar
 pub mod Found
 pub mod Again
+pub mod Shallow

@@ -9,6 +9,7 @@ use Rattle.std.proofs.lemmas.Option.{slice_get_within, get_or_from_slice_get}
 use Rattle.script_reader.specs.declared.decl.Step.{Step}
 use Rattle.script_reader.specs.declared.decl.Act.{Act}
 use Rattle.script_reader.specs.declared.decl.Act.TheVariants.{Monitor, Demonitor}
+use Rattle.script_reader.specs.Shallow.{IsShallow}
 use Rattle.script_reader.specs.Plan.{Plan, IsPlan, IsWithin}
 use Rattle.script_reader.specs.Monitors.{monitor_count, monitors_of, begun_monitor, ended, oldest_monitor, NumberBelow, NumberNext, IsNumbered}
 use Rattle.script_reader.proofs.Kept.{monitor_count-push, listed, filter_map-one}
@@ -70,8 +71,8 @@ oldest_below p q number steps numbered e =
 
 -- a script with one more step
 pub IsPlan-step : (plan : Plan) (line process : ℕ) (a : Act) → IsPlan plan → length plan.steps < 131072 → process < length plan.processes → IsWithin (length plan.processes) (length plan.ports) a
-    → NumberNext (monitor_count process plan.steps) a → IsPlan (record plan { steps = plan.steps ++ record { line = line; process = process; act = a } ∷ [] })
-IsPlan-step plan line process a is few sender within next =
+    → NumberNext (monitor_count process plan.steps) a → IsShallow a → IsPlan (record plan { steps = plan.steps ++ record { line = line; process = process; act = a } ∷ [] })
+IsPlan-step plan line process a is few sender within next shallow =
     let s : Step = record { line = line; process = process; act = a } in
     record {
       few_processes = is.few_processes;
@@ -80,5 +81,6 @@ IsPlan-step plan line process a is few sender within next =
       owners = is.owners;
       senders = All-push (λ t. t.process < length plan.processes) plan.steps s is.senders sender;
       named = All-push (λ t. IsWithin (length plan.processes) (length plan.ports) t.act) plan.steps s is.named within;
+      shallow = All-push (λ t. IsShallow t.act) plan.steps s is.shallow shallow;
       numbered = IsNumbered-push plan.steps line process a is.numbered next;
     }

@@ -8,3 +8,4 @@ pub mod Monitors
 pub mod Script
 pub mod Steps
 pub mod Draft
+pub mod Shallow

@@ -7,6 +7,7 @@ use Rattle.script_reader.specs.declared.decl.Step.{Step}
 use Rattle.script_reader.specs.declared.decl.Act.{Act}
 use Rattle.script_reader.specs.declared.decl.Act.TheVariants.{Command, Send, Control, Call, Close, Connect, SendClose, SendConnect, Link, Unlink, Monitor, Demonitor, Exit, Die}
 use Rattle.script_reader.specs.Monitors.{IsNumbered}
+use Rattle.script_reader.specs.Shallow.{IsShallow}
 
 -- the processes, the ports and the steps, each in the order of the script
 pub record Plan : Type 0 where
@@ -39,8 +40,8 @@ IsWithin processes ports (Demonitor port number) = port < ports
 IsWithin processes ports (Exit port reason) = port < ports
 IsWithin processes ports (Die reason) = Unit {0}
 
--- what holds of every script: it is within its limits, what it names by a place is declared, and each process begins the
--- monitors that its steps name by a number
+-- what holds of every script: it is within its limits, what it names by a place is declared, each term that it calls with has an
+-- external form, and each process begins the monitors that its steps name by a number
 pub record IsPlan (plan : Plan) : Type 0 where
   pub few_processes : length plan.processes ≤ 32
   pub few_ports : length plan.ports ≤ 32
@@ -48,4 +49,5 @@ pub record IsPlan (plan : Plan) : Type 0 where
   pub owners : All (λ p. p.owner < length plan.processes) plan.ports
   pub senders : All (λ s. s.process < length plan.processes) plan.steps
   pub named : All (λ s. IsWithin (length plan.processes) (length plan.ports) s.act) plan.steps
+  pub shallow : All (λ s. IsShallow s.act) plan.steps
   pub numbered : IsNumbered plan.steps

@@ -10,6 +10,7 @@ ghost use Rattle.script_reader.specs.declared.line_fault.LineFault.TheVariants a
 ghost use Rattle.script_reader.specs.Steps.{IsSteps};
 ghost use Rattle.script_reader.specs.Draft.{IsDraft, plan_of};
 ghost use Rattle.script_reader.specs.Plan.{IsWithin};
+ghost use Rattle.script_reader.specs.Shallow.{AtPort, IsShallow, OfDeed, OfSaying};
 
 use crate::decl::{Act, PortDecl, ProcessDecl, Step};
 use crate::line_fault::LineFault;
@@ -43,7 +44,8 @@ impl Draft {
     /// Takes in what a line of this number says.
     #[tactic(auto, unfolding(crate::specs::Script::said))]
     pub(crate) fn take_in(&mut self, line: u32, saying: Saying) -> Result<(), LineFault>
-        requires { IsDraft self.old }
+        requires draft { IsDraft self.old }
+        requires shallow { OfSaying saying }
         ensures draft { OnOk result (IsDraft self.new) }
         ensures ok { OnOk result (said (plan_of self.old) line saying ≡ Ok (plan_of self.new)) }
         ensures fault { IfErr result (λ f. Tells (said (plan_of self.old) line saying) f) }
@@ -176,7 +178,8 @@ impl Draft {
     /// Takes in a step of the process of this name.
     #[tactic(auto, unfolding(crate::specs::Script::step_said))]
     fn take_step(&mut self, line: u32, process: &Reason, deed: Deed) -> Result<(), LineFault>
-        requires { IsDraft self.old }
+        requires draft { IsDraft self.old }
+        requires shallow { OfDeed deed }
         ensures draft { OnOk result (IsDraft self.new) }
         ensures ok { OnOk result (step_said (plan_of self.old) line process.now deed ≡ Ok (plan_of self.new)) }
         ensures fault { IfErr result (λ f. Tells (step_said (plan_of self.old) line process.now deed) f) }
@@ -189,6 +192,7 @@ impl Draft {
     #[tactic(auto, unfolding(crate::specs::Script::step_of))]
     fn take_deed(&mut self, line: u32, process: u32, deed: Deed) -> Result<(), LineFault>
         requires draft { IsDraft self.old }
+        requires shallow { OfDeed deed }
         requires process { process < length self.old.processes.items }
         ensures draft { OnOk result (IsDraft self.new) }
         ensures ok { OnOk result (step_of (plan_of self.old) line process deed ≡ Ok (plan_of self.new)) }
@@ -207,6 +211,7 @@ impl Draft {
         requires process { process < length self.old.processes.items }
         requires within { IsWithin (length self.old.processes.items) (length self.old.ports.items) act }
         requires number { NumberNext (monitor_count process self.old.steps.list.items) act }
+        requires shallow { IsShallow act }
         ensures draft { OnOk result (IsDraft self.new) }
         ensures ok { OnOk result (step_made (plan_of self.old) line process act ≡ Ok (plan_of self.new)) }
         ensures fault { IfErr result (λ f. Tells (step_made (plan_of self.old) line process act) f) }
@@ -222,8 +227,10 @@ impl Draft {
     #[tactic(auto, unfolding(crate::specs::Script::act_of))]
     fn act_of(&self, process: u32, deed: Deed) -> Result<Act, LineFault>
         requires draft { IsDraft self.now }
+        requires shallow { OfDeed deed }
         requires process { process < length self.now.processes.items }
         ensures act { result ≡ act_of (plan_of self.now) process deed }
+        ensures shallow { IfOk result IsShallow }
         ensures within { IfOk result (IsWithin (length self.now.processes.items) (length self.now.ports.items)) }
         ensures number { IfOk result (NumberNext (monitor_count process self.now.steps.list.items)) }
     {
@@ -239,9 +246,11 @@ impl Draft {
     /// What the process at this place does at the port at this place.
     fn act_at(&self, process: u32, port: u32, what: PortDeed) -> Result<Act, LineFault>
         requires draft { IsDraft self.now }
+        requires shallow { AtPort what }
         requires process { process < length self.now.processes.items }
         requires port { port < length self.now.ports.items }
         ensures act { result ≡ act_at (plan_of self.now) process port what }
+        ensures shallow { IfOk result IsShallow }
         ensures within { IfOk result (IsWithin (length self.now.processes.items) (length self.now.ports.items)) }
         ensures number { IfOk result (NumberNext (monitor_count process self.now.steps.list.items)) }
     {
