@@ -8,8 +8,8 @@ use Rattle.port_signal.specs.declared.row.MarkKind.{MarkKind}
 use Rattle.call_receipts.specs.declared.receipt.Receipt.{Receipt}
 use Rattle.port_signal.specs.History.{marks}
 use Rattle.port_engine.specs.Body.{View, history_of, given_by}
-use Rattle.call_receipts.specs.Asks.{Ask}
-use Rattle.call_receipts.specs.Receipts.{accepted, is_accepted, outcome_of, receipt_of, IsReceiptOf}
+use Rattle.call_receipts.specs.Asks.{Ask, is_long}
+use Rattle.call_receipts.specs.Receipts.{accepted, is_accepted, long_receipt, outcome_of, receipt_of, HasLooked}
 use Rattle.process_calls.specs.Calls.{Called, stat_at}
 use Rattle.process_calls.specs.Served.{HasAsked}
 use Rattle.process_calls.proofs.Shown.{Extends, AreReceipts-more, all-shown, agrees-more, shows-all, stat-agrees}
@@ -38,6 +38,10 @@ none-added : (ts : List Task) (b : Bool) (task : Task) → ts ≡ ts ++ cond (fa
 none-added ts true task = sym (append-nil ts)
 none-added ts false task = sym (append-nil ts)
 
+none-put : (ts : List Task) (b : Bool) (task : Task) → ts ≡ ts ++ cond (b && false) (task ∷ []) []
+none-put ts true task = sym (append-nil ts)
+none-put ts false task = sym (append-nil ts)
+
 tasks-asked : (process port : ℕ) (task : Task) (old new : List View) (number : Option ℕ) (line stat : ℕ) (asks : List Ask) (got : List Receipt)
     → CalledAt process port task old new number → HasAsked process asks old got → (k : ℕ) (d : View) → k < length new
     → given_by process (slice_index_or new k d) ≡ accepted k (record { line = line; port = port; task = task } ∷ asks) (receipt_of line port stat number ∷ got)
@@ -56,12 +60,10 @@ contrary false t f = absurd cc
 
 receipt-asked : (process port : ℕ) (task : Task) (old new : List View) (number : Option ℕ) (line stat : ℕ) (asks : List Ask) (got : List Receipt) (d : View)
     → CalledAt process port task old new number → HasAsked process asks old got → port < length old → stat ≡ stat_at (slice_index_or old port d)
-    → IsReceiptOf (λ k. marks (history_of (slice_index_or new k d))) (record { line = line; port = port; task = task }) asks (receipt_of line port stat number) got
+    → HasLooked (λ k. marks (history_of (slice_index_or new k d))) (record { line = line; port = port; task = task }) asks (receipt_of line port stat number) got
 receipt-asked process port task old new number line stat asks got d c h within w =
     let before : List MarkKind = marks (history_of (slice_index_or old port d)) in
     record {
-      line = refl;
-      port = refl;
       stat = stat;
       found = refl;
       agrees = agrees-more before (marks (history_of (slice_index_or new port d))) stat (all-extend process port task old new number c d port) (rw w (stat-agrees before));
@@ -74,14 +76,30 @@ receipt-asked process port task old new number line stat asks got d c h within w
 
 -- a process that calls has asked once more
 pub HasAsked-called : (process port : ℕ) (task : Task) (old new : List View) (number : Option ℕ) (line stat : ℕ) (asks : List Ask) (got : List Receipt)
-    → CalledAt process port task old new number → ((d : View) → stat ≡ stat_at (slice_index_or old port d)) → port < length old → HasAsked process asks old got
+    → CalledAt process port task old new number → ((d : View) → stat ≡ stat_at (slice_index_or old port d)) → port < length old → is_long task ≡ false → HasAsked process asks old got
     → HasAsked process (record { line = line; port = port; task = task } ∷ asks) new (receipt_of line port stat number ∷ got)
-HasAsked-called process port task old new number line stat asks got c w within h = record {
+HasAsked-called process port task old new number line stat asks got c w within short h = record {
   tasks = tasks-asked process port task old new number line stat asks got c h;
   receipts = λ d. (
-    receipt-asked process port task old new number line stat asks got d c h within (w d),
+    record {
+      line = refl;
+      port = refl;
+      long = λ e. contrary (is_long task) e short;
+      looked = λ _. receipt-asked process port task old new number line stat asks got d c h within (w d);
+    },
     AreReceipts-more (λ k. marks (history_of (slice_index_or old k d))) (λ k. marks (history_of (slice_index_or new k d))) asks got
         (all-extend process port task old new number c d) (h.receipts d),
+  );
+}
+
+-- and so has one whose signal has more data than a port takes
+pub HasAsked-long : (process port line : ℕ) (task : Task) (bodies : List View) (asks : List Ask) (got : List Receipt) → is_long task ≡ true → HasAsked process asks bodies got
+    → HasAsked process (record { line = line; port = port; task = task } ∷ asks) bodies (long_receipt line port ∷ got)
+HasAsked-long process port line task bodies asks got long h = record {
+  tasks = λ k d within. h.tasks k d within ∙ none-put (accepted k asks got) (eqb port k) task;
+  receipts = λ d. (
+    record { line = refl; port = refl; long = λ _. (refl, refl, refl); looked = λ e. contrary (is_long task) long e },
+    h.receipts d,
   );
 }
 

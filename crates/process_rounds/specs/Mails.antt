@@ -14,16 +14,16 @@ pub record Came : Type 0 where
   pub from : Option ℕ
   pub mail : Mail
 
--- the mail is from this port, or from none
-abbrev pub is_from : Option ℕ → Came → Bool
-is_from (Some port) (record { from = Some other; mail = _ }) = other == port
-is_from (Some port) (record { from = None; mail = _ }) = false
-is_from None (record { from = Some other; mail = _ }) = false
-is_from None (record { from = None; mail = _ }) = true
+-- the two are one source of mail: a port, or none
+abbrev pub is_source : Option ℕ → Option ℕ → Bool
+is_source (Some port) (Some other) = other == port
+is_source (Some port) None = false
+is_source None (Some other) = false
+is_source None None = true
 
 -- the mail from this port, or from none, in the order in which it came
 abbrev pub mail_from : Option ℕ → List Came → List Mail
-mail_from source came = map (λ c. c.mail) (filter (is_from source) came)
+mail_from source came = map (λ c. c.mail) (filter (λ c. is_source source c.from) came)
 
 -- the call found its port closed
 abbrev pub is_refused : Outcome → Bool

@@ -10,7 +10,7 @@ use Rattle.script_reader.specs.Shallow.{IsShallow}
 use Rattle.call_receipts.specs.Asks.{Ask}
 use Rattle.process_calls.specs.Served.{HasAsked}
 use Rattle.process_rounds.specs.declared.left.Left.{Left}
-use Rattle.process_rounds.specs.Mails.{Came, is_from, mail_from, own_mails}
+use Rattle.process_rounds.specs.Mails.{Came, mail_from, own_mails}
 
 -- the steps are of so many processes, name so many ports, and call with terms that have an external form
 pub record AreSteps (processes ports : ℕ) (steps : List Step) : Type 0 where

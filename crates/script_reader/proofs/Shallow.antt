@@ -1,7 +1,6 @@
 -- What a line says calls with no term that is deeper than an external form may be.
 use Rattle.std.proofs.Common.{◌≡◌, ℕ, List, Some}
 use Rattle.script_reader.specs.declared.saying.Saying.{Saying}
-use Rattle.script_reader.specs.declared.saying.Saying.TheVariants.{Nothing, Process, Port, Step}
 use Rattle.script_reader.specs.declared.saying.Deed.{Deed}
 use Rattle.script_reader.specs.declared.saying.PortDeed.{PortDeed}
 use Rattle.script_reader.specs.Forms.{saying_of}

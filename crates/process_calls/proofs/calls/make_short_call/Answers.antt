@@ -1,6 +1,6 @@
 use Rattle.std.proofs.lemmas.List.{reverse-append}
 use Rattle.process_calls.proofs.Places.{HasAsked-called, HasAsked-others, CalledAt-set, stat-read}
-use Rattle.process_calls.proofs.calls.make_call.Goals as goal
+use Rattle.process_calls.proofs.calls.make_short_call.Goals as goal
 
 pub returns-clause-asked : goal.returns-clause-asked
 returns-clause-asked g c = λ asks h.
@@ -9,7 +9,7 @@ returns-clause-asked g c = λ asks h.
     rw (c.push_reserved.ensures.items, c.reserve.ensures.items, reverse-append, c.receipt.ensures)
     (HasAsked-called c.args.process c.args.port _ c.args.bodies.now.items _ c.in_ok-answered.answered.number c.args.line c.in_ok-answered.answered.stat asks _ at
     (stat-read c.args.port c.args.bodies.now.items c.index_mut-body.result.now c.in_ok-answered.answered.stat c.requires.port c.index_mut-body.ensures.value c.in_ok-answered.ensures.stat)
-    c.requires.port h)
+    c.requires.port c.requires.short h)
 
 pub returns-clause-others : goal.returns-clause-others
 returns-clause-others g c = λ other asks got apart h.
