@@ -80,6 +80,17 @@ fn receipt(seq: Option<u64>, stat: u64, outcome: Outcome) -> Receipt {
     }
 }
 
+/// The receipt of a call of port 0 with more data than a port takes.
+fn long_receipt() -> Receipt {
+    Receipt {
+        line: 7,
+        port: 0,
+        seq: None,
+        stat: None,
+        outcome: Outcome::TooLong,
+    }
+}
+
 fn is_data(mail: Option<Mail>, from: u32, wanted: &[u8]) -> bool {
     match mail {
         Some(Mail::Message { port, bytes, .. }) => port == from && bytes.as_slice() == wanted,
@@ -153,6 +164,49 @@ fn a_closed_port_refuses(rt: HostRuntime) -> Result<(), Fail> {
         receipts.pop(),
         Some(receipt(Some(0), 0, Outcome::Accepted))
     );
+    Ok(())
+}
+
+#[test]
+fn too_much_data_is_refused_whether_the_port_is_closed_or_not(rt: HostRuntime) -> Result<(), Fail> {
+    let alloc = rt.alloc();
+    let mut bodies = two_ports(alloc)?;
+    let mut receipts = Vec::new(alloc);
+    let most = vec![in alloc; 7; 262_143]?;
+    let more = vec![in alloc; 7; 262_144]?;
+    assert_eq!(rt;
+        call(
+            &mut bodies,
+            &mut receipts,
+            0,
+            0,
+            command(alloc, more.as_slice())?
+        )?,
+        None
+    );
+    assert_eq!(rt; receipts.pop(), Some(long_receipt()));
+    assert_eq!(rt;
+        call(
+            &mut bodies,
+            &mut receipts,
+            0,
+            0,
+            command(alloc, most.as_slice())?
+        )?,
+        Some(0)
+    );
+    call(&mut bodies, &mut receipts, 0, 0, Signal::Close)?;
+    assert_eq!(rt;
+        call(
+            &mut bodies,
+            &mut receipts,
+            0,
+            0,
+            command(alloc, more.as_slice())?
+        )?,
+        None
+    );
+    assert_eq!(rt; receipts.pop(), Some(long_receipt()));
     Ok(())
 }
 
