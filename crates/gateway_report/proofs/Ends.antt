@@ -8,7 +8,7 @@ use Rattle.port_signal.specs.declared.row.Row.{Row}
 use Rattle.port_signal.specs.declared.row.Row.TheVariants.{Handled, Late, Mark}
 use Rattle.driver_entry.specs.Owners.{Opening, next_owner, owner_of, links_after, linked}
 use Rattle.driver_entry.specs.History.{close_reason, is_open}
-use Rattle.gateway_script.specs.declared.report.PortReport.{PortReport}
+use Rattle.gateway_report.specs.declared.report.PortReport.{PortReport}
 use Rattle.gateway_report.specs.End.{opening_of, IsFrom, HasEnded}
 
 next_owner-same : (a b : Opening) (older : List Row) (owner : ℕ) (from : Sender) (signal : Signal) → a.processes ≡ b.processes

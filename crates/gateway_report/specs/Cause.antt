@@ -1,8 +1,8 @@
 -- The statuses and the texts of the causes with which a run ends.
 use Rattle.std.specs.Prelude.{ℕ, List, [], ◌∷◌, ◌++◌, codes}
 use Rattle.std.specs.Fmt.{decimal}
-use Rattle.gateway_script.specs.declared.fault.ScriptFault.{ScriptFault}
-use Rattle.gateway_script.specs.declared.fault.ScriptFault.TheVariants.{BadLine, NoMemory as NoMemoryForScript}
+use Rattle.script_reader.specs.declared.fault.ScriptFault.{ScriptFault}
+use Rattle.script_reader.specs.declared.fault.ScriptFault.TheVariants.{BadLine, UnknownName, Repeated, Limit as LimitOfScript, NoMemory as NoMemoryForScript}
 use Rattle.driver_entry.specs.declared.life.StartRefusal.{StartRefusal}
 use Rattle.driver_entry.specs.declared.life.StartRefusal.TheVariants.{General, Errno, Badarg, NoMemory as NoMemoryToStart}
 use Rattle.gateway_report.specs.declared.cause.Cause.{Cause}
@@ -23,6 +23,9 @@ status_of (Limit line) = 10
 -- the fault is one of the script, and not want of memory
 abbrev pub IsOfScript : ScriptFault → Type 0
 IsOfScript (BadLine line) = Unit {0}
+IsOfScript (UnknownName line) = Unit {0}
+IsOfScript (Repeated line) = Unit {0}
+IsOfScript (LimitOfScript line which) = Unit {0}
 IsOfScript NoMemoryForScript = ⊥
 
 -- the driver refused for a reason of its own, and not for want of memory
@@ -47,6 +50,10 @@ HasText (Limit line) = Unit {0}
 -- the line of a fault of a script, and no byte for want of memory
 unfoldable pub fault_line_of : ScriptFault → List ℕ
 fault_line_of (BadLine line) = codes "gateway: script line " ++ decimal line ++ codes ": bad line" ++ 10 ∷ []
+fault_line_of (UnknownName line) = codes "gateway: script line " ++ decimal line ++ codes ": unknown name" ++ 10 ∷ []
+fault_line_of (Repeated line) = codes "gateway: script line " ++ decimal line ++ codes ": repeated" ++ 10 ∷ []
+fault_line_of (LimitOfScript line which) =
+    codes "gateway: script line " ++ decimal line ++ codes ": limit " ++ decimal which ++ 10 ∷ []
 fault_line_of NoMemoryForScript = []
 
 -- what is said of a refusal, and no byte for want of memory

@@ -5,16 +5,16 @@ use Rattle.port_signal.specs.declared.signal.Signal.{Signal}
 use Rattle.port_signal.specs.declared.signal.Signal.TheVariants.{Command, OwnerCommand, Control, Call, Close, OwnerClose, Connect, OwnerConnect, Link, Unlink, Monitor, Demonitor, Exit, Gone}
 use Rattle.port_signal.specs.declared.row.Row.{Row}
 use Rattle.port_signal.specs.declared.row.Row.TheVariants.{Handled, Late, Mark}
-use Rattle.port_signal.specs.declared.receipt.Outcome.{Outcome}
-use Rattle.port_signal.specs.declared.receipt.Outcome.TheVariants.{Accepted, Closed}
-use Rattle.port_signal.specs.declared.receipt.Receipt.{Receipt}
+use Rattle.call_receipts.specs.declared.receipt.Outcome.{Outcome}
+use Rattle.call_receipts.specs.declared.receipt.Outcome.TheVariants.{Accepted, Closed, TooLong}
+use Rattle.call_receipts.specs.declared.receipt.Receipt.{Receipt}
 use Rattle.port_signal.specs.declared.mail.Mail.{Mail}
 use Rattle.port_signal.specs.declared.mail.Mail.TheVariants.{Message, Closed as ClosedMail, Connected, Exit as ExitMail, Down, Reply}
 use Rattle.port_signal.specs.Signals.{is_command}
 use Rattle.port_signal.specs.History.{sender_number}
 use Rattle.driver_entry.specs.Owners.{Opening}
 use Rattle.driver_entry.specs.History.{owns}
-use Rattle.gateway_script.specs.declared.report.PortReport.{PortReport}
+use Rattle.gateway_report.specs.declared.report.PortReport.{PortReport}
 
 -- the data with which a handled command calls the driver: an owner's command of a process that isn't the owner calls nothing
 abbrev pub command_data : Bool → Signal → Option (List ℕ)
@@ -80,11 +80,13 @@ commands_of process ports = sum_by (λ port. count_by (is_command_of process) po
 abbrev pub is_dropped : Outcome → Bool
 is_dropped Accepted = false
 is_dropped Closed = false
+is_dropped TooLong = false
 
 -- the command suspended its process: no outcome says so
 abbrev pub is_suspended : Outcome → Bool
 is_suspended Accepted = false
 is_suspended Closed = false
+is_suspended TooLong = false
 
 -- how many receipts are of a dropped command
 abbrev pub dropped_commands : List Receipt → ℕ

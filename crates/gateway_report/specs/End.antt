@@ -6,7 +6,7 @@ use Rattle.port_signal.specs.History.{sender_number}
 use Rattle.driver_entry.specs.Drivers.{Kind, Echo}
 use Rattle.driver_entry.specs.Owners.{Opening, closing_reason}
 use Rattle.driver_entry.specs.History.{close_reason, end_reason}
-use Rattle.gateway_script.specs.declared.report.PortReport.{PortReport}
+use Rattle.gateway_report.specs.declared.report.PortReport.{PortReport}
 
 -- the opening of a reported port, under a number and a kind, among so many processes
 abbrev pub opening_of : ℕ → Kind → ℕ → PortReport → Opening

@@ -5,7 +5,7 @@ use Rattle.std.specs.List.{flat_map, enumerate_from}
 use Rattle.driver_entry.specs.Drivers.{Echo}
 use Rattle.hex.specs.Hex.{encode_lower}
 use Rattle.sha2.specs.Sha256.{sha256}
-use Rattle.gateway_script.specs.declared.report.PortReport.{PortReport}
+use Rattle.gateway_report.specs.declared.report.PortReport.{PortReport}
 use Rattle.gateway_report.specs.declared.report.ProcReport.{ProcReport}
 use Rattle.gateway_report.specs.declared.report.Report.{Report}
 use Rattle.gateway_report.specs.Count.{handled_commands, late_commands, handled_bytes, commands_of, dropped_commands, suspended_commands, data_messages}

@@ -2,8 +2,8 @@ ghost use Rattle.std.specs.Prelude.{◌≡◌, IfOk, string_bytes};
 ghost use Rattle.gateway_report.specs.Cause.{status_of, IsOfScript, IsOfDriver, HasText, fault_line_of, refusal_text, cause_text_of};
 
 use driver_entry::StartRefusal;
-use gateway_script::ScriptFault;
 use no_memory::NoMemory;
+use script_reader::ScriptFault;
 use std::alloc::Global;
 
 /// Why a run ended. Lines of the script count from 1, and 0 stands for the script as a whole.
@@ -80,6 +80,15 @@ fn fault_line(alloc: Global, fault: &ScriptFault) -> Result<String, NoMemory>
     match fault {
         ScriptFault::BadLine { line } => Ok(format!(in alloc;
             "gateway: script line {line}: bad line\n"
+        )?),
+        ScriptFault::UnknownName { line } => Ok(format!(in alloc;
+            "gateway: script line {line}: unknown name\n"
+        )?),
+        ScriptFault::Repeated { line } => Ok(format!(in alloc;
+            "gateway: script line {line}: repeated\n"
+        )?),
+        ScriptFault::Limit { line, which } => Ok(format!(in alloc;
+            "gateway: script line {line}: limit {which}\n"
         )?),
         ScriptFault::NoMemory => unreachable!(),
     }

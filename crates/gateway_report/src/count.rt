@@ -7,10 +7,11 @@ ghost use Rattle.driver_entry.specs.Owners.{Opening};
 ghost use Rattle.port_ties.specs.Tied.{Tied};
 ghost use Rattle.gateway_report.specs.Count.{command_data, row_data, is_late_command, is_command_of, late_commands, commands_of, is_dropped, is_suspended, dropped_commands, suspended_commands, is_data, data_messages};
 
-use gateway_script::PortReport;
+use crate::report::PortReport;
+use call_receipts::{Outcome, Receipt};
 use links_owner::Links;
 use no_memory::NoMemory;
-use port_signal::{IoVec, Mail, Outcome, Receipt, Row, Sender, Signal};
+use port_signal::{IoVec, Mail, Row, Sender, Signal};
 
 /// How many commands came when the port was no longer open.
 pub fn late_commands(rows: &[Row]) -> usize
@@ -137,7 +138,7 @@ fn is_dropped(outcome: Outcome) -> bool
     ensures { result ≡ is_dropped outcome }
 {
     match outcome {
-        Outcome::Accepted | Outcome::Closed => false,
+        Outcome::Accepted | Outcome::Closed | Outcome::TooLong => false,
     }
 }
 
@@ -145,7 +146,7 @@ fn is_suspended(outcome: Outcome) -> bool
     ensures { result ≡ is_suspended outcome }
 {
     match outcome {
-        Outcome::Accepted | Outcome::Closed => false,
+        Outcome::Accepted | Outcome::Closed | Outcome::TooLong => false,
     }
 }
 

@@ -12,8 +12,8 @@ mod sums;
 mod text;
 
 pub use cause::{Cause, cause_text};
-pub use gateway_script::{PortReport, ScriptFault};
-pub use report::{ProcReport, Report};
+pub use report::{PortReport, ProcReport, Report};
+pub use script_reader::ScriptFault;
 pub use text::report_text;
 
 #[cfg(test)]

@@ -11,7 +11,7 @@ ghost use Rattle.gateway_report.specs.End.{IsFrom, opening_of};
 ghost use Rattle.gateway_report.specs.Sums.{Noted, SumsUp, Walked};
 
 use crate::count::{checked_sum, driver_bytes};
-use gateway_script::PortReport;
+use crate::report::PortReport;
 use links_owner::Links;
 use no_memory::NoMemory;
 use port_signal::{Reason, Row, Sender, Signal};
@@ -58,24 +58,14 @@ impl PortSums {
     }
 
     /// The reason that processes are told of the end.
-    pub fn told_end(&self) -> &str
+    pub fn told_end(&self) -> Reason
         requires { IsSome self.now.end }
-        ensures { result.now ≡ unwrap_or (option_map told_reason self.now.end) [] }
+        ensures { result ≡ unwrap_or (option_map told_reason self.now.end) [] }
     {
         match &self.end {
-            Some(reason) => told(reason),
+            Some(reason) => reason.told(),
             None => unreachable!(),
         }
-    }
-}
-
-/// A process that was killed is told of as `killed`.
-fn told(reason: &Reason) -> &str
-    ensures { result.now ≡ told_reason reason.now }
-{
-    match reason.as_str() {
-        "kill" => "killed",
-        other => other,
     }
 }
 

@@ -6,12 +6,10 @@ ghost use Rattle.port_signal.specs.declared.signal.Sender.TheVariants.{Process};
 ghost use Rattle.gateway_report.specs.End.{HasEnded, IsFrom};
 
 use super::*;
+use call_receipts::{Outcome, Receipt};
 use driver_entry::{Config, StartRefusal};
 use io_vector::{Flag, IoVec, Piece};
-use port_signal::{
-    Answer, Items, Journal, Log, Mail, MarkKind, Outcome, Receipt, Row, Sender, Signal, Task,
-    reason,
-};
+use port_signal::{Answer, Items, Journal, Log, Mail, MarkKind, Row, Sender, Signal, Task, reason};
 use std::alloc::Global;
 use std::test::Fail;
 
@@ -279,6 +277,37 @@ fn tells_each_cause(rt: HostRuntime) -> Result<(), Fail> {
             },
             2,
             "gateway: script line 12: bad line\n",
+        ),
+        (
+            Cause::Script {
+                fault: ScriptFault::UnknownName { line: 3 },
+            },
+            2,
+            "gateway: script line 3: unknown name\n",
+        ),
+        (
+            Cause::Script {
+                fault: ScriptFault::Repeated { line: 4294967295 },
+            },
+            2,
+            "gateway: script line 4294967295: repeated\n",
+        ),
+        (
+            Cause::Script {
+                fault: ScriptFault::Limit { line: 40, which: 1 },
+            },
+            2,
+            "gateway: script line 40: limit 1\n",
+        ),
+        (
+            Cause::Script {
+                fault: ScriptFault::Limit {
+                    line: 131075,
+                    which: 3,
+                },
+            },
+            2,
+            "gateway: script line 131075: limit 3\n",
         ),
         (
             Cause::ReadFault { line: 0 },

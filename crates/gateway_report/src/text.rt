@@ -8,9 +8,8 @@ use crate::count::{
     commands_of, data_messages, dropped_commands, late_commands, suspended_commands,
 };
 use crate::digest::data_digest;
-use crate::report::{ProcReport, Report};
+use crate::report::{PortReport, ProcReport, Report};
 use crate::sums::port_sums;
-use gateway_script::PortReport;
 use no_memory::NoMemory;
 use std::alloc::Global;
 
@@ -68,7 +67,8 @@ fn write_port(
     let sums = port_sums(alloc, processes, port)?;
     let commands = sums.commands;
     let bytes = sums.bytes;
-    let end = sums.told_end();
+    let told = sums.told_end();
+    let end = told.as_str();
     writeln!(
         text,
         "port {name} driver={driver} commands={commands} late={late} bytes={bytes} end={end}"
