@@ -1,21 +1,23 @@
 -- Why a run ends as it does, and what it wrote.
-use Rattle.std.specs.Prelude.{◌≡◌, ℕ, ◌<◌, ◌≤◌, ◌⊎◌, List, ◌++◌, length, take, count_by, Option, Some, None, Result, Ok, Err, IfSome, IfOk, IsSome, IsSomeAnd, slice_index_or}
+use Rattle.std.specs.Prelude.{◌≡◌, ℕ, ◌<◌, ◌≤◌, ◌⊎◌, List, ◌++◌, length, Option, Some, None, Result, Ok, Err, IfSome, IfOk, IsSome, IsSomeAnd, slice_index_or}
 use Rattle.std.specs.Option.{option_map}
-use Rattle.std.specs.Str.{bytes_eq}
 use Rattle.outside.specs.Causes.{Told, Rose}
 use Rattle.driver_entry.specs.declared.life.StartRefusal.{StartRefusal}
 use Rattle.driver_entry.specs.declared.life.StartRefusal.TheVariants.{General, Errno, Badarg, NoMemory as NoMemoryToStart}
 use Rattle.driver_entry.specs.Drivers.{Kind, kind_name}
 use Rattle.driver_entry.specs.Refusals.{refusal_of}
-use Rattle.gateway_script.specs.declared.decl.PortDecl.{PortDecl}
-use Rattle.gateway_script.specs.declared.fault.ScriptFault.TheVariants.{BadLine, NoMemory as NoMemoryForScript}
-use Rattle.gateway_script.specs.Plan.{Plan}
-use Rattle.gateway_script.specs.Script.{script}
+use Rattle.port_hosts.specs.declared.hosted.Hosted.{Hosted}
+use Rattle.port_hosts.specs.Finding.{Found, HasDrivers, LacksDriver}
+use Rattle.port_hosts.specs.Opening.{HasRefused}
+use Rattle.script_reader.specs.declared.decl.PortDecl.{PortDecl}
+use Rattle.script_reader.specs.Plan.{Plan}
+use Rattle.script_reader.specs.Script.{script}
 use Rattle.gateway_report.specs.declared.cause.Cause.{Cause}
 use Rattle.gateway_report.specs.declared.cause.Cause.TheVariants.{Done, Usage, Script, ReadFault, WriteFault, NoDriver, StartRefused, NoMemory, Limit}
-use Rattle.gateway_report.specs.Cause.{IsOfDriver}
+use Rattle.gateway_report.specs.Cause.{IsOfDriver, IsOfScript}
 use Rattle.gateway_report.specs.declared.report.Report.{Report}
 use Rattle.gateway_report.specs.Report.{text_of}
+use Rattle.gateway.specs.Wanted.{wanted_of}
 
 -- the words name a script, and where the files tell what they hold, this is so of what they hold under its name
 abbrev pub OfScript : Result (List ℕ) ℕ → Told → (Option (List ℕ) → Type 0) → Type 0
@@ -32,23 +34,25 @@ pub record Says (words : Result (List ℕ) ℕ) (told : Told) (plan : Plan) : Ty
   pub held : files name ≡ Some bytes
   pub says : script bytes ≡ Ok plan
 
--- no driver is left for a port on this line: as many have its name as ports above it, which have taken them
-pub record LacksDriver (count : List ℕ → ℕ) (plan : Plan) (line handed : ℕ) : Type 0 where
-  pub at : ℕ
-  pub within : at < length plan.ports
-  pub stands : (d : PortDecl) → (slice_index_or plan.ports at d).line ≡ line
-  pub counted : (d : PortDecl) → handed ≡ count (slice_index_or plan.ports at d).driver
-  pub taken : (d : PortDecl) → handed ≤ count_by (λ p. bytes_eq p.driver (slice_index_or plan.ports at d).driver) (take at plan.ports)
+-- the port at this place is declared on this line
+abbrev pub StandsOn : Plan → ℕ → ℕ → Type 0
+StandsOn plan at line = (d : PortDecl) → (slice_index_or plan.ports at d).line ≡ line
 
--- a driver is left for a port on this line, and it is of a kind that refuses to start so
-pub record RefusesStart (count : List ℕ → ℕ) (plan : Plan) (line : ℕ) (refusal : StartRefusal) : Type 0 where
-  pub at : ℕ
-  pub kind : Kind
-  pub within : at < length plan.ports
-  pub stands : (d : PortDecl) → (slice_index_or plan.ports at d).line ≡ line
-  pub named : (d : PortDecl) → kind_name kind ≡ (slice_index_or plan.ports at d).driver
-  pub left : (d : PortDecl) → count_by (λ p. bytes_eq p.driver (slice_index_or plan.ports at d).driver) (take at plan.ports) < count (slice_index_or plan.ports at d).driver
-  pub refuses : refusal_of kind ≡ Some refusal
+module _ {D : Type 0} where
+  -- no driver is left for the port on this line, and it is the first such: as many have its name as ports above it got
+  pub record LacksFor (kind : D → Kind) (hosts : List (Hosted D)) (plan : Plan) (line handed : ℕ) : Type 0 where
+    pub at : ℕ
+    pub stands : StandsOn plan at line
+    pub lacks : LacksDriver kind hosts (wanted_of plan.ports) at handed
+
+  -- the driver that the port on this line got refuses so by its kind
+  pub record RefusesFor (kind : D → Kind) (hosts : List (Hosted D)) (plan : Plan) (line : ℕ) (refusal : StartRefusal) : Type 0 where
+    pub at : ℕ
+    pub places : List ℕ
+    pub stands : StandsOn plan at line
+    pub found : Found kind hosts (wanted_of plan.ports) places
+    pub refuses : HasRefused kind (length plan.ports) places hosts at refusal
+    pub of_driver : IsOfDriver refusal
 
 -- the counts of faults before and after a run
 pub record Counts : Type 0 where
@@ -57,19 +61,19 @@ pub record Counts : Type 0 where
   pub puts : ℕ
 
 -- each cause comes only where this holds
-abbrev pub CauseComes : Result (List ℕ) ℕ → Told → (List ℕ → ℕ) → Counts → Counts → Cause → Type 0
-CauseComes words told count before after Done = (after.reads ≡ before.reads) × (after.writes ≡ before.writes) × (after.puts ≡ before.puts)
-CauseComes words told count before after (Usage at) = words ≡ Err at
-CauseComes words told count before after (Script (BadLine line)) = OfScript words told (λ held. IfSome held (λ bytes. script bytes ≡ Err line))
-CauseComes words told count before after (Script NoMemoryForScript) = ⊥
-CauseComes words told count before after (ReadFault line) = (line ≡ 0) × (Rose before.reads after.reads ⊎ (IsSome told × OfScript words told (λ held. held ≡ None)))
-CauseComes words told count before after WriteFault = Rose before.puts after.puts
-CauseComes words told count before after (NoDriver line handed) =
-    OfScript words told (λ held. IfSome held (λ bytes. IfOk (script bytes) (λ plan. LacksDriver count plan line handed)))
-CauseComes words told count before after (StartRefused line refusal) =
-    IsOfDriver refusal × OfScript words told (λ held. IfSome held (λ bytes. IfOk (script bytes) (λ plan. RefusesStart count plan line refusal)))
-CauseComes words told count before after NoMemory = Unit {0}
-CauseComes words told count before after (Limit line) = (line ≡ 0) × OfScript words told (λ held. IfSome held (λ bytes. 1048576 < length bytes))
+module _ {D : Type 0} where
+  abbrev pub CauseComes : Result (List ℕ) ℕ → Told → (D → Kind) → List (Hosted D) → Counts → Counts → Cause → Type 0
+  CauseComes words told kind hosts before after Done = (after.reads ≡ before.reads) × (after.writes ≡ before.writes) × (after.puts ≡ before.puts)
+  CauseComes words told kind hosts before after (Usage at) = words ≡ Err at
+  CauseComes words told kind hosts before after (Script fault) = IsOfScript fault × OfScript words told (λ held. IfSome held (λ bytes. script bytes ≡ Err fault))
+  CauseComes words told kind hosts before after (ReadFault line) = (line ≡ 0) × (Rose before.reads after.reads ⊎ (IsSome told × OfScript words told (λ held. held ≡ None)))
+  CauseComes words told kind hosts before after WriteFault = Rose before.puts after.puts
+  CauseComes words told kind hosts before after (NoDriver line handed) =
+      OfScript words told (λ held. IfSome held (λ bytes. IfOk (script bytes) (λ plan. LacksFor kind hosts plan line handed)))
+  CauseComes words told kind hosts before after (StartRefused line refusal) =
+      OfScript words told (λ held. IfSome held (λ bytes. IfOk (script bytes) (λ plan. RefusesFor kind hosts plan line refusal)))
+  CauseComes words told kind hosts before after NoMemory = Unit {0}
+  CauseComes words told kind hosts before after (Limit line) = (line ≡ 0) × OfScript words told (λ held. IfSome held (λ bytes. 1048576 < length bytes))
 
 -- a report is there where the run was made, also where it wasn't written
 abbrev pub IsReported : Cause → Option Report → Type 0
@@ -109,16 +113,17 @@ unserved_cause line Badarg = StartRefused line Badarg
 unserved_cause line NoMemoryToStart = NoMemory
 
 -- why no report of a script could be made: a driver is missing or refuses to start, or memory is wanting
-abbrev pub MakeFails : (List ℕ → ℕ) → Plan → Cause → Type 0
-MakeFails count plan Done = ⊥
-MakeFails count plan (Usage at) = ⊥
-MakeFails count plan (Script fault) = ⊥
-MakeFails count plan (ReadFault line) = ⊥
-MakeFails count plan WriteFault = ⊥
-MakeFails count plan (NoDriver line handed) = LacksDriver count plan line handed
-MakeFails count plan (StartRefused line refusal) = IsOfDriver refusal × RefusesStart count plan line refusal
-MakeFails count plan NoMemory = Unit {0}
-MakeFails count plan (Limit line) = ⊥
+module _ {D : Type 0} where
+  abbrev pub MakeFails : (D → Kind) → List (Hosted D) → Plan → Cause → Type 0
+  MakeFails kind hosts plan Done = ⊥
+  MakeFails kind hosts plan (Usage at) = ⊥
+  MakeFails kind hosts plan (Script fault) = ⊥
+  MakeFails kind hosts plan (ReadFault line) = ⊥
+  MakeFails kind hosts plan WriteFault = ⊥
+  MakeFails kind hosts plan (NoDriver line handed) = LacksFor kind hosts plan line handed
+  MakeFails kind hosts plan (StartRefused line refusal) = RefusesFor kind hosts plan line refusal
+  MakeFails kind hosts plan NoMemory = Unit {0}
+  MakeFails kind hosts plan (Limit line) = ⊥
 
 -- what was read is a script of at most 1,048,576 bytes that says this
 abbrev pub LoadOk : Told → ℕ → ℕ → List ℕ → Plan → Type 0
@@ -128,8 +133,7 @@ LoadOk told before after name plan = (after ≡ before) × IfSome told (λ files
 abbrev pub LoadErr : Told → ℕ → ℕ → List ℕ → Cause → Type 0
 LoadErr told before after name Done = ⊥
 LoadErr told before after name (Usage at) = ⊥
-LoadErr told before after name (Script (BadLine line)) = IfSome told (λ files. IfSome (files name) (λ bytes. script bytes ≡ Err line) × IsSome (files name))
-LoadErr told before after name (Script NoMemoryForScript) = ⊥
+LoadErr told before after name (Script fault) = IsOfScript fault × IfSome told (λ files. IfSome (files name) (λ bytes. script bytes ≡ Err fault) × IsSome (files name))
 LoadErr told before after name (ReadFault line) = (line ≡ 0) × (Rose before after ⊎ IsSomeAnd told (λ files. files name ≡ None))
 LoadErr told before after name WriteFault = ⊥
 LoadErr told before after name (NoDriver line handed) = ⊥
@@ -154,17 +158,13 @@ pub record NoFault (before after : Counts) : Type 0 where
   pub reads : Rose before.reads after.reads → ⊥
   pub puts : Rose before.puts after.puts → ⊥
 
--- for each port there are more drivers of its name than ports above it that take them
-abbrev pub HasDrivers : (List ℕ → ℕ) → Plan → Type 0
-HasDrivers count plan = (at : ℕ) (d : PortDecl) → at < length plan.ports
-    → count_by (λ p. bytes_eq p.driver (slice_index_or plan.ports at d).driver) (take at plan.ports) < count (slice_index_or plan.ports at d).driver
-
 -- no port wants a driver of a kind that refuses to start
 abbrev pub AllStart : Plan → Type 0
 AllStart plan = (at : ℕ) (d : PortDecl) (kind : Kind) → at < length plan.ports → kind_name kind ≡ (slice_index_or plan.ports at d).driver → refusal_of kind ≡ None
 
 -- where the words name a script that the files tell, which is valid and within its limit, a driver that starts is there for each of its
 -- ports, and no count of faults rose, the run was made, or memory was wanting
-abbrev pub Completes : Result (List ℕ) ℕ → Told → (List ℕ → ℕ) → Counts → Counts → Cause → Type 0
-Completes words told count before after cause = (plan : Plan) (says : Says words told plan) → length says.bytes ≤ 1048576 → HasDrivers count plan → AllStart plan → NoFault before after
-    → (cause ≡ Done) ⊎ (cause ≡ NoMemory)
+module _ {D : Type 0} where
+  abbrev pub Completes : Result (List ℕ) ℕ → Told → (D → Kind) → List (Hosted D) → Counts → Counts → Cause → Type 0
+  Completes words told kind hosts before after cause = (plan : Plan) (says : Says words told plan) → length says.bytes ≤ 1048576
+      → HasDrivers kind hosts (wanted_of plan.ports) → AllStart plan → NoFault before after → (cause ≡ Done) ⊎ (cause ≡ NoMemory)

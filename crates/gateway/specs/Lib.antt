@@ -1,8 +1,5 @@
 pub mod Words
-pub mod Asks
-pub mod Receipts
-pub mod Port
-pub mod Hosts
+pub mod Wanted
 pub mod Headline
+pub mod Reported
 pub mod Causes
-pub mod Idle

@@ -1,5 +1,5 @@
 ghost use Rattle.std.specs.Prelude.{◌≡◌, All, IfOk};
-ghost use Rattle.gateway.specs.Hosts.{IsUnused};
+ghost use Rattle.port_hosts.specs.Hosts.{IsUnused};
 
 use crate::Hosted;
 use driver_entry::{Driver, Life};

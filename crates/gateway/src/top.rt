@@ -1,21 +1,18 @@
-ghost use Rattle.std.specs.Prelude.{◌≡◌, ◌⊎◌, ◌≤◌, ℕ, List, map, string_bytes, All, Some, None, Ok, Err, Option, IfSome, IfOk, IfErr, length, MatchResult};
-ghost use Rattle.outside.specs.Causes.{Rose, Told};
-ghost use Rattle.gateway_script.specs.Plan.{Plan};
-ghost use Rattle.gateway_script.specs.Script.{script};
+ghost use Rattle.std.specs.Prelude.{◌≡◌, List, map, string_bytes, All, Some, IfSome, IfOk, IfErr, length};
+ghost use Rattle.script_reader.specs.Plan.{IsPlan, Plan};
 ghost use Rattle.gateway_report.specs.Cause.{status_of};
 ghost use Rattle.gateway_report.specs.End.{HasEnded};
-ghost use Rattle.gateway_report.specs.Report.{text_of};
+ghost use Rattle.port_hosts.specs.Hosts.{AllCameBack, IsUnused};
 ghost use Rattle.gateway.specs.Words.{asked};
-ghost use Rattle.gateway.specs.Hosts.{AllCameBack, IsUnused, named_count};
 ghost use Rattle.gateway.specs.Headline.{Headline};
 ghost use Rattle.gateway.specs.Causes.{CauseComes, Completes, IsReported, LoadErr, LoadOk, Says, WriteComes, Wrote};
 
-use crate::reporting::make_report;
+use crate::serving::make_report;
 use crate::{Hosted, script_name};
 use driver_entry::Driver;
 use gateway_report::{Cause, Report, report_text};
-use gateway_script::{Script, ScriptFault, read_script};
 use outside::{FileFault, Files, Gate, PollSet, Sink};
+use script_reader::{Script, ScriptFault, read_script};
 use std::alloc::Global;
 use std::sync::Wait;
 
@@ -27,6 +24,7 @@ fn load<F: Files>(alloc: Global, files: &mut F, name: &str) -> Result<Script, Ca
     ensures writes { F.writes files.new ≡ F.writes files.old }
     ensures told { F.told files.new ≡ F.told files.old }
     ensures ok { IfOk result (λ s. LoadOk (F.told files.old) (F.reads files.old) (F.reads files.new) name.now s) }
+    ensures plan { IfOk result IsPlan }
     ensures err { IfErr result (λ cause. LoadErr (F.told files.old) (F.reads files.old) (F.reads files.new) name.now cause) }
 {
     let bytes = match files.read(alloc, name, MAX_SCRIPT) {
@@ -39,10 +37,8 @@ fn load<F: Files>(alloc: Global, files: &mut F, name: &str) -> Result<Script, Ca
     };
     match read_script(alloc, bytes.as_slice()) {
         Ok(script) => Ok(script),
-        Err(ScriptFault::BadLine { line }) => Err(Cause::Script {
-            fault: ScriptFault::BadLine { line },
-        }),
         Err(ScriptFault::NoMemory) => Err(Cause::NoMemory),
+        Err(fault) => Err(Cause::Script { fault }),
     }
 }
 
@@ -97,7 +93,7 @@ fn run_words<D: Driver, F: Files, K: Sink, R: Wait>(
     hosts: &mut Vec<Hosted<D>>,
 ) -> Outcome
     requires { All (IsUnused D.stage) hosts.old.items }
-    ensures cause { CauseComes (asked (map (λ w. string_bytes w) words.now)) (F.told files.old) (λ name. named_count D.kind name hosts.old.items)
+    ensures cause { CauseComes (asked (map (λ w. string_bytes w) words.now)) (F.told files.old) D.kind hosts.old.items
         (record { reads = F.reads files.old; writes = F.writes files.old; puts = K.faults out.old })
         (record { reads = F.reads files.new; writes = F.writes files.new; puts = K.faults out.new }) result.cause }
     ensures reported { IsReported result.cause result.report }
@@ -143,10 +139,10 @@ fn run_hosted<D: Driver, F: Files, K: Sink, P, R: Wait>(
 ) -> Ended<P, D>
     requires { All (IsUnused D.stage) drivers.items }
     ensures status { result.status ≡ status_of result.cause }
-    ensures cause { CauseComes (asked (map (λ w. string_bytes w) words.now)) (F.told files.old) (λ name. named_count D.kind name drivers.items)
+    ensures cause { CauseComes (asked (map (λ w. string_bytes w) words.now)) (F.told files.old) D.kind drivers.items
         (record { reads = F.reads files.old; writes = F.writes files.old; puts = K.faults out.old })
         (record { reads = F.reads files.new; writes = F.writes files.new; puts = K.faults out.new }) result.cause }
-    ensures complete { Completes (asked (map (λ w. string_bytes w) words.now)) (F.told files.old) (λ name. named_count D.kind name drivers.items)
+    ensures complete { Completes (asked (map (λ w. string_bytes w) words.now)) (F.told files.old) D.kind drivers.items
         (record { reads = F.reads files.old; writes = F.writes files.old; puts = K.faults out.old })
         (record { reads = F.reads files.new; writes = F.writes files.new; puts = K.faults out.new }) result.cause }
     ensures reported { IsReported result.cause result.report }
@@ -170,10 +166,11 @@ fn run_hosted<D: Driver, F: Files, K: Sink, P, R: Wait>(
 /// Runs what the words ask for: `run SCRIPT`. They exclude the program's own name.
 ///
 /// The script is read from `files` and has at most 1,048,576 bytes; the report is written to `out`. Each driver serves at most one port,
-/// the first one that has its name. Neither the poll set nor the gate is used: the run is made by this thread alone.
+/// the first one that has its name and no driver yet. Neither the poll set nor the gate is used: the run is made by this thread alone,
+/// in rounds in which each process makes its next step.
 ///
-/// The call may wait: a port whose driver stays busy keeps the end of its owner waiting, and is run on. What is promised holds if it
-/// returns.
+/// The call may wait: a process waits for a reply, and a port whose driver stays busy keeps it, and the end of its owner, waiting. What is
+/// promised holds if it returns.
 ///
 /// Whatever the status, each driver comes back in its place, fresh or stopped.
 pub fn gateway<F: Files, K: Sink, P: PollSet + Send, G: Gate + Sync, R: Sync + Wait>(
@@ -188,10 +185,10 @@ pub fn gateway<F: Files, K: Sink, P: PollSet + Send, G: Gate + Sync, R: Sync + W
 ) -> Ended<P>
     requires { All (IsUnused (λ b. stage b)) drivers.items }
     ensures status { result.status ≡ status_of result.cause }
-    ensures cause { CauseComes (asked (map (λ w. string_bytes w) words.now)) (F.told files.old) (λ name. named_count (λ b. kind b) name drivers.items)
+    ensures cause { CauseComes (asked (map (λ w. string_bytes w) words.now)) (F.told files.old) (λ b. kind b) drivers.items
         (record { reads = F.reads files.old; writes = F.writes files.old; puts = K.faults out.old })
         (record { reads = F.reads files.new; writes = F.writes files.new; puts = K.faults out.new }) result.cause }
-    ensures complete { Completes (asked (map (λ w. string_bytes w) words.now)) (F.told files.old) (λ name. named_count (λ b. kind b) name drivers.items)
+    ensures complete { Completes (asked (map (λ w. string_bytes w) words.now)) (F.told files.old) (λ b. kind b) drivers.items
         (record { reads = F.reads files.old; writes = F.writes files.old; puts = K.faults out.old })
         (record { reads = F.reads files.new; writes = F.writes files.new; puts = K.faults out.new }) result.cause }
     ensures reported { IsReported result.cause result.report }

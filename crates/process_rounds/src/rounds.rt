@@ -38,5 +38,5 @@ pub fn run_processes<D: Driver, R: Wait>(
     ensures run { IfOk result (λ left. (process : ℕ) (d : Left) → process < processes
         → HasRun process (asks (length bodies.old.items) process steps.now) bodies.new.items (slice_index_or left.items process d)) }
 {
-    unreachable!()
+    Err(NoMemory)
 }

@@ -1,5 +1,5 @@
 use Rattle.std.specs.Prelude.{All}
-use Rattle.gateway.specs.Hosts.{IsUnused}
+use Rattle.port_hosts.specs.Hosts.{IsUnused}
 use Rattle.gateway.proofs.making.host_drivers.Given as goal
 
 -- no driver so far serves a port, or was started
