@@ -1,5 +1,5 @@
 -- What a report counts in rows, receipts and mail.
-use Rattle.std.specs.Prelude.{ℕ, ◌==◌, List, [], ◌∷◌, Bool, true, false, ◌&&◌, if◌then◌else◌, Option, Some, None, length, count_by, sum_by}
+use Rattle.std.specs.Prelude.{◌≡◌, ◌<◌, ◌+◌, ℕ, ◌==◌, List, [], ◌∷◌, Bool, true, false, ◌&&◌, if◌then◌else◌, Option, Some, None, length, get_or, count_by, sum_by}
 use Rattle.std.specs.List.{concat}
 use Rattle.port_signal.specs.declared.signal.Signal.{Signal}
 use Rattle.port_signal.specs.declared.signal.Signal.TheVariants.{Command, OwnerCommand, Control, Call, Close, OwnerClose, Connect, OwnerConnect, Link, Unlink, Monitor, Demonitor, Exit, Gone}
@@ -75,6 +75,11 @@ is_command_of process (Mark kind) = false
 -- how many commands of this process were put, over the histories of all ports
 abbrev pub commands_of : ℕ → List PortReport → ℕ
 commands_of process ports = sum_by (λ port. count_by (is_command_of process) port.journal.rows) ports
+
+-- both lists have a count for each process, and each count of the newer is so many more
+pub record HasMore (more : ℕ → ℕ) (older newer : List ℕ) : Type 0 where
+  pub len : length newer ≡ length older
+  pub counts : (process : ℕ) → process < length older → get_or newer process 0 ≡ get_or older process 0 + more process
 
 -- the command was dropped: no outcome says so
 abbrev pub is_dropped : Outcome → Bool

@@ -1,17 +1,20 @@
-ghost use Rattle.std.specs.Prelude.{◌≡◌, ◌==◌, ◌+◌, List, length, IfOk};
+ghost use Rattle.std.specs.Prelude.{◌≡◌, ◌<◌, ◌==◌, ◌&&◌, ◌+◌, ℕ, List, All, length, get_or, count_by, if◌then◌else◌, IfOk, OnOk};
 ghost use Rattle.std.specs.List.{concat};
 ghost use Rattle.std.specs.Option.{option_map};
+ghost use Rattle.port_signal.specs.Signals.{is_command};
 ghost use Rattle.port_signal.specs.History.{sender_number};
 ghost use Rattle.port_signal.specs.declared.row.Row.{Row as RowValue};
 ghost use Rattle.driver_entry.specs.Owners.{Opening};
 ghost use Rattle.port_ties.specs.Tied.{Tied};
-ghost use Rattle.gateway_report.specs.Count.{command_data, row_data, is_late_command, is_command_of, late_commands, commands_of, is_dropped, is_suspended, dropped_commands, suspended_commands, is_data, data_messages};
+ghost use Rattle.gateway_report.specs.Count.{command_data, row_data, is_late_command, is_command_of, late_commands, commands_of, is_dropped, is_suspended, dropped_commands, suspended_commands, is_data, data_messages, HasMore};
+ghost use Rattle.gateway_report.specs.End.{HasEnded, IsFrom};
 
 use crate::report::PortReport;
 use call_receipts::{Outcome, Receipt};
 use links_owner::Links;
 use no_memory::NoMemory;
 use port_signal::{IoVec, Mail, Row, Sender, Signal};
+use std::alloc::Global;
 
 /// How many commands came when the port was no longer open.
 pub fn late_commands(rows: &[Row]) -> usize
@@ -20,20 +23,57 @@ pub fn late_commands(rows: &[Row]) -> usize
     rows.iter().filter(|row| is_late_command(row)).count()
 }
 
-/// How many commands the process at this place put, over the histories of all ports.
-pub fn commands_of(process: u32, ports: &[PortReport]) -> Result<u64, NoMemory>
-    ensures { IfOk result (λ commands. commands ≡ commands_of process ports.now) }
+/// How many commands each of so many processes put, over the histories of all ports. All rows are gone through once.
+pub fn commands_of_each(
+    alloc: Global,
+    processes: usize,
+    ports: &[PortReport],
+) -> Result<Vec<u64>, NoMemory>
+    requires { All (HasEnded processes) ports.now }
+    ensures len { IfOk result (λ commands. length commands.items ≡ processes) }
+    ensures commands { IfOk result (λ commands. (process : ℕ) → process < processes → get_or commands.items process 0 ≡ commands_of process ports.now) }
 {
-    let mut commands = 0;
+    let mut commands = vec![in alloc; 0; processes]?;
     for port in ports {
-        let rows = port.journal.rows.as_slice();
-        let count = rows
-            .iter()
-            .filter(|row| is_command_of(process, row))
-            .count();
-        commands = checked_sum(commands, count as u64)?;
+        count_rows(&mut commands, port.journal.rows.as_slice())?;
     }
     Ok(commands)
+}
+
+/// Counts each command of the rows for the process that put it.
+fn count_rows(commands: &mut Vec<u64>, rows: &[Row]) -> Result<(), NoMemory>
+    requires { All (IsFrom (length commands.old.items)) rows.now }
+    ensures { OnOk result (HasMore (λ process. count_by (is_command_of process) rows.now) commands.old.items commands.new.items) }
+{
+    for row in rows {
+        count_row(commands, row)?;
+    }
+    Ok(())
+}
+
+fn count_row(commands: &mut Vec<u64>, row: &Row) -> Result<(), NoMemory>
+    requires { IsFrom (length commands.old.items) row.now }
+    ensures { OnOk result (HasMore (λ process. if is_command_of process row.now then 1 else 0) commands.old.items commands.new.items) }
+{
+    match row {
+        Row::Handled { from, task, .. } | Row::Late { from, task, .. } => {
+            count_signal(commands, *from, &task.signal)
+        }
+        Row::Mark(_) => Ok(()),
+    }
+}
+
+/// Counts a command for its sender, and nothing for another signal.
+fn count_signal(commands: &mut Vec<u64>, from: Sender, signal: &Signal) -> Result<(), NoMemory>
+    requires { sender_number from < length commands.old.items }
+    ensures { OnOk result (HasMore (λ process. if is_command signal.now && (sender_number from == process) then 1 else 0) commands.old.items commands.new.items) }
+{
+    if signal.is_command() {
+        let Sender::Process(process) = from;
+        let place = process as usize;
+        commands[place] = checked_sum(commands[place], 1)?;
+    }
+    Ok(())
 }
 
 /// How many receipts are of a dropped command.
@@ -76,17 +116,6 @@ fn is_late_command(row: &Row) -> bool
     match row {
         Row::Late { task, .. } => task.signal.is_command(),
         Row::Handled { .. } | Row::Mark(_) => false,
-    }
-}
-
-fn is_command_of(process: u32, row: &Row) -> bool
-    ensures { result ≡ is_command_of process row.now }
-{
-    match row {
-        Row::Handled { from, task, .. } | Row::Late { from, task, .. } => {
-            task.signal.is_command() && *from == Sender::Process(process)
-        }
-        Row::Mark(_) => false,
     }
 }
 

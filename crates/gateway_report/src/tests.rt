@@ -172,6 +172,17 @@ fn accepted(line: u32, port: u32, seq: u64) -> Receipt {
     }
 }
 
+/// A call whose signal has too much data, which no row and no count tells of.
+fn too_long(line: u32, port: u32) -> Receipt {
+    Receipt {
+        line,
+        port,
+        seq: None,
+        stat: None,
+        outcome: Outcome::TooLong,
+    }
+}
+
 #[test]
 fn reports_one_command(rt: HostRuntime) -> Result<(), Fail> {
     let alloc = rt.alloc();
@@ -235,7 +246,7 @@ fn reports_connected_and_linked_ports(rt: HostRuntime) -> Result<(), Fail> {
     let report = Report {
         ports: Items::of_vec(vec![in alloc; connected_port(alloc)?, linked_port(alloc)?]?),
         processes: Items::of_vec(vec![in alloc;
-            process("a", Vec::new(alloc), Vec::new(alloc))?,
+            process("a", vec![in alloc; too_long(9, 0)]?, Vec::new(alloc))?,
             process("b", Vec::new(alloc), vec![in alloc; Mail::Closed(0)]?)?,
         ]?),
     };

@@ -1,11 +1,13 @@
-ghost use Rattle.std.specs.Prelude.{◌≡◌, ◌≤◌, ◌++◌, All, IfOk, OnOk, length, string_bytes};
+ghost use Rattle.std.specs.Prelude.{◌≡◌, ◌≤◌, ◌++◌, ℕ, List, All, IfOk, OnOk, length, string_bytes};
 ghost use Rattle.std.specs.List.{flat_map, enumerate_from};
 ghost use Rattle.port_signal.specs.declared.items.TheConstants.{MAX_ITEMS};
+ghost use Rattle.gateway_report.specs.declared.report.PortReport.{PortReport as PortValue};
+ghost use Rattle.gateway_report.specs.Count.{commands_of};
 ghost use Rattle.gateway_report.specs.End.{HasEnded};
 ghost use Rattle.gateway_report.specs.Report.{port_line, process_line, text_of};
 
 use crate::count::{
-    commands_of, data_messages, dropped_commands, late_commands, suspended_commands,
+    commands_of_each, data_messages, dropped_commands, late_commands, suspended_commands,
 };
 use crate::digest::data_digest;
 use crate::report::{PortReport, ProcReport, Report};
@@ -16,8 +18,9 @@ use std::alloc::Global;
 /// The text of a report: a line for the whole, a line for each port and a line for each process, each ended with byte 10.
 ///
 /// The digest of a process's line is the SHA-256 of FIPS 180-4, in lowercase hex, of what saves of its data would write.
-/// A sum of bytes or commands above 2^64 - 1 is answered as want of memory. The rows of each port are gone through once beside a table
-/// of its ties, for each process all rows once, and for each process and port the process's mail. No data is copied.
+/// A sum of bytes or commands above 2^64 - 1 is answered as want of memory. The rows of each port are gone through three times: for its
+/// late commands, beside a table of its ties, and for the commands of all processes together. The mail of each process is gone through
+/// once, and once more for each port. No data is copied.
 pub fn report_text(alloc: Global, report: &Report) -> Result<Vec<u8>, NoMemory>
     requires { All (HasEnded (length report.now.processes)) report.now.ports }
     ensures { IfOk result (λ text. text.items ≡ text_of report.now) }
@@ -83,33 +86,33 @@ fn write_processes(
     processes: &[ProcReport],
 ) -> Result<(), NoMemory>
     requires ports { length ports.now ≤ MAX_ITEMS }
-    requires processes { length processes.now ≤ MAX_ITEMS }
+    requires ended { All (HasEnded (length processes.now)) ports.now }
     ensures { OnOk result (string_bytes text.new ≡ string_bytes text.old ++ flat_map (λ p. process_line ports.now p.0 p.1) (enumerate_from 0 processes.now)) }
 {
+    let commands = commands_of_each(alloc, processes.len(), ports)?;
     for (place, process) in processes.iter().enumerate() {
-        write_process(alloc, text, ports, place as u32, process)?;
+        write_process(alloc, text, ports.len() as u32, commands[place], process)?;
     }
     Ok(())
 }
 
+/// Writes the line of a process that put so many commands, among so many ports.
 fn write_process(
     alloc: Global,
     text: &mut String,
-    ports: &[PortReport],
-    place: u32,
+    ports: u32,
+    commands: u64,
     process: &ProcReport,
 ) -> Result<(), NoMemory>
-    requires { length ports.now ≤ MAX_ITEMS }
-    ensures { OnOk result (string_bytes text.new ≡ string_bytes text.old ++ process_line ports.now place process.now) }
+    ensures { OnOk result ((reports : List PortValue) (place : ℕ) → ports ≡ length reports → commands ≡ commands_of place reports → string_bytes text.new ≡ string_bytes text.old ++ process_line reports place process.now) }
 {
     let receipts = process.receipts.as_slice();
     let mails = process.mails.as_slice();
     let name = process.name.as_str();
-    let commands = commands_of(place, ports)?;
     let dropped = dropped_commands(receipts);
     let suspended = suspended_commands(receipts);
     let data = data_messages(mails);
-    let digest = data_digest(ports.len() as u32, mails);
+    let digest = data_digest(ports, mails);
     let sha256 = hex::encode(alloc, digest.as_slice())?;
     writeln!(
         text,
