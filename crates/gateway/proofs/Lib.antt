@@ -1,1 +1,4 @@
 pub mod Reported
+pub mod Rows
+pub mod Served
+pub mod Whole

@@ -15,7 +15,7 @@ use Rattle.port_hosts.specs.Hosts.{IsUnused, CameBack, AllCameBack, HasReturned,
 use Rattle.port_hosts.specs.Opening.{HasOpened, AllOpened}
 
 -- a port of this place, or none
-place-or-none : (places : List ℕ) (n at : ℕ) → ((port : ℕ) × (port < n) × (slice_index places port ≡ at)) ⊎ ((port : ℕ) → port < n → slice_index places port ≢ at)
+pub place-or-none : (places : List ℕ) (n at : ℕ) → ((port : ℕ) × (port < n) × (slice_index places port ≡ at)) ⊎ ((port : ℕ) → port < n → slice_index places port ≢ at)
 place-or-none places zero at = inr (λ port l. absurd (omega arith))
 place-or-none places (suc n) at = elim (cases_eq (slice_index places n) at) [
   | inl same ↦ inl (n, omega arith, same)
@@ -42,7 +42,7 @@ module _ {D : Type 0} (kind : D → Kind) (stage : D → Life) (faults : D → �
   }
 
   -- a driver that wasn't touched is back
-  same-back : (host : Hosted D) → IsUnused stage host → CameBack kind stage faults host host
+  pub same-back : (host : Hosted D) → IsUnused stage host → CameBack kind stage faults host host
   same-back host u = driver-back host host.driver refl u.1
 
   pub untouched : (hosts : List (Hosted D)) → All (IsUnused stage) hosts → AllCameBack kind stage faults hosts hosts
