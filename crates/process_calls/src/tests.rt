@@ -1,11 +1,11 @@
 ghost use Rattle.std.specs.Prelude.{◌≡◌, ◌<◌, length, OnOk, IfOk};
 ghost use Rattle.process_calls.specs.Served.{AreServing, IsServing};
 
-use crate::{make_call, take_mail};
+use crate::{make_call, run_until_idle, take_mail};
 use call_receipts::{Outcome, Receipt};
 use driver_entry::{Config, Echo};
 use port_engine::{Body, BodyParts};
-use port_signal::{Answer, IoVec, Mail, NoMemory, Piece, Signal};
+use port_signal::{Answer, IoVec, Mail, NoMemory, Piece, Sender, Signal, Task};
 use std::alloc::Global;
 use std::test::Fail;
 
@@ -222,5 +222,62 @@ fn a_reply_has_the_number_of_its_call(rt: HostRuntime) -> Result<(), Fail> {
         answered(mail(&mut bodies, 1, 1)).map(|reply| reply.1),
         number
     );
+    Ok(())
+}
+
+/// Gives a port a signal of a process, without a turn.
+fn give(body: &mut Body<Echo>, process: u32, signal: Signal) -> Result<(), Fail>
+    requires { process < length body.old.mail }
+    ensures opening { body.new.opening ≡ body.old.opening }
+    ensures seats { length body.new.mail ≡ length body.old.mail }
+    ensures memory { body.new.broken ≡ body.old.broken }
+{
+    match body.give(Sender::Process(process), Task { signal }) {
+        Ok(_) => Ok(()),
+        Err(_) => Err("the signal was not given".into()),
+    }
+}
+
+/// Port 0, to which process 1 gave a close, and process 0 a control behind it.
+fn closed_before_a_control(alloc: Global) -> Result<Body<Echo>, Fail>
+    ensures { IfOk result (IsServing 2 0) }
+{
+    let mut body = opened(alloc, 0)?;
+    let control = Signal::Control {
+        op: 1,
+        bytes: Piece::of_slice(alloc, b"x")?,
+    };
+    give(&mut body, 1, Signal::Close)?;
+    give(&mut body, 0, control)?;
+    run_until_idle(&mut body)?;
+    Ok(body)
+}
+
+/// Whether a mail answers the first signal of its sender to port 0 with `badarg`.
+fn is_badarg(mail: &Option<Mail>) -> bool {
+    matches!(
+        mail,
+        Some(Mail::Reply {
+            port: 0,
+            seq: 0,
+            answer: Answer::Badarg,
+        })
+    )
+}
+
+#[test]
+fn a_control_behind_a_close_is_late(rt: HostRuntime) -> Result<(), Fail> {
+    let alloc = rt.alloc();
+    let mut bodies = Vec::with_capacity(alloc, 2)?;
+    bodies.push_reserved(closed_before_a_control(alloc)?);
+    bodies.push_reserved(opened(alloc, 1)?);
+    let mut receipts = Vec::new(alloc);
+    assert!(rt; matches!(mail(&mut bodies, 0, 0), Some(Mail::Exit { port: 0, .. })));
+    assert!(rt; is_badarg(&mail(&mut bodies, 0, 0)));
+    assert_eq!(rt;
+        call(&mut bodies, &mut receipts, 0, 0, command(alloc, b"y")?)?,
+        None
+    );
+    assert_eq!(rt; receipts.pop(), Some(receipt(None, 6, Outcome::Closed)));
     Ok(())
 }
