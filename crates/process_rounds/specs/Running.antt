@@ -24,7 +24,7 @@ pub record Leaves (process : ℕ) (old new : List View) : Type 0 where
   pub same : AreSame old new
   pub serving : (processes : ℕ) → AreServing processes old → AreServing processes new
   pub asked : (other : ℕ) (asks : List Ask) (got : List Receipt) → other ≢ process → HasAsked other asks old got → HasAsked other asks new got
-  pub taken : (other k : ℕ) (d : View) (taken : List Mail) → other ≢ process → other < length (slice_index_or old k d).mail
+  pub taken : (other k : ℕ) (d : View) (taken : List Mail) → other ≢ process → k < length old → other < length (slice_index_or old k d).mail
       → HasTaken other taken (slice_index_or old k d) → HasTaken other taken (slice_index_or new k d)
 
 -- of these calls a process made all but the later ones. It got a receipt for each, and its mail is what it took of each port and what it
