@@ -50,3 +50,6 @@ each-set P xs x n at each one s d within = by-place s n
 -- the numbers from one on
 pub range-step : (a n : ℕ) → a < n → range_with_len a (n - a) ≡ a ∷ range_with_len (a + 1) (n - (a + 1))
 range-step a n below = let e : n - a ≡ suc (n - (a + 1)) = omega (arith, below) in rw e refl
+
+pub range-whole : {X : Type 0} (f : ℕ → X) (n : ℕ) → map f (range_with_len 0 n) ≡ map f (range_with_len 0 (n - 0))
+range-whole f n = let e : n - 0 ≡ n = omega arith in rw e refl
