@@ -2,3 +2,4 @@ pub mod Lists
 pub mod Came
 pub mod Done
 pub mod Leaving
+pub mod Stepping

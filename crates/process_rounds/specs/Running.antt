@@ -41,6 +41,7 @@ pub record HasDone (process : ℕ) (later whole : List Ask) (bodies : List View)
 
 -- at these places among the steps stand the chosen ones
 pub record StandAt (steps : List Step) (places : List ℕ) (chosen : List Step) : Type 0 where
+  pub count : length chosen ≡ length places
   pub chosen_are : (d : Step) → map (λ at. slice_index_or steps at d) places ≡ chosen
   pub within : All (λ at. at < length steps) places
 

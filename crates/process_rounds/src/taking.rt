@@ -20,6 +20,13 @@ pub(crate) enum Took {
     OtherMail,
 }
 
+impl Took {
+    /// Whether it is the reply to the signal of this number.
+    fn answers(self, number: u64) -> bool {
+        matches!(self, Took::Reply(seq) if seq == number)
+    }
+}
+
 fn kind_of(mail: &Mail) -> Took
     ensures { result ≢ Took.Nothing }
 {
@@ -75,8 +82,11 @@ pub(crate) fn take_reply<D: Driver>(
     loop {
         match take_next(bodies, left, process, port)? {
             Took::Nothing => return Ok(false),
-            Took::Reply(seq) if seq == number => return Ok(true),
-            _ => {}
+            took => {
+                if took.answers(number) {
+                    return Ok(true);
+                }
+            }
         }
     }
 }

@@ -7,8 +7,8 @@ use Rattle.process_rounds.specs.Running.{HasDone, IsServed, Leaves}
 use Rattle.process_rounds.proofs.taking.take_reply.Given as goal
 
 -- the mail taken so far
-abbrev pub invariant-loop-seq : goal.invariant-loop-seq
-invariant-loop-seq g l = record {
+abbrev pub invariant-loop-took : goal.invariant-loop-took
+invariant-loop-took g l = record {
   served : IsServed l.process l.bodies.items;
   port : l.port < length l.bodies.items;
   same : AreSame l.fn.bodies.items l.bodies.items;
@@ -18,5 +18,5 @@ invariant-loop-seq g l = record {
 }
 
 -- each mail taken leaves one less
-abbrev pub decreases-loop-seq : goal.decreases-loop-seq
-decreases-loop-seq g l = slice_index_or (map (λ b. length (box_at b.mail l.process).waiting) l.bodies.items) l.port 0
+abbrev pub decreases-loop-took : goal.decreases-loop-took
+decreases-loop-took g l = slice_index_or (map (λ b. length (box_at b.mail l.process).waiting) l.bodies.items) l.port 0
