@@ -3,3 +3,4 @@ pub mod Came
 pub mod Done
 pub mod Leaving
 pub mod Stepping
+pub mod Placing

@@ -67,7 +67,7 @@ abbrev pub AreRunning : ℕ → List Step → List View → List Running → Typ
 AreRunning ports steps bodies all = (s : ℕ) (d : Running) → s < length all → IsRunning s ports steps bodies (slice_index_or all s d)
 
 -- a process made no step and has these to make
-pub record IsUnstarted (process : ℕ) (steps program : List Step) (running : Running) : Type 0 where
+pub record IsUnstarted (steps program : List Step) (running : Running) : Type 0 where
   pub places : StandAt steps running.places.items program
   pub ended : running.ended ≡ false
   pub awaited : running.awaited ≡ None

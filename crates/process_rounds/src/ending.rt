@@ -59,9 +59,9 @@ fn take_of_all<D: Driver>(
     requires few { length bodies.old.items ≤ 32 }
     requires served { IsServed process bodies.old.items }
     ensures same { AreSame bodies.old.items bodies.new.items }
-    ensures rest { OnlyTook bodies.old.items bodies.new.items }
-    ensures boxes { (other k : ℕ) (d : View) → other ≢ process
-        → box_at (slice_index_or bodies.new.items k d).mail other ≡ box_at (slice_index_or bodies.old.items k d).mail other }
+    ensures rest { OnOk result (OnlyTook bodies.old.items bodies.new.items) }
+    ensures boxes { OnOk result ((other k : ℕ) (d : View) → other ≢ process
+        → box_at (slice_index_or bodies.new.items k d).mail other ≡ box_at (slice_index_or bodies.old.items k d).mail other) }
     ensures leaves { OnOk result (Leaves process bodies.old.items bodies.new.items) }
     ensures emptied { OnOk result ((k : ℕ) → k < length bodies.old.items → IsEmptied process k bodies.new.items) }
     ensures done { OnOk result ((later whole : List Ask) → HasDone process later whole bodies.old.items left.old.receipts.items left.old.mails.items
@@ -83,12 +83,12 @@ pub(crate) fn take_rest<D: Driver>(
     requires count { length all.old.items ≡ processes }
     requires serving { AreServing processes bodies.old.items }
     ensures same { AreSame bodies.old.items bodies.new.items }
-    ensures count { length all.new.items ≡ processes }
-    ensures rest { OnlyTook bodies.old.items bodies.new.items }
+    ensures count { OnOk result (length all.new.items ≡ processes) }
+    ensures rest { OnOk result (OnlyTook bodies.old.items bodies.new.items) }
     ensures emptied { OnOk result ((s k : ℕ) → s < processes → k < length bodies.old.items → IsEmptied s k bodies.new.items) }
     ensures running { OnOk result ((steps : List StepOf) → AreRunning (length bodies.old.items) steps bodies.old.items all.old.items
         → AreRunning (length bodies.old.items) steps bodies.new.items all.new.items) }
-    ensures ended { (s : ℕ) (d : Running) → (slice_index_or all.new.items s d).ended ≡ (slice_index_or all.old.items s d).ended }
+    ensures ended { OnOk result ((s : ℕ) (d : Running) → (slice_index_or all.new.items s d).ended ≡ (slice_index_or all.old.items s d).ended) }
 {
     for process in 0..processes {
         let running = &mut all[process as usize];

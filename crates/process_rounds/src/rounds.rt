@@ -30,7 +30,7 @@ fn round<D: Driver>(
     requires steps { AreSteps processes (length bodies.old.items) steps.now }
     requires running { AreRunning (length bodies.old.items) steps.now bodies.old.items all.old.items }
     ensures same { AreSame bodies.old.items bodies.new.items }
-    ensures count { length all.new.items ≡ processes }
+    ensures count { OnOk result (length all.new.items ≡ processes) }
     ensures serving { OnOk result (AreServing processes bodies.new.items) }
     ensures running { OnOk result (AreRunning (length bodies.old.items) steps.now bodies.new.items all.new.items) }
 {
@@ -63,7 +63,7 @@ fn run_rounds<D: Driver, R: Wait>(
     requires steps { AreSteps processes (length bodies.old.items) steps.now }
     requires running { AreRunning (length bodies.old.items) steps.now bodies.old.items all.old.items }
     ensures same { AreSame bodies.old.items bodies.new.items }
-    ensures count { length all.new.items ≡ processes }
+    ensures count { OnOk result (length all.new.items ≡ processes) }
     ensures serving { OnOk result (AreServing processes bodies.new.items) }
     ensures running { OnOk result (AreRunning (length bodies.old.items) steps.now bodies.new.items all.new.items) }
     ensures ended { OnOk result (All (λ r. r.ended ≡ true) all.new.items) }

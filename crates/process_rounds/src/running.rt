@@ -1,4 +1,4 @@
-ghost use Rattle.std.specs.Prelude.{◌≡◌, ◌<◌, ◌++◌, ◌∷◌, [], ℕ, length, false, All, None, OnOk, IfOk, slice_index_or};
+ghost use Rattle.std.specs.Prelude.{◌≡◌, ◌<◌, ◌++◌, ◌∷◌, [], ℕ, List, length, false, All, None, OnOk, IfOk, slice_index_or};
 ghost use Rattle.process_rounds.specs.Asks.{program};
 ghost use Rattle.process_rounds.specs.Running.{IsUnstarted};
 
@@ -46,9 +46,10 @@ fn unstarted(alloc: Global) -> Running
 }
 
 /// So many processes without steps.
-fn all_unstarted(alloc: Global, processes: u32, steps: &[Step]) -> Result<Vec<Running>, NoMemory>
+fn all_unstarted(alloc: Global, processes: u32) -> Result<Vec<Running>, NoMemory>
     ensures count { IfOk result (λ all. length all.items ≡ processes) }
-    ensures unstarted { IfOk result (λ all. (s : ℕ) (d : Running) → s < processes → IsUnstarted s steps.now [] (slice_index_or all.items s d)) }
+    ensures unstarted { IfOk result (λ all. (steps : List Step) (s : ℕ) (d : Running) → s < processes
+        → IsUnstarted steps [] (slice_index_or all.items s d)) }
 {
     let mut all = Vec::with_capacity(alloc, processes as usize)?;
     for _process in 0..processes {
@@ -75,9 +76,9 @@ pub(crate) fn start(alloc: Global, processes: u32, steps: &[Step]) -> Result<Vec
     requires senders { All (λ s. s.process < processes) steps.now }
     ensures count { IfOk result (λ all. length all.items ≡ processes) }
     ensures unstarted { IfOk result (λ all. (s : ℕ) (d : Running) → s < processes
-        → IsUnstarted s steps.now (program s steps.now) (slice_index_or all.items s d)) }
+        → IsUnstarted steps.now (program s steps.now) (slice_index_or all.items s d)) }
 {
-    let mut all = all_unstarted(alloc, processes, steps)?;
+    let mut all = all_unstarted(alloc, processes)?;
     for at in 0..steps.len() {
         let running = &mut all[steps[at].process as usize];
         add_place(running, at)?;
