@@ -4,3 +4,4 @@ pub mod Done
 pub mod Leaving
 pub mod Stepping
 pub mod Placing
+pub mod Turning

@@ -88,7 +88,7 @@ pub(crate) fn take_rest<D: Driver>(
     ensures emptied { OnOk result ((s k : ℕ) → s < processes → k < length bodies.old.items → IsEmptied s k bodies.new.items) }
     ensures running { OnOk result ((steps : List StepOf) → AreRunning (length bodies.old.items) steps bodies.old.items all.old.items
         → AreRunning (length bodies.old.items) steps bodies.new.items all.new.items) }
-    ensures ended { OnOk result ((s : ℕ) (d : Running) → (slice_index_or all.new.items s d).ended ≡ (slice_index_or all.old.items s d).ended) }
+    ensures ended { OnOk result ((s : ℕ) (d : Running) → s < processes → (slice_index_or all.new.items s d).ended ≡ (slice_index_or all.old.items s d).ended) }
 {
     for process in 0..processes {
         let running = &mut all[process as usize];
