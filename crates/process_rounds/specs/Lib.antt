@@ -1,3 +1,4 @@
 pub mod Asks
 pub mod Mails
 pub mod Rounds
+pub mod Running

@@ -6,8 +6,12 @@
 #![tactic(auto)]
 
 mod deed;
+mod ending;
 mod left;
 mod rounds;
+mod running;
+mod steps;
+mod taking;
 
 pub use left::Left;
 pub use rounds::run_processes;

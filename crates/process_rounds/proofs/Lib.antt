@@ -1,0 +1,7 @@
+pub mod Lists
+pub mod Came
+pub mod Done
+pub mod Leaving
+pub mod Stepping
+pub mod Placing
+pub mod Turning

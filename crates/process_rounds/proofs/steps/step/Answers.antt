@@ -1,0 +1,27 @@
+use Rattle.std.proofs.Common.{◌≡◌, [], ◌∷◌, List, true, refl, sym, ◌∙◌, length, codes}
+use Rattle.std.proofs.lemmas.Result.{on_ok_weaker}
+use Rattle.process_rounds.proofs.Stepping.{empty, ends-last, ends-early, goes-on}
+use Rattle.process_rounds.proofs.steps.step.Goals as goal
+
+pub returns-in_default-clause-running : goal.returns-in_default-clause-running
+returns-in_default-clause-running g c =
+    let h = c.in_default.ensures in
+    let none : c.args.running.now.places.items ≡ [] = empty c.args.running.now.places.items (h.items ∙ h.rest) in
+    on_ok_weaker c.tell_end.result
+    (λ told. ends-last c.args.process _ c.args.steps.now c.args.bodies.now.items c.tell_end.new.bodies.items c.args.running.now _ c.requires.running c.requires.runs none
+    refl refl (sym h.items ∙ none) c.tell_end.ensures.same.len (rw c.normal.ensures at told))
+    c.tell_end.ensures.done
+
+pub returns-in_ok-running-in-Send-clause-running : goal.returns-in_ok-running-in-Send-clause-running
+returns-in_ok-running-in-Send-clause-running g c =
+    goes-on c.args.process _ c.args.steps.now c.args.bodies.now.items c.send.new.bodies.items c.args.running.now _ c.in-Some.place c.index-steps-place.result c.in-Send.port c.in-Send.signal
+    c.requires.running c.requires.runs c.in-Some.ensures.items c.index-steps-place.is (sym c.in_ok-port.ensures ∙ c.in-Send.is)
+    refl c.in_ok-running-in-Send.ensures.awaited c.send.ensures.same.len c.in_ok-running-in-Send.ensures.done
+
+pub returns-in-End-clause-running : goal.returns-in-End-clause-running
+returns-in-End-clause-running g c =
+    on_ok_weaker c.tell_end-in-End.result
+    (λ told. ends-early c.args.process _ c.args.steps.now c.args.bodies.now.items c.tell_end-in-End.new.bodies.items c.args.running.now _ c.in-Some.place c.index-steps-place.result c.in-End.reason
+    c.requires.running c.requires.runs c.in-Some.ensures.items c.index-steps-place.is (sym c.in_ok-port.ensures ∙ c.in-End.is)
+    refl refl c.tell_end-in-End.ensures.same.len told)
+    c.tell_end-in-End.ensures.done
