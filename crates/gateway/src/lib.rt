@@ -11,9 +11,12 @@ mod words;
 pub use gateway_report::{Cause, PortReport, ProcReport, Report, cause_text, report_text};
 pub use making::host_drivers;
 pub use port_hosts::Hosted;
+pub use script_reader::ScriptFault;
 pub use top::{Ended, gateway};
 pub use words::script_name;
 
+#[cfg(test)]
+mod process_tests;
 #[cfg(test)]
 mod report_tests;
 #[cfg(test)]

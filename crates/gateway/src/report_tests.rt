@@ -1,17 +1,29 @@
 //! Whole reports, written out field by field.
 ghost use Rattle.std.specs.Prelude.{All, IfOk};
-ghost use Rattle.gateway.specs.Hosts.{IsUnused};
+ghost use Rattle.port_hosts.specs.Hosts.{IsUnused};
 
 use crate::tests::{ABC, echoes, report_of};
 use crate::{Hosted, PortReport, ProcReport, Report, host_drivers};
+use call_receipts::Receipt;
 use driver_entry::{Driver, Store};
-use io_vector::Piece;
-use port_signal::{Answer, Effect, Mail, Receipt, Row, Sender, Signal};
+use io_vector::{IoVec, Piece};
+use port_signal::{Answer, Effect, Mail, Row, Sender, Signal};
 use std::alloc::Global;
 use std::test::Fail;
 
 fn write_piece(text: &mut String, piece: &Piece) -> Result<(), Fail> {
-    write!(text, " {}", str::from_utf8(piece.as_slice())?)?;
+    let bytes = piece.as_slice();
+    match str::from_utf8(bytes) {
+        Ok(plain) => write!(text, " {plain}")?,
+        Err(_) => write!(text, " {bytes:?}")?,
+    }
+    Ok(())
+}
+
+fn write_payload(text: &mut String, payload: &IoVec) -> Result<(), Fail> {
+    for piece in payload.as_slice() {
+        write_piece(text, piece)?;
+    }
     Ok(())
 }
 
@@ -19,13 +31,27 @@ fn write_signal(text: &mut String, signal: &Signal) -> Result<(), Fail> {
     match signal {
         Signal::Command(payload) => {
             write!(text, " command")?;
-            for piece in payload.as_slice() {
-                write_piece(text, piece)?;
-            }
+            write_payload(text, payload)?;
         }
+        Signal::OwnerCommand(payload) => {
+            write!(text, " send")?;
+            write_payload(text, payload)?;
+        }
+        Signal::Control { op, bytes } => {
+            write!(text, " control {op}")?;
+            write_piece(text, bytes)?;
+        }
+        Signal::Call { op, bytes } => write!(text, " call {op} of {}", bytes.len())?,
         Signal::Close => write!(text, " close")?,
+        Signal::OwnerClose => write!(text, " ownerclose")?,
+        Signal::Connect(process) => write!(text, " connect {process}")?,
+        Signal::OwnerConnect(process) => write!(text, " ownerconnect {process}")?,
+        Signal::Link => write!(text, " link")?,
+        Signal::Unlink => write!(text, " unlink")?,
+        Signal::Monitor(number) => write!(text, " monitor {number}")?,
+        Signal::Demonitor(number) => write!(text, " demonitor {number}")?,
+        Signal::Exit(reason) => write!(text, " exit {}", reason.as_str())?,
         Signal::Gone(reason) => write!(text, " gone {}", reason.as_str())?,
-        _ => write!(text, " another signal")?,
     }
     Ok(())
 }
@@ -36,7 +62,10 @@ fn write_effect(text: &mut String, effect: &Effect) -> Result<(), Fail> {
             write!(text, ", message {flag:?}")?;
             write_piece(text, bytes)?;
         }
-        _ => write!(text, ", another effect")?,
+        Effect::Busy(busy) => write!(text, ", busy {busy}")?,
+        Effect::Watch(process) => write!(text, ", watch {process}")?,
+        Effect::Reply(bytes) => write!(text, ", reply of {}", bytes.len())?,
+        Effect::ReplyBadarg => write!(text, ", reply badarg")?,
     }
     Ok(())
 }
@@ -106,7 +135,13 @@ fn write_mail(text: &mut String, mail: &Mail) -> Result<(), Fail> {
             }
         }
         Mail::Exit { port, reason } => write!(text, "exit {port} {}", reason.as_str())?,
-        _ => write!(text, "another mail")?,
+        Mail::Down {
+            port,
+            monitor,
+            reason,
+        } => write!(text, "down {port} {monitor} {}", reason.as_str())?,
+        Mail::Closed(port) => write!(text, "closed {port}")?,
+        Mail::Connected(port) => write!(text, "connected {port}")?,
     }
     writeln!(text, "")?;
     Ok(())
@@ -124,7 +159,7 @@ fn write_process(text: &mut String, process: &ProcReport) -> Result<(), Fail> {
 }
 
 /// All of a report, a line for each of its parts. The config of a driver has no fields.
-fn whole(alloc: Global, report: &Report) -> Result<String, Fail> {
+pub fn whole(alloc: Global, report: &Report) -> Result<String, Fail> {
     let mut text = String::new(alloc);
     for port in report.ports.as_slice() {
         write_port(&mut text, port)?;

@@ -1,10 +1,10 @@
 ghost use Rattle.std.specs.Prelude.{◌≡◌, length, IfOk};
 ghost use Rattle.gateway.specs.Reported.{ArePorts, AreProcesses, port_report, process_report};
 
+use call_receipts::Receipts;
 use driver_entry::Config;
 use gateway_report::{PortReport, ProcReport, Report};
 use port_signal::{Items, Journal, Mails, NoMemory};
-use call_receipts::Receipts;
 use process_rounds::Left;
 use script_reader::{PortDecl, ProcessDecl, Script};
 use std::alloc::Global;

@@ -1,8 +1,7 @@
-//! Scripts of one process and one echo port, beside the texts that they end with.
+//! Scripts beside the texts that they end with.
 
-use crate::Cause;
 use crate::tests::end_of_script;
-use gateway_script::ScriptFault;
+use crate::{Cause, ScriptFault};
 use std::alloc::Global;
 use std::test::Fail;
 
@@ -100,25 +99,58 @@ const RUNS: [(&str, &str); 18] = [
     ),
 ];
 
-/// Scripts that are not run, and their first bad lines.
-const BAD: [(&str, u32); 17] = [
-    ("process a \n", 1),
-    (" # a comment\n", 1),
-    ("process a\nport p a echo\n a close p\n", 3),
-    ("process a\nprocess b\n", 2),
-    ("process a\nport p a echo\nport q a echo\n", 3),
-    ("port p a echo\n", 1),
-    ("process a\nport p a echo\na close q\n", 3),
-    ("process a\nport p a echo\nb close p\n", 3),
-    ("process a\nport p a echo\na close\n", 3),
-    ("process a\nport p a echo\na command p abc\n", 3),
-    ("process port\n", 1),
-    ("process abcdefghijklmnopq\n", 1),
-    ("process a\r\n", 1),
-    ("process a\na close p\nport p a echo\n", 2),
-    ("process a\nport a a echo\n", 2),
-    ("process a\nport p a echo\na command p \"a\"b\"\n", 3),
-    ("process a\nport p a echo\na close p\nprocess\nport\n", 4),
+/// Scripts that are not run, and their faults.
+const BAD: [(&str, ScriptFault); 17] = [
+    ("process a \n", ScriptFault::BadLine { line: 1 }),
+    (" # a comment\n", ScriptFault::BadLine { line: 1 }),
+    (
+        "process a\nport p a echo\n a close p\n",
+        ScriptFault::BadLine { line: 3 },
+    ),
+    ("process a\nprocess a\n", ScriptFault::Repeated { line: 2 }),
+    (
+        "process a\nport p a echo\nport p a echo\n",
+        ScriptFault::Repeated { line: 3 },
+    ),
+    ("port p a echo\n", ScriptFault::UnknownName { line: 1 }),
+    (
+        "process a\nport p a echo\na close q\n",
+        ScriptFault::UnknownName { line: 3 },
+    ),
+    (
+        "process a\nport p a echo\nb close p\n",
+        ScriptFault::UnknownName { line: 3 },
+    ),
+    (
+        "process a\nport p a echo\na close\n",
+        ScriptFault::BadLine { line: 3 },
+    ),
+    (
+        "process a\nport p a echo\na command p abc\n",
+        ScriptFault::BadLine { line: 3 },
+    ),
+    ("process port\n", ScriptFault::BadLine { line: 1 }),
+    (
+        "process abcdefghijklmnopq\n",
+        ScriptFault::BadLine { line: 1 },
+    ),
+    ("process a\r\n", ScriptFault::BadLine { line: 1 }),
+    (
+        "process a\na close p\nport p a echo\n",
+        ScriptFault::UnknownName { line: 2 },
+    ),
+    (
+        "process a\nport a a echo\n",
+        ScriptFault::Repeated { line: 2 },
+    ),
+    (
+        "process a\nport p a echo\na die normal\na close p\n",
+        ScriptFault::BadLine { line: 4 },
+    ),
+    (
+        "process a\nport p a echo\na demonitor p\nprocess\n",
+        ScriptFault::BadLine { line: 3 },
+    ),
 ];
 
 #[test]
@@ -135,12 +167,26 @@ fn scripts_print_their_reports(rt: HostRuntime) -> Result<(), Fail> {
 #[test]
 fn bad_scripts_print_nothing(rt: HostRuntime) -> Result<(), Fail> {
     let alloc = rt.alloc();
-    for (script, line) in BAD {
+    for (script, fault) in BAD {
         let (cause, written) = end_of_script(&rt, alloc, script.as_bytes())?;
-        let fault = ScriptFault::BadLine { line };
         assert_eq!(rt; cause, Cause::Script { fault });
         assert!(rt; written.is_empty());
     }
+    Ok(())
+}
+
+#[test]
+fn a_33rd_process_is_beyond_a_limit(rt: HostRuntime) -> Result<(), Fail> {
+    let alloc = rt.alloc();
+    let mut script = Vec::new(alloc);
+    for number in 0..33 {
+        let line = format!(in alloc; "process a{number}\n")?;
+        script.extend_from_slice(line.as_bytes())?;
+    }
+    let (cause, written) = end_of_script(&rt, alloc, script.as_slice())?;
+    let fault = ScriptFault::Limit { line: 33, which: 1 };
+    assert_eq!(rt; cause, Cause::Script { fault });
+    assert!(rt; written.is_empty());
     Ok(())
 }
 

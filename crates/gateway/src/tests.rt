@@ -1,9 +1,8 @@
 ghost use Rattle.std.specs.Prelude.{All, IfOk};
-ghost use Rattle.gateway.specs.Hosts.{IsUnused};
+ghost use Rattle.port_hosts.specs.Hosts.{IsUnused};
 
 use super::*;
-use driver_entry::{Driver, Echo, Life, Refuse, Refused, StartRefusal};
-use gateway_script::ScriptFault;
+use driver_entry::{Driver, Echo, Life, Refuse, Refused, StartRefusal, Store, Tally, Valve};
 use outside::{MemFiles, MemPoll, MemSink, OpenGate};
 use std::alloc::Global;
 use std::sync::Wait;
@@ -112,6 +111,24 @@ pub fn report_of<R: Sync + Wait>(
     let mut out = MemSink::new(alloc);
     let Ended { report, .. } = run_over(rt, alloc, &["run", "s"], &mut files, &mut out, drivers)?;
     Ok(report)
+}
+
+/// Fresh drivers: two of echo, and one each of tally, valve and store.
+pub fn assorted(alloc: Global) -> Result<Vec<Hosted>, Fail>
+    ensures { IfOk result (λ hosts. All (IsUnused (λ b. stage b)) hosts.items) }
+{
+    let mut drivers = Vec::new(alloc);
+    for _ in 0..2 {
+        let echo: Box<dyn Driver + Send> = Box::new(alloc, Echo::new())?;
+        drivers.push(echo)?;
+    }
+    let tally: Box<dyn Driver + Send> = Box::new(alloc, Tally::new())?;
+    drivers.push(tally)?;
+    let valve: Box<dyn Driver + Send> = Box::new(alloc, Valve::new())?;
+    drivers.push(valve)?;
+    let store: Box<dyn Driver + Send> = Box::new(alloc, Store::new())?;
+    drivers.push(store)?;
+    Ok(host_drivers(alloc, drivers)?)
 }
 
 /// The cause of a run of this script with one echo driver, and what it wrote.
@@ -285,6 +302,47 @@ fn a_driver_may_refuse_to_start(rt: HostRuntime) -> Result<(), Fail> {
             assert!(rt; host.driver.is_some());
         }
     }
+    Ok(())
+}
+
+/// An echo driver, and one that refuses to start with an error of the system.
+fn echo_and_refusing(alloc: Global) -> Result<Vec<Hosted>, Fail>
+    ensures { IfOk result (λ hosts. All (IsUnused (λ b. stage b)) hosts.items) }
+{
+    let mut drivers = Vec::new(alloc);
+    let refuse: Box<dyn Driver + Send> = Box::new(alloc, Refuse::new(Refused::Errno))?;
+    drivers.push(refuse)?;
+    let echo: Box<dyn Driver + Send> = Box::new(alloc, Echo::new())?;
+    drivers.push(echo)?;
+    Ok(host_drivers(alloc, drivers)?)
+}
+
+#[test]
+fn a_port_that_was_opened_is_ended_where_a_later_one_is_refused(
+    rt: HostRuntime,
+) -> Result<(), Fail> {
+    let alloc = rt.alloc();
+    let mut files = holding(alloc, b"process a\nport p a echo\nport q a refuse2\n")?;
+    let mut out = MemSink::new(alloc);
+    let drivers = echo_and_refusing(alloc)?;
+    let ended = run_over(&rt, alloc, &["run", "s"], &mut files, &mut out, drivers)?;
+    let refusal = StartRefusal::Errno;
+    assert_eq!(rt; ended.status, 6);
+    assert_eq!(rt; ended.cause, Cause::StartRefused { line: 3, refusal });
+    assert!(rt; out.bytes().is_empty());
+    let lives = [(None, Life::Stopped), (Some(0), Life::Stopped)];
+    for (host, (port, life)) in ended.drivers.iter().zip(lives) {
+        assert_eq!(rt; host.port, port);
+        assert!(rt; matches!(&host.driver, Some(driver) if driver.life() == life));
+    }
+    Ok(())
+}
+
+#[test]
+fn the_drivers_of_a_name_that_earlier_ports_got_are_counted(rt: HostRuntime) -> Result<(), Fail> {
+    let script = b"process a\nport p a echo\nport q a echo\nport r a echo\nport s a tally\n";
+    let cause = Cause::NoDriver { line: 4, handed: 2 };
+    assert_eq!(rt; end_of(&rt, rt.alloc(), script, 2)?, (5, cause));
     Ok(())
 }
 

@@ -2,8 +2,7 @@
 #![tactic(auto)]
 
 use driver_entry::{Driver, Echo, Refuse, Refused, StartRefusal, Store, Tally, Valve, ValveSoft};
-use gateway::{Cause, Ended, cause_text, gateway, host_drivers};
-use gateway_script::ScriptFault;
+use gateway::{Cause, Ended, ScriptFault, cause_text, gateway, host_drivers};
 use no_memory::NoMemory;
 use outside::{MemPoll, OpenGate, RealFiles, RealSink};
 use std::alloc::Global;

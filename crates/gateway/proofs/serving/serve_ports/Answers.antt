@@ -34,7 +34,7 @@ returns-clause-back g c =
 pub returns-clause-headline : goal.returns-clause-headline
 returns-clause-headline g c =
     let served : Served-by g.D.Driver.kind g.D.Driver.stage g.D.Driver.faults g.D.Driver.own c.args.script.now c.args.places.now c.args.hosts.now.items c.open_ports.new.hosts.items
-        c.take_back-journals.new.hosts.items c.in-Ok.bodies.items c.run_processes-ran.new.bodies.items = record {
+    c.take_back-journals.new.hosts.items c.in-Ok.bodies.items c.run_processes-ran.new.bodies.items = record {
       unused = c.requires.unused;
       found = rw c.requires.wanted at c.requires.found;
       opened = rw (c.requires.wanted, c.processes.ensures.value) at c.in-Ok.ensures.opened;
@@ -56,7 +56,7 @@ returns-clause-headline g c =
 pub returns-clause-ended : goal.returns-clause-ended
 returns-clause-ended g c =
     let served : Served-by g.D.Driver.kind g.D.Driver.stage g.D.Driver.faults g.D.Driver.own c.args.script.now c.args.places.now c.args.hosts.now.items c.open_ports.new.hosts.items
-        c.take_back-journals.new.hosts.items c.in-Ok.bodies.items c.run_processes-ran.new.bodies.items = record {
+    c.take_back-journals.new.hosts.items c.in-Ok.bodies.items c.run_processes-ran.new.bodies.items = record {
       unused = c.requires.unused;
       found = rw c.requires.wanted at c.requires.found;
       opened = rw (c.requires.wanted, c.processes.ensures.value) at c.in-Ok.ensures.opened;
