@@ -61,12 +61,12 @@ has-run process ports steps bodies running len r e emptied =
     subst (λ b. HasDone process (later_asks ports r.rest b) (asks ports process steps) bodies running.left.receipts.items running.left.mails.items) e r.done in
     let back : reverse (asks ports process steps) ≡ h.made = ap reverse (h.whole_is ∙ append-nil (reverse h.made)) ∙ reverse-reverse h.made in
     record {
-      asked = subst (λ as. HasAsked process as bodies (reverse running.left.receipts.items)) (sym back) h.asked;
+      asked = subst (λ calls. HasAsked process calls bodies (reverse running.left.receipts.items)) (sym back) h.asked;
       came = h.came;
       mail = h.mail;
       sent = record {
         ports = λ k d l. sym (append-nil (mail_from (Some k) h.came)) ∙ (ap (λ ms. mail_from (Some k) h.came ++ ms) (sym (emptied k (rw len at l) d)) ∙ h.taken k d l);
-        own_part = h.own ∙ ap (λ as. own_mails as (reverse running.left.receipts.items)) (sym back);
+        own_part = h.own ∙ ap (λ calls. own_mails calls (reverse running.left.receipts.items)) (sym back);
         within = h.within;
       };
     }
