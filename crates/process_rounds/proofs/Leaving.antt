@@ -1,7 +1,7 @@
 -- What is left as it was by one process after another.
 use Rattle.std.proofs.Common.{arith, subst, ◌≡◌, ◌≢◌, ℕ, ◌<◌, ◌≤◌, List, [], ◌∷◌, ◌++◌, length, Bool, true, false, Option, Some, None, refl, sym, ap, ◌∙◌, append_assoc}
 use Rattle.std.specs.Prelude.{reverse, map, All, slice_index_or, slice_set}
-use Rattle.std.proofs.lemmas.List.{append-nil, length-set}
+use Rattle.std.proofs.lemmas.List.{append-nil, length-set, get_or_read, get_or-set_same, get_or-set_other}
 use Rattle.port_signal.specs.declared.mail.Mail.{Mail}
 use Rattle.call_receipts.specs.declared.receipt.Receipt.{Receipt}
 use Rattle.call_receipts.specs.Asks.{Ask}
@@ -12,7 +12,7 @@ use Rattle.process_calls.specs.Served.{AreSame, AreServing, HasAsked, HasTaken}
 use Rattle.process_rounds.specs.declared.running.Running.{Running}
 use Rattle.process_rounds.specs.Mails.{mail_from}
 use Rattle.process_rounds.specs.Running.{HasDone, IsServed, Leaves, OnlyTook, IsRunning, AreRunning}
-use Rattle.process_rounds.proofs.Lists.{each-set}
+use Rattle.process_rounds.proofs.Lists.{by-place, each-set}
 use Rattle.process_rounds.proofs.Done.{has-seat}
 
 IsSame-trans : (a b c : View) → IsSame a b → IsSame b c → IsSame a c
@@ -96,3 +96,13 @@ AreRunning-leaves process processes ports steps old new all running within len s
     each-set (λ s r. IsRunning s ports steps new r) all running process within
     (λ s d below e. IsRunning-leaves process s ports steps old new (slice_index_or all s d) l e (record { processes = processes; below = rw len at below; serving = serving }) (each s d below))
     one
+
+-- the process at the place was replaced by one that has ended where it had
+pub ended-set : (all old : List Running) (process : ℕ) (before after : Running) → process < length all → before ≡ slice_index_or all process before → after.ended ≡ before.ended
+    → (n : ℕ) → ((s : ℕ) (d : Running) → s < n → (slice_index_or all s d).ended ≡ (slice_index_or old s d).ended)
+    → (s : ℕ) (d : Running) → s < n → (slice_index_or (slice_set all process after) s d).ended ≡ (slice_index_or old s d).ended
+ended-set all old process before after within is same n each s d l = by-place s process
+    (λ e. subst (λ p. (slice_index_or (slice_set all process after) p d).ended ≡ (slice_index_or old p d).ended) (sym e)
+    (ap (λ (r : Running). r.ended) (get_or-set_same all process after d within)
+    ∙ (same ∙ (ap (λ (r : Running). r.ended) (get_or_read all process before within is d) ∙ each process d (rw e at l)))))
+    (λ e. ap (λ (r : Running). r.ended) (get_or-set_other all process s after d e) ∙ each s d l)

@@ -5,3 +5,4 @@ pub mod Leaving
 pub mod Stepping
 pub mod Placing
 pub mod Turning
+pub mod Whole
