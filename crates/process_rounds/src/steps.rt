@@ -8,7 +8,7 @@ ghost use Rattle.process_rounds.specs.Running.{AwaitsWithin, HasDone, IsRunning,
 use crate::Left;
 use crate::deed::{Deed, deed_of, is_answered, own_mail};
 use crate::running::{Awaited, Running};
-use crate::taking::take_reply;
+use crate::taking::{take_all, take_reply};
 use driver_entry::Driver;
 use port_engine::Body;
 use port_signal::{NoMemory, Reason, Signal};
@@ -17,7 +17,7 @@ use script_reader::Step;
 use std::alloc::Global;
 
 /// Makes a call of a process. Returns the reply for which it waits, if it does.
-fn send<D: Driver>(
+fn call<D: Driver>(
     bodies: &mut Vec<Body<D>>,
     left: &mut Left,
     process: u32,
@@ -47,6 +47,31 @@ fn send<D: Driver>(
             Ok(None)
         }
     }
+}
+
+/// Sends a port a signal of a process, as `call` does. A process that may add to its mail first takes what came from the port, so what it
+/// adds stands behind.
+fn send<D: Driver>(
+    bodies: &mut Vec<Body<D>>,
+    left: &mut Left,
+    process: u32,
+    line: u32,
+    port: u32,
+    signal: Signal,
+) -> Result<Option<Awaited>, NoMemory>
+    requires port { port < length bodies.old.items }
+    requires served { IsServed process bodies.old.items }
+    ensures same { AreSame bodies.old.items bodies.new.items }
+    ensures leaves { OnOk result (Leaves process bodies.old.items bodies.new.items) }
+    ensures awaited { IfOk result (λ awaited. AwaitsWithin (length bodies.old.items) awaited) }
+    ensures done { OnOk result ((later whole : List Ask)
+        → HasDone process (record { line = line; port = port; task = record { signal = signal } } ∷ later) whole bodies.old.items left.old.receipts.items left.old.mails.items
+        → HasDone process later whole bodies.new.items left.new.receipts.items left.new.mails.items) }
+{
+    if matches!(signal, Signal::Link | Signal::Monitor(_)) {
+        take_all(bodies, left, process, port)?;
+    }
+    call(bodies, left, process, line, port, signal)
 }
 
 /// Tells each port that a process has ended for this reason.

@@ -1,32 +1,17 @@
-use Rattle.std.proofs.Common.{[], ◌∷◌}
-use Rattle.std.proofs.lemmas.List.{append-nil}
-use Rattle.process_rounds.proofs.Done.{HasDone-put, HasDone-refused}
+use Rattle.std.proofs.Common.{sym}
+use Rattle.std.proofs.lemmas.Result.{on_ok_weaker}
+use Rattle.process_rounds.proofs.Leaving.{AreSame-trans, Leaves-trans}
 use Rattle.process_rounds.proofs.steps.send.Goals as goal
+use Rattle.process_rounds.proofs.steps.send.Goals.{then-matches+in_ok-take_all, else-matches}
 
-pub returns-in-Some-clause-done : goal.returns-in-Some-clause-done
-returns-in-Some-clause-done g c = λ later whole h.
-    HasDone-put c.args.process c.args.line c.args.port c.args.signal later whole c.args.bodies.now.items _ c.args.left.now.receipts.items _ c.in_ok-number.number _ c.args.left.now.mails.items
-    (record { len = c.make_call.ensures.same.len; put = c.in_ok-number.ensures.put; asked = c.in_ok-number.ensures.asked; mail = c.in_ok-number.ensures.mail })
-    c.requires.served c.requires.port c.in-Some.is h
+pub returns-clause-same : goal.returns-clause-same
+returns-clause-same g c = elim c.if-matches.branch [
+  | then-matches+in_ok-take_all w ↦ AreSame-trans _ _ _ w.take_all.ensures.same (rw w.bodies-is at c.call.ensures.same)
+  | else-matches w ↦ rw w.bodies-is at c.call.ensures.same
+]
 
-pub returns-in-Some-2-clause-done : goal.returns-in-Some-2-clause-done
-returns-in-Some-2-clause-done g c = λ later whole h.
-    HasDone-put c.args.process c.args.line c.args.port c.args.signal later whole c.args.bodies.now.items _ c.args.left.now.receipts.items _ c.in_ok-number.number _ c.args.left.now.mails.items
-    (record { len = c.make_call.ensures.same.len; put = c.in_ok-number.ensures.put; asked = c.in_ok-number.ensures.asked; mail = c.in_ok-number.ensures.mail })
-    c.requires.served c.requires.port c.in-Some-2.is h
-
-pub returns-in_ok-push-in-None-clause-done : goal.returns-in_ok-push-in-None-clause-done
-returns-in_ok-push-in-None-clause-done g c = λ later whole h.
-    rw c.in_ok-push-in-None.ensures.items
-    (HasDone-refused c.args.process c.args.line c.args.port c.args.signal later whole c.args.bodies.now.items _ c.args.left.now.receipts.items _ c.in_ok-number.number c.args.left.now.mails.items
-    (c.in-Some-own.mail ∷ [])
-    (record { len = c.make_call.ensures.same.len; put = c.in_ok-number.ensures.put; asked = c.in_ok-number.ensures.asked; mail = c.in_ok-number.ensures.mail })
-    c.requires.served c.requires.port c.in-None.is c.in-Some-own.ensures.some h)
-
-pub returns-in_default-clause-done : goal.returns-in_default-clause-done
-returns-in_default-clause-done g c = λ later whole h.
-    rw (append-nil c.args.left.now.mails.items) at
-    (HasDone-refused c.args.process c.args.line c.args.port c.args.signal later whole c.args.bodies.now.items _ c.args.left.now.receipts.items _ c.in_ok-number.number c.args.left.now.mails.items
-    []
-    (record { len = c.make_call.ensures.same.len; put = c.in_ok-number.ensures.put; asked = c.in_ok-number.ensures.asked; mail = c.in_ok-number.ensures.mail })
-    c.requires.served c.requires.port c.in-None.is c.in_default.ensures.none h)
+pub returns-clause-leaves : goal.returns-clause-leaves
+returns-clause-leaves g c = elim c.if-matches.branch [
+  | then-matches+in_ok-take_all w ↦ on_ok_weaker c.call.result (λ l. Leaves-trans _ _ _ _ w.take_all.ensures.leaves (rw w.bodies-is at l)) c.call.ensures.leaves
+  | else-matches w ↦ on_ok_weaker c.call.result (λ l. rw w.bodies-is at l) c.call.ensures.leaves
+]
