@@ -93,7 +93,10 @@ fn mails_of(alloc: Global, left: &[Left], process: usize) -> Result<String, Allo
 
 fn told(alloc: Global, mail: &Mail) -> Result<String, AllocError> {
     match mail {
-        Mail::Message { port, bytes, .. } => format!(in alloc; "data {port} {:?}", bytes.as_slice()),
+        Mail::Message { port, bytes, .. } => format!(in alloc;
+            "data {port} {:?}",
+            bytes.as_slice()
+        ),
         Mail::Closed(port) => format!(in alloc; "closed {port}"),
         Mail::Connected(port) => format!(in alloc; "connected {port}"),
         Mail::Exit { port, reason } => format!(in alloc; "exit {port} {}", reason.as_str()),

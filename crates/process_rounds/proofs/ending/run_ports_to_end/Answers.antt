@@ -1,5 +1,5 @@
-use Rattle.std.proofs.Common.{arith, ◌≡◌, ◌<◌, length, false}
-use Rattle.process_rounds.proofs.Turning.{AreTurned-start, AreTurned-set, AreSame-turned, AreSame-set, StoppedBelow-set, have-stopped}
+use Rattle.std.proofs.Common.{arith, ◌<◌, length}
+use Rattle.process_rounds.proofs.Turning.{AreTurned-start, AreTurned-set, AreSame-turned, AreSame-set, StoppedBelow-set}
 use Rattle.process_rounds.proofs.ending.run_ports_to_end.Goals as goal
 
 pub loop-port-init : goal.loop-port-init
