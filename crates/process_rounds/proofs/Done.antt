@@ -1,5 +1,5 @@
 -- What a process has done after a call, a taken mail and more turns.
-use Rattle.std.proofs.Common.{arith, subst, ◌≡◌, ◌≢◌, ◌⊎◌, inl, inr, ℕ, zero, suc, ◌+◌, ◌<◌, List, [], ◌∷◌, ◌++◌, length, Bool, true, false, cond, Option, Some, None, refl, sym, ap, ◌∙◌, append_assoc}
+use Rattle.std.proofs.Common.{arith, subst, ◌≡◌, ◌≢◌, ℕ, zero, suc, ◌<◌, List, [], ◌∷◌, ◌++◌, length, cond, Option, Some, None, sym, ap, ◌∙◌, append_assoc}
 use Rattle.std.specs.Prelude.{reverse, map, All, slice_index_or}
 use Rattle.std.proofs.lemmas.List.{append-nil, map-append, reverse-append}
 use Rattle.std.proofs.lemmas.List.Elements.{All-append}
@@ -10,9 +10,9 @@ use Rattle.call_receipts.specs.Asks.{Ask}
 use Rattle.call_receipts.specs.Receipts.{receipt_for}
 use Rattle.port_engine.specs.Body.{View}
 use Rattle.process_calls.specs.Calls.{stat_at}
-use Rattle.process_calls.specs.Served.{AreServing, HasAsked, HasTaken}
+use Rattle.process_calls.specs.Served.{HasAsked, HasTaken}
 use Rattle.process_rounds.specs.Mails.{Came, mail_from, is_refused, own_mail, own_mails}
-use Rattle.process_rounds.specs.Running.{HasDone, IsServed, Leaves}
+use Rattle.process_rounds.specs.Running.{HasDone, IsServed}
 use Rattle.process_rounds.proofs.Lists.{by-place, first}
 use Rattle.process_rounds.proofs.Came.{of_own, from-port, from-other, from-none, own-more, port-more, mails-of-own, own-within, put-adds, refused-adds}
 

@@ -1,14 +1,14 @@
 -- What is left as it was by one process after another.
-use Rattle.std.proofs.Common.{arith, subst, ◌≡◌, ◌≢◌, ℕ, ◌<◌, ◌≤◌, List, [], ◌∷◌, ◌++◌, length, Bool, true, false, Option, Some, None, refl, sym, ap, ◌∙◌, append_assoc}
-use Rattle.std.specs.Prelude.{reverse, map, All, slice_index_or, slice_set}
-use Rattle.std.proofs.lemmas.List.{append-nil, length-set, get_or_read, get_or-set_same, get_or-set_other}
+use Rattle.std.proofs.Common.{arith, subst, ◌≡◌, ◌≢◌, ℕ, ◌<◌, List, [], ◌++◌, length, Some, refl, sym, ap, ◌∙◌, append_assoc}
+use Rattle.std.specs.Prelude.{reverse, slice_index_or, slice_set}
+use Rattle.std.proofs.lemmas.List.{append-nil, get_or_read, get_or-set_same, get_or-set_other}
 use Rattle.port_signal.specs.declared.mail.Mail.{Mail}
 use Rattle.call_receipts.specs.declared.receipt.Receipt.{Receipt}
 use Rattle.call_receipts.specs.Asks.{Ask}
 use Rattle.script_reader.specs.declared.decl.Step.{Step}
 use Rattle.port_engine.specs.Body.{View}
 use Rattle.process_calls.specs.Calls.{IsSame}
-use Rattle.process_calls.specs.Served.{AreSame, AreServing, HasAsked, HasTaken}
+use Rattle.process_calls.specs.Served.{AreSame, AreServing}
 use Rattle.process_rounds.specs.declared.running.Running.{Running}
 use Rattle.process_rounds.specs.Mails.{mail_from}
 use Rattle.process_rounds.specs.Running.{HasDone, IsServed, Leaves, OnlyTook, IsRunning, AreRunning}

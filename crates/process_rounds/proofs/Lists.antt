@@ -1,6 +1,6 @@
 -- Lists read at a place.
-use Rattle.std.proofs.Common.{arith, subst, ◌≡◌, ◌≢◌, ℕ, zero, suc, ◌+◌, ◌-◌, ◌<◌, ◌≤◌, List, [], ◌∷◌, ◌++◌, length, Bool, true, false, eqb, refl, sym, ap, ◌∙◌, length-append}
-use Rattle.std.specs.Prelude.{slice_index_or, slice_set, map, All}
+use Rattle.std.proofs.Common.{arith, subst, ◌≡◌, ◌≢◌, ℕ, suc, ◌+◌, ◌-◌, ◌<◌, List, [], ◌∷◌, ◌++◌, length, Bool, true, false, eqb, refl, sym}
+use Rattle.std.specs.Prelude.{slice_index_or, slice_set, map}
 use Rattle.std.specs.List.{range_with_len}
 use Rattle.std.proofs.lemmas.List.{get_or-map, get_or-set_same, get_or-set_other, length-set}
 use Rattle.std.proofs.Math.ListN.{get_or-append}

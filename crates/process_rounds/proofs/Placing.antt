@@ -1,14 +1,14 @@
 -- The places of the steps of each process.
-use Rattle.std.proofs.Common.{arith, subst, ◌≡◌, ◌≢◌, ℕ, zero, suc, ◌+◌, ◌<◌, List, [], ◌∷◌, ◌++◌, length, take, Bool, true, false, cond, eqb, refl, sym, ap, ◌∙◌, length-append}
-use Rattle.std.specs.Prelude.{map, filter, All, None, slice_index_or, slice_set}
-use Rattle.std.proofs.lemmas.List.{append-nil, map-append, take_more, get_or_read, length-set}
+use Rattle.std.proofs.Common.{arith, ◌≡◌, ◌≢◌, ℕ, zero, suc, ◌+◌, ◌<◌, List, [], ◌∷◌, ◌++◌, length, take, true, false, cond, eqb, refl, sym, ap, ◌∙◌, length-append}
+use Rattle.std.specs.Prelude.{All, None, slice_index_or, slice_set}
+use Rattle.std.proofs.lemmas.List.{append-nil, map-append, take_more, get_or_read}
 use Rattle.std.proofs.lemmas.List.Elements.{filter-append, All-append}
 use Rattle.std.proofs.lemmas.Bool.Decides.{nat_tests}
 use Rattle.script_reader.specs.declared.decl.Step.{Step}
 use Rattle.process_rounds.specs.declared.running.Running.{Running}
 use Rattle.process_rounds.specs.Asks.{program}
 use Rattle.process_rounds.specs.Running.{IsUnstarted, StandAt}
-use Rattle.process_rounds.proofs.Lists.{by-place, each-set}
+use Rattle.process_rounds.proofs.Lists.{each-set}
 
 -- a process without places has no steps
 pub unstarted-is : (steps : List Step) (running : Running) → running.places.items ≡ [] → running.ended ≡ false → running.awaited ≡ None

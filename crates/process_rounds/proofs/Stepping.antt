@@ -1,12 +1,10 @@
 -- What a step of a process leaves of it.
-use Rattle.std.proofs.Common.{arith, subst, ◌≡◌, ℕ, zero, suc, ◌+◌, ◌<◌, List, [], ◌∷◌, ◌++◌, length, drop, Bool, true, false, refl, sym, ap, ◌∙◌}
-use Rattle.std.specs.Prelude.{map, All, codes, slice_index_or}
-use Rattle.std.proofs.lemmas.List.{length-map}
+use Rattle.std.proofs.Common.{arith, subst, ◌≡◌, ℕ, suc, List, [], ◌∷◌, length, drop, true, false, refl, sym, ap, ◌∙◌}
+use Rattle.std.specs.Prelude.{map, codes, slice_index_or}
 use Rattle.port_signal.specs.declared.signal.Signal.{Signal}
 use Rattle.call_receipts.specs.Asks.{Ask}
 use Rattle.script_reader.specs.declared.decl.Step.{Step}
 use Rattle.port_engine.specs.Body.{View}
-use Rattle.process_rounds.specs.declared.deed.Deed.{Deed}
 use Rattle.process_rounds.specs.declared.deed.Deed.TheVariants as deed
 use Rattle.process_rounds.specs.declared.running.Running.{Running}
 use Rattle.process_rounds.specs.Asks.{asks, asks_by, asks_of_deed, deed_of, exit_asks}
@@ -17,9 +15,16 @@ map-count f [] = refl
 map-count f (place ∷ places) = ap suc (map-count f places)
 
 -- a list without a first element is empty
-pub empty : (places : List ℕ) → places ≡ drop 1 places → places ≡ []
-empty [] e = refl
-empty (place ∷ places) e = let n : suc (length places) ≡ length places = ap length e in absurd (omega (arith, n))
+shorter : (places : List ℕ) → places ≡ drop 1 places → places ≡ []
+shorter [] e = refl
+shorter (place ∷ places) e = let n : suc (length places) ≡ length places = ap length e in absurd (omega (arith, n))
+
+-- and so it was before the first element was looked for
+pub was-empty : (old new : List ℕ) → old ≡ new → new ≡ drop 1 old → old ≡ []
+was-empty old new same rest = shorter old (same ∙ rest)
+
+pub is-empty : (old new : List ℕ) → old ≡ new → new ≡ drop 1 old → new ≡ []
+is-empty old new same rest = sym same ∙ was-empty old new same rest
 
 -- no place, no step
 stands-none : (steps rest : List Step) (places : List ℕ) → places ≡ [] → StandAt steps places rest → rest ≡ []
@@ -56,7 +61,7 @@ pub ends-last : (process ports : ℕ) (steps : List Step) (old new : List View) 
     → IsRunning process ports steps old running → running.ended ≡ false → running.places.items ≡ []
     → after.ended ≡ true → after.awaited ≡ running.awaited → after.places.items ≡ [] → length new ≡ length old
     → ((whole : List Ask) → HasDone process (exit_asks ports (codes "normal")) whole old running.left.receipts.items running.left.mails.items
-        → HasDone process [] whole new after.left.receipts.items after.left.mails.items)
+    → HasDone process [] whole new after.left.receipts.items after.left.mails.items)
     → IsRunning process ports steps new after
 ends-last process ports steps old new running after r e none ended awaited places len told = record {
   count = len ∙ r.count;
@@ -72,7 +77,7 @@ pub ends-early : (process ports : ℕ) (steps : List Step) (old new : List View)
     → step ≡ slice_index_or steps place step → deed_of step.act ≡ deed.End reason
     → after.ended ≡ true → after.awaited ≡ running.awaited → length new ≡ length old
     → ((whole : List Ask) → HasDone process (exit_asks ports reason) whole old running.left.receipts.items running.left.mails.items
-        → HasDone process [] whole new after.left.receipts.items after.left.mails.items)
+    → HasDone process [] whole new after.left.receipts.items after.left.mails.items)
     → IsRunning process ports steps new after
 ends-early process ports steps old new running after place step reason r e first at is ended awaited len told =
     let s = stands-first steps r.rest place after.places.items step at (rw first at r.places) in
@@ -92,7 +97,7 @@ pub goes-on : (process ports : ℕ) (steps : List Step) (old new : List View) (r
     → step ≡ slice_index_or steps place step → deed_of step.act ≡ deed.Send port signal
     → after.ended ≡ running.ended → AwaitsWithin ports after.awaited → length new ≡ length old
     → ((later whole : List Ask) → HasDone process (record { line = step.line; port = port; task = record { signal = signal } } ∷ later) whole old running.left.receipts.items running.left.mails.items
-        → HasDone process later whole new after.left.receipts.items after.left.mails.items)
+    → HasDone process later whole new after.left.receipts.items after.left.mails.items)
     → IsRunning process ports steps new after
 goes-on process ports steps old new running after place step port signal r e first at is ended awaited len sent =
     let s = stands-first steps r.rest place after.places.items step at (rw first at r.places) in
@@ -110,7 +115,7 @@ goes-on process ports steps old new running after place step port signal r e fir
 pub took-some : (process ports : ℕ) (steps : List Step) (old new : List View) (running after : Running)
     → IsRunning process ports steps old running → after.places ≡ running.places → after.ended ≡ running.ended → AwaitsWithin ports after.awaited → length new ≡ length old
     → ((later whole : List Ask) → HasDone process later whole old running.left.receipts.items running.left.mails.items
-        → HasDone process later whole new after.left.receipts.items after.left.mails.items)
+    → HasDone process later whole new after.left.receipts.items after.left.mails.items)
     → IsRunning process ports steps new after
 took-some process ports steps old new running after r places ended awaited len took = record {
   count = len ∙ r.count;

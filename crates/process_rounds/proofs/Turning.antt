@@ -1,26 +1,24 @@
 -- What more turns of the ports leave of the processes.
-use Rattle.std.proofs.Common.{arith, subst, ◌≡◌, ◌≢◌, ◌⊎◌, inl, inr, ⊎_elim, ℕ, zero, suc, ◌+◌, ◌<◌, ◌≤◌, List, [], ◌∷◌, ◌++◌, length, Bool, true, false, Option, Some, None, refl, sym, ap, ◌∙◌}
-use Rattle.std.specs.Prelude.{reverse, map, All, slice_index_or, slice_set}
+use Rattle.std.proofs.Common.{arith, ◌≡◌, ⊎_elim, ℕ, zero, suc, ◌+◌, ◌<◌, ◌≤◌, List, [], ◌∷◌, length, true, false, Some, refl, sym, ap, ◌∙◌}
+use Rattle.std.specs.Prelude.{reverse, slice_index_or, slice_set}
 use Rattle.std.proofs.lemmas.List.{append-nil, reverse-append, length-set, get_or-set_same, get_or-set_other, get_or_read}
 use Rattle.std.proofs.lemmas.Bool.{cases_lt}
 use Rattle.port_signal.specs.declared.mail.Mail.{Mail}
-use Rattle.port_signal.specs.declared.row.MarkKind.{MarkKind}
 use Rattle.port_signal.specs.History.{marks}
 use Rattle.call_receipts.specs.declared.receipt.Receipt.{Receipt}
 use Rattle.call_receipts.specs.Asks.{Ask}
 use Rattle.script_reader.specs.declared.decl.Step.{Step}
 use Rattle.driver_entry.specs.Mail.{mails}
-use Rattle.port_engine.specs.Boxes.{box_at}
-use Rattle.port_engine.specs.Body.{View, Turned, history_of, given_by}
-use Rattle.port_engine.proofs.Turns.{Turned-same, Turned-trans}
+use Rattle.port_engine.specs.Body.{View, Turned, history_of}
+use Rattle.port_engine.proofs.Turns.{Turned-trans}
 use Rattle.process_calls.specs.Calls.{IsSame}
-use Rattle.process_calls.specs.Served.{AreSame, AreServing, IsServing, HasAsked, HasTaken}
+use Rattle.process_calls.specs.Served.{AreSame, AreServing, HasAsked, HasTaken}
 use Rattle.process_calls.proofs.Shown.{Extends, AreReceipts-more, marks-append}
 use Rattle.process_calls.proofs.Gave.{same-extends}
 use Rattle.process_rounds.specs.declared.running.Running.{Running}
 use Rattle.process_rounds.specs.Mails.{mail_from}
 use Rattle.process_rounds.specs.Rounds.{HaveStopped}
-use Rattle.process_rounds.specs.Running.{HasDone, IsServed, IsRunning, AreRunning, AreTurned}
+use Rattle.process_rounds.specs.Running.{HasDone, IsServed, AreRunning, AreTurned}
 use Rattle.process_rounds.proofs.Lists.{by-place}
 use Rattle.process_rounds.proofs.Done.{has-seat}
 

@@ -1,6 +1,6 @@
 -- From just opened ports to what a run leaves.
-use Rattle.std.proofs.Common.{arith, subst, ◌≡◌, ◌≢◌, ℕ, zero, suc, ◌+◌, ◌<◌, ◌≤◌, List, [], ◌∷◌, ◌++◌, length, Bool, true, false, Option, Some, None, refl, sym, ap, ◌∙◌}
-use Rattle.std.specs.Prelude.{reverse, map, All, slice_index_or}
+use Rattle.std.proofs.Common.{arith, subst, ◌≡◌, ℕ, ◌<◌, List, [], ◌++◌, length, true, Some, refl, sym, ap, ◌∙◌}
+use Rattle.std.specs.Prelude.{reverse, map, slice_index_or}
 use Rattle.std.proofs.lemmas.List.{append-nil, reverse-reverse, get_or-map}
 use Rattle.port_signal.specs.declared.row.Row.{Row}
 use Rattle.task_queue.specs.declared.item.Item.{Item}
@@ -10,15 +10,14 @@ use Rattle.port_signal.specs.History.{items}
 use Rattle.call_receipts.specs.Asks.{Ask}
 use Rattle.script_reader.specs.declared.decl.Step.{Step}
 use Rattle.driver_entry.specs.Mail.{mails}
-use Rattle.port_engine.specs.Boxes.{box_at}
-use Rattle.port_engine.specs.Body.{View, given_by, history_of}
+use Rattle.port_engine.specs.Body.{View}
 use Rattle.process_calls.specs.Served.{AreServing, HasAsked}
 use Rattle.process_rounds.specs.declared.left.Left.{Left}
 use Rattle.process_rounds.specs.declared.running.Running.{Running}
-use Rattle.process_rounds.specs.Asks.{asks, asks_by, program}
+use Rattle.process_rounds.specs.Asks.{asks, program}
 use Rattle.process_rounds.specs.Mails.{mail_from, own_mails}
-use Rattle.process_rounds.specs.Rounds.{AreNew, IsNew, HasRun, HaveStopped}
-use Rattle.process_rounds.specs.Running.{AwaitsWithin, HasDone, IsRunning, AreRunning, IsUnstarted, IsEmptied, OnlyTook, later_asks}
+use Rattle.process_rounds.specs.Rounds.{AreNew, HasRun, HaveStopped}
+use Rattle.process_rounds.specs.Running.{HasDone, IsRunning, AreRunning, IsUnstarted, IsEmptied, OnlyTook, later_asks}
 use Rattle.process_rounds.proofs.Lists.{first}
 
 pub AreServing-new : (processes : ℕ) (bodies : List View) → AreNew processes bodies → AreServing processes bodies

@@ -1,5 +1,5 @@
 -- What a run of all processes leaves.
-use Rattle.std.specs.Prelude.{◌≡◌, ℕ, ◌<◌, ◌≤◌, List, [], length, reverse, map, All, true, false, Option, Some, None, slice_index_or}
+use Rattle.std.specs.Prelude.{◌≡◌, ℕ, ◌<◌, List, [], length, reverse, map, All, true, false, Some, None, slice_index_or}
 use Rattle.port_signal.specs.declared.mail.Mail.{Mail}
 use Rattle.driver_entry.specs.Mail.{mails}
 use Rattle.port_engine.specs.Boxes.{box_at}

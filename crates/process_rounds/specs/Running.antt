@@ -1,5 +1,5 @@
 -- What holds of the processes while they run.
-use Rattle.std.specs.Prelude.{◌≡◌, ◌≢◌, ℕ, ◌<◌, List, [], ◌∷◌, ◌++◌, length, reverse, map, All, Bool, true, false, Option, Some, None, if◌then◌else◌, slice_index_or}
+use Rattle.std.specs.Prelude.{◌≡◌, ◌≢◌, ℕ, ◌<◌, List, [], ◌++◌, length, reverse, map, All, Bool, false, Option, Some, None, if◌then◌else◌, slice_index_or}
 use Rattle.port_signal.specs.declared.mail.Mail.{Mail}
 use Rattle.call_receipts.specs.declared.receipt.Receipt.{Receipt}
 use Rattle.call_receipts.specs.Asks.{Ask}
@@ -9,9 +9,8 @@ use Rattle.script_reader.specs.declared.decl.Step.{Step}
 use Rattle.process_calls.specs.Served.{AreSame, AreServing, HasAsked, HasTaken}
 use Rattle.process_rounds.specs.declared.running.Awaited.{Awaited}
 use Rattle.process_rounds.specs.declared.running.Running.{Running}
-use Rattle.process_rounds.specs.Asks.{asks, asks_by, program}
+use Rattle.process_rounds.specs.Asks.{asks, asks_by}
 use Rattle.process_rounds.specs.Mails.{Came, mail_from, own_mails}
-use Rattle.process_rounds.specs.Rounds.{AreSteps}
 
 -- a process is one of those that the bodies serve
 pub record IsServed (process : ℕ) (bodies : List View) : Type 0 where

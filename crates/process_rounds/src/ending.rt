@@ -3,7 +3,7 @@ ghost use Rattle.port_engine.specs.Boxes.{box_at};
 ghost use Rattle.port_engine.specs.Body.{Turned, View};
 ghost use Rattle.call_receipts.specs.Asks.{Ask};
 ghost use Rattle.process_calls.specs.Served.{AreSame, AreServing};
-ghost use Rattle.script_reader.specs.declared.decl.Step.{Step as StepOf};
+ghost use Rattle.script_reader.specs.declared.decl.Step.{Step};
 ghost use Rattle.process_rounds.specs.Rounds.{HaveStopped};
 ghost use Rattle.process_rounds.specs.Running.{AreRunning, AreTurned, HasDone, IsEmptied, IsServed, Leaves, OnlyTook};
 
@@ -36,9 +36,8 @@ fn run_to_end<D: Driver, R: Wait>(rt: &R, body: &mut Body<D>) -> Result<(), NoMe
 pub(crate) fn run_ports_to_end<D: Driver, R: Wait>(
     rt: &R,
     bodies: &mut Vec<Body<D>>,
-    processes: u32,
 ) -> Result<(), NoMemory>
-    requires serving { AreServing processes bodies.old.items }
+    requires serving { (processes : ℕ) × AreServing processes bodies.old.items }
     ensures same { AreSame bodies.old.items bodies.new.items }
     ensures turned { OnOk result (AreTurned bodies.old.items bodies.new.items) }
     ensures stopped { OnOk result (HaveStopped bodies.new.items) }
@@ -86,7 +85,7 @@ pub(crate) fn take_rest<D: Driver>(
     ensures count { OnOk result (length all.new.items ≡ processes) }
     ensures rest { OnOk result (OnlyTook bodies.old.items bodies.new.items) }
     ensures emptied { OnOk result ((s k : ℕ) → s < processes → k < length bodies.old.items → IsEmptied s k bodies.new.items) }
-    ensures running { OnOk result ((steps : List StepOf) → AreRunning (length bodies.old.items) steps bodies.old.items all.old.items
+    ensures running { OnOk result ((steps : List Step) → AreRunning (length bodies.old.items) steps bodies.old.items all.old.items
         → AreRunning (length bodies.old.items) steps bodies.new.items all.new.items) }
     ensures ended { OnOk result ((s : ℕ) (d : Running) → s < processes → (slice_index_or all.new.items s d).ended ≡ (slice_index_or all.old.items s d).ended) }
 {

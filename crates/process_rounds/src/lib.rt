@@ -15,3 +15,6 @@ mod taking;
 
 pub use left::Left;
 pub use rounds::run_processes;
+
+#[cfg(test)]
+mod tests;

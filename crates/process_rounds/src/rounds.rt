@@ -36,7 +36,7 @@ fn round<D: Driver>(
 {
     for process in 0..processes {
         let running = &mut all[process as usize];
-        take_turn(alloc, bodies, running, process, steps, processes)?;
+        take_turn(alloc, bodies, running, process, steps)?;
     }
     Ok(())
 }
@@ -117,7 +117,7 @@ pub fn run_processes<D: Driver, R: Wait>(
 {
     let mut all = start(alloc, processes, steps)?;
     run_rounds(rt, alloc, bodies, &mut all, steps, processes)?;
-    run_ports_to_end(rt, bodies, processes)?;
+    run_ports_to_end(rt, bodies)?;
     take_rest(bodies, &mut all, processes)?;
     lefts(alloc, all)
 }

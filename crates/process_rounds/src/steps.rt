@@ -102,11 +102,10 @@ fn step<D: Driver>(
     running: &mut Running,
     process: u32,
     steps: &[Step],
-    processes: u32,
 ) -> Result<(), NoMemory>
     requires few { length bodies.old.items ≤ 32 }
     requires served { IsServed process bodies.old.items }
-    requires steps { AreSteps processes (length bodies.old.items) steps.now }
+    requires steps { (processes : ℕ) × AreSteps processes (length bodies.old.items) steps.now }
     requires runs { running.old.ended ≡ false }
     requires running { IsRunning process (length bodies.old.items) steps.now bodies.old.items running.old }
     ensures same { AreSame bodies.old.items bodies.new.items }
@@ -159,11 +158,10 @@ pub(crate) fn take_turn<D: Driver>(
     running: &mut Running,
     process: u32,
     steps: &[Step],
-    processes: u32,
 ) -> Result<(), NoMemory>
     requires few { length bodies.old.items ≤ 32 }
     requires served { IsServed process bodies.old.items }
-    requires steps { AreSteps processes (length bodies.old.items) steps.now }
+    requires steps { (processes : ℕ) × AreSteps processes (length bodies.old.items) steps.now }
     requires running { IsRunning process (length bodies.old.items) steps.now bodies.old.items running.old }
     ensures same { AreSame bodies.old.items bodies.new.items }
     ensures leaves { OnOk result (Leaves process bodies.old.items bodies.new.items) }
@@ -173,5 +171,5 @@ pub(crate) fn take_turn<D: Driver>(
     if running.ended || running.awaited.is_some() {
         return Ok(());
     }
-    step(alloc, bodies, running, process, steps, processes)
+    step(alloc, bodies, running, process, steps)
 }

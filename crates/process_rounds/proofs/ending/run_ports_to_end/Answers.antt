@@ -1,10 +1,10 @@
-use Rattle.std.proofs.Common.{arith, ◌≡◌, ◌<◌, length, false}
-use Rattle.process_rounds.proofs.Turning.{AreTurned-start, AreTurned-set, AreSame-turned, AreSame-set, StoppedBelow-set, have-stopped}
+use Rattle.std.proofs.Common.{arith, ◌<◌, length}
+use Rattle.process_rounds.proofs.Turning.{AreTurned-start, AreTurned-set, AreSame-turned, AreSame-set, StoppedBelow-set}
 use Rattle.process_rounds.proofs.ending.run_ports_to_end.Goals as goal
 
 pub loop-port-init : goal.loop-port-init
 loop-port-init g c = record {
-  turned = AreTurned-start c.args.processes c.args.bodies.now.items c.requires.serving;
+  turned = AreTurned-start c.requires.serving.0 c.args.bodies.now.items c.requires.serving.1;
   stopped = λ k d l. absurd (omega (arith, l));
 }
 

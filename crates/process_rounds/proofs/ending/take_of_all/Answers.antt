@@ -1,4 +1,4 @@
-use Rattle.std.proofs.Common.{arith, ◌≡◌, ◌<◌, ◌+◌, ◌∙◌, inl, inr, refl, length, ap}
+use Rattle.std.proofs.Common.{arith, ◌∙◌, inl, inr, refl, ap}
 use Rattle.process_rounds.proofs.Lists.{by-place}
 use Rattle.process_rounds.proofs.Leaving.{AreSame-refl, AreSame-trans, OnlyTook-refl, OnlyTook-trans, Leaves-refl, Leaves-trans, IsServed-leaves}
 use Rattle.process_rounds.proofs.ending.take_of_all.Goals as goal

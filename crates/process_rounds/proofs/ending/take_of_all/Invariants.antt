@@ -1,4 +1,4 @@
-use Rattle.std.proofs.Common.{◌≡◌, ◌≢◌, ◌<◌, ℕ, List, length}
+use Rattle.std.proofs.Common.{◌≡◌, ◌≢◌, ◌<◌, ℕ, List}
 use Rattle.std.specs.Prelude.{slice_index_or}
 use Rattle.port_engine.specs.Boxes.{box_at}
 use Rattle.port_engine.specs.Body.{View}

@@ -1,10 +1,9 @@
-use Rattle.std.proofs.Common.{arith, ◌≡◌, ◌<◌, ◌∙◌, refl, length, ap, List}
-use Rattle.std.specs.Prelude.{slice_set}
+use Rattle.std.proofs.Common.{arith, ◌<◌, ◌∙◌, refl, length, ap}
 use Rattle.std.proofs.lemmas.List.{length-set}
 use Rattle.process_rounds.specs.declared.running.Running.{Running}
 use Rattle.process_rounds.specs.Running.{IsRunning}
 use Rattle.process_rounds.proofs.Lists.{by-place}
-use Rattle.process_rounds.proofs.Leaving.{AreSame-refl, AreSame-trans, OnlyTook-refl, OnlyTook-trans, AreRunning-leaves, ended-set}
+use Rattle.process_rounds.proofs.Leaving.{AreSame-trans, OnlyTook-trans, AreRunning-leaves, ended-set}
 use Rattle.process_rounds.proofs.Stepping.{took-some}
 use Rattle.process_rounds.proofs.ending.take_rest.Goals as goal
 

@@ -1,4 +1,4 @@
-use Rattle.std.proofs.Common.{◌≡◌, ◌≢◌, ◌<◌, ℕ, List, length}
+use Rattle.std.proofs.Common.{◌≡◌, ◌<◌, ℕ, List, length}
 use Rattle.std.specs.Prelude.{slice_index_or}
 use Rattle.script_reader.specs.declared.decl.Step.{Step}
 use Rattle.process_calls.specs.Served.{AreSame, AreServing}

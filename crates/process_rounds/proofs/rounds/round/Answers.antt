@@ -1,4 +1,4 @@
-use Rattle.std.proofs.Common.{◌≡◌, ◌<◌, ◌∙◌, length}
+use Rattle.std.proofs.Common.{◌<◌, ◌∙◌, length}
 use Rattle.std.proofs.lemmas.List.{length-set}
 use Rattle.process_rounds.specs.Running.{IsRunning}
 use Rattle.process_rounds.proofs.Leaving.{AreSame-trans, AreRunning-leaves}

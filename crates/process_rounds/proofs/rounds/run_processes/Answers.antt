@@ -1,9 +1,7 @@
-use Rattle.std.proofs.Common.{◌≡◌, ◌<◌, ◌∙◌, ℕ, length, Result, Ok, Err, IfOk, true}
-use Rattle.std.specs.Prelude.{slice_index_or}
-use Rattle.process_calls.specs.Served.{AreServing}
+use Rattle.std.proofs.Common.{◌≡◌, ◌∙◌, ℕ, length, Result, Ok, Err, IfOk}
 use Rattle.process_rounds.specs.Running.{AreRunning}
 use Rattle.process_rounds.proofs.Leaving.{AreSame-trans}
-use Rattle.process_rounds.proofs.Turning.{AreRunning-turned, AreServing-turned}
+use Rattle.process_rounds.proofs.Turning.{AreRunning-turned}
 use Rattle.process_rounds.proofs.Whole.{AreRunning-new, have-run}
 use Rattle.process_rounds.proofs.rounds.run_processes.Goals as goal
 

@@ -1,4 +1,4 @@
-use Rattle.std.proofs.Common.{◌≡◌, length}
+use Rattle.std.proofs.Common.{length}
 use Rattle.process_rounds.specs.Running.{AreRunning}
 use Rattle.process_rounds.proofs.Leaving.{AreSame-trans}
 use Rattle.process_rounds.proofs.rounds.run_rounds.Goals as goal

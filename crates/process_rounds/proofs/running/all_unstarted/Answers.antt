@@ -1,6 +1,5 @@
-use Rattle.std.proofs.Common.{arith, [], List}
+use Rattle.std.proofs.Common.{arith, []}
 use Rattle.std.proofs.lemmas.Grind.{common_steps}
-use Rattle.script_reader.specs.declared.decl.Step.{Step}
 use Rattle.process_rounds.specs.Running.{IsUnstarted}
 use Rattle.process_rounds.proofs.Lists.{each-push}
 use Rattle.process_rounds.proofs.Placing.{unstarted-is}

@@ -1,15 +1,15 @@
-use Rattle.std.proofs.Common.{◌≡◌, [], ◌∷◌, List, true, refl, sym, ◌∙◌, length, codes}
+use Rattle.std.proofs.Common.{refl, sym, ◌∙◌}
 use Rattle.std.proofs.lemmas.Result.{on_ok_weaker}
-use Rattle.process_rounds.proofs.Stepping.{empty, ends-last, ends-early, goes-on}
+use Rattle.process_rounds.proofs.Stepping.{was-empty, is-empty, ends-last, ends-early, goes-on}
 use Rattle.process_rounds.proofs.steps.step.Goals as goal
 
 pub returns-in_default-clause-running : goal.returns-in_default-clause-running
 returns-in_default-clause-running g c =
     let h = c.in_default.ensures in
-    let none : c.args.running.now.places.items ≡ [] = empty c.args.running.now.places.items (h.items ∙ h.rest) in
     on_ok_weaker c.tell_end.result
-    (λ told. ends-last c.args.process _ c.args.steps.now c.args.bodies.now.items c.tell_end.new.bodies.items c.args.running.now _ c.requires.running c.requires.runs none
-    refl refl (sym h.items ∙ none) c.tell_end.ensures.same.len (rw c.normal.ensures at told))
+    (λ told. ends-last c.args.process _ c.args.steps.now c.args.bodies.now.items c.tell_end.new.bodies.items c.args.running.now _ c.requires.running c.requires.runs
+    (was-empty c.args.running.now.places.items c.pop_front.new.self.items h.items h.rest)
+    refl refl (is-empty c.args.running.now.places.items c.pop_front.new.self.items h.items h.rest) c.tell_end.ensures.same.len (rw c.normal.ensures at told))
     c.tell_end.ensures.done
 
 pub returns-in_ok-running-in-Send-clause-running : goal.returns-in_ok-running-in-Send-clause-running

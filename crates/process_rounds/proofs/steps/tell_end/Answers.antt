@@ -1,4 +1,4 @@
-use Rattle.std.proofs.Common.{arith, ◌∙◌, ◌≡◌, ◌-◌, ◌<◌, ◌+◌, ◌∷◌, length, List, subst, ap}
+use Rattle.std.proofs.Common.{arith, ◌-◌, ◌<◌, ◌+◌, length, subst, ap}
 use Rattle.std.specs.Prelude.{map}
 use Rattle.std.specs.List.{range_with_len}
 use Rattle.process_rounds.specs.Asks.{exit_ask}

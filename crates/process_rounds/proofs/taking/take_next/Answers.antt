@@ -1,4 +1,4 @@
-use Rattle.std.proofs.Common.{inl, inr}
+use Rattle.std.proofs.Common.{inr}
 use Rattle.process_rounds.proofs.Done.{HasDone-taken}
 use Rattle.process_rounds.proofs.taking.take_next.Goals as goal
 

@@ -1,4 +1,4 @@
-use Rattle.std.proofs.Common.{◌∙◌, length, map}
+use Rattle.std.proofs.Common.{length}
 use Rattle.port_engine.specs.Boxes.{box_at}
 use Rattle.process_rounds.proofs.Lists.{measure-falls}
 use Rattle.process_rounds.proofs.Leaving.{AreSame-trans, Leaves-trans, IsServed-leaves}
