@@ -169,7 +169,7 @@ fn a_link_and_a_monitor_of_a_closed_port_tell_noproc(rt: HostRuntime) -> Result<
     );
     assert_eq!(rt;
         mails_of(alloc, &left, 1)?.as_str(),
-        "exit 0 noproc;down 0 1 noproc;data 1 [120];"
+        "exit 0 noproc;data 1 [120];down 0 1 noproc;"
     );
     Ok(())
 }
