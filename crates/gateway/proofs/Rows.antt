@@ -1,5 +1,5 @@
 -- The rows of a history are from the processes from which its tasks are.
-use Rattle.std.proofs.Common.{◌≡◌, ℕ, List, [], ◌∷◌, ◌++◌, arith, subst, sym}
+use Rattle.std.proofs.Common.{ℕ, List, [], ◌∷◌, arith, subst, sym}
 use Rattle.std.specs.Prelude.{All, reverse}
 use Rattle.std.proofs.lemmas.List.{reverse-append}
 use Rattle.std.proofs.lemmas.List.Elements.{All-push}

@@ -1,5 +1,5 @@
 -- The ports of a script were opened, its processes were run, and its drivers are back: the report holds of them.
-use Rattle.std.proofs.Common.{arith, subst, inl, inr, ◌≡◌, ◌≢◌, ℕ, ◌<◌, ◌≤◌, ◌⊎◌, List, [], ◌∷◌, ◌++◌, length, true, false, Option, Some, None, refl, sym, ap, ◌∙◌}
+use Rattle.std.proofs.Common.{arith, subst, inl, inr, ◌≡◌, ℕ, ◌<◌, ◌≤◌, ◌⊎◌, List, [], ◌∷◌, ◌++◌, length, true, false, Option, Some, None, refl, sym, ap, ◌∙◌}
 use Rattle.std.specs.Prelude.{map, reverse, All, slice_index, slice_index_or}
 use Rattle.std.specs.Option.{option_map_or}
 use Rattle.std.specs.Str.{bytes_eq}
@@ -12,14 +12,13 @@ use Rattle.port_signal.specs.declared.row.Journal.{Journal}
 use Rattle.port_signal.specs.History.{items, marks}
 use Rattle.driver_entry.specs.declared.life.Life.{Life}
 use Rattle.driver_entry.specs.Drivers.{Kind, Own, Echo, kind_name}
-use Rattle.driver_entry.specs.Owners.{Opening}
 use Rattle.port_engine.specs.Body.{View, history_of, given_by}
 use Rattle.script_reader.specs.declared.decl.PortDecl.{PortDecl}
 use Rattle.script_reader.specs.declared.decl.ProcessDecl.{ProcessDecl}
 use Rattle.script_reader.specs.Plan.{Plan, IsPlan}
 use Rattle.process_calls.specs.Served.{AreSame}
 use Rattle.process_calls.specs.Calls.{IsSame}
-use Rattle.process_calls.proofs.Shown.{AreReceipts-more, Extends}
+use Rattle.process_calls.proofs.Shown.{AreReceipts-more}
 use Rattle.process_rounds.specs.declared.left.Left.{Left}
 use Rattle.driver_entry.specs.Mail.{mails}
 use Rattle.driver_entry.specs.Refusals.{refusal_of}
@@ -41,7 +40,7 @@ use Rattle.gateway_report.proofs.Ends.{HasEnded-closed}
 use Rattle.gateway.specs.Wanted.{plain, wanted_by, wanted_of}
 use Rattle.gateway.specs.Headline as H
 use Rattle.gateway.specs.Headline.{PortHolds, PairHolds, ProcessHolds, Serves, Headline, asks_of}
-use Rattle.gateway.specs.Reported.{port_report, process_report, ArePorts, AreProcesses}
+use Rattle.gateway.specs.Reported.{port_report, ArePorts, AreProcesses}
 use Rattle.gateway.proofs.Rows.{from-senders}
 
 no-decl : PortDecl

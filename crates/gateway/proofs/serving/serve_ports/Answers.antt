@@ -1,4 +1,4 @@
-use Rattle.std.proofs.Common.{length, refl, sym, ap, ◌∙◌}
+use Rattle.std.proofs.Common.{length, ap, ◌∙◌}
 use Rattle.std.proofs.lemmas.List.{length-map}
 use Rattle.gateway.specs.Wanted.{wanted_by}
 use Rattle.gateway.proofs.Served.{owners-of, steps-of, new-bodies, all-back, headline, ended, Served-by, Left-by}
