@@ -1,6 +1,8 @@
 -- What holds of the processes while they run.
-use Rattle.std.specs.Prelude.{◌≡◌, ◌≢◌, ℕ, ◌<◌, List, [], ◌++◌, length, reverse, map, All, Bool, false, Option, Some, None, if◌then◌else◌, slice_index_or}
+use Rattle.std.specs.Prelude.{◌≡◌, ◌≢◌, ℕ, ◌<◌, List, [], ◌++◌, length, reverse, map, All, Bool, true, false, Option, Some, None, if◌then◌else◌, slice_index_or}
 use Rattle.port_signal.specs.declared.mail.Mail.{Mail}
+use Rattle.port_signal.specs.declared.signal.Signal.{Signal}
+use Rattle.port_signal.specs.declared.signal.Signal.TheVariants.{Command, OwnerCommand, Control, Call, Close, OwnerClose, Connect, OwnerConnect, Link, Unlink, Monitor, Demonitor, Exit, Gone}
 use Rattle.call_receipts.specs.declared.receipt.Receipt.{Receipt}
 use Rattle.call_receipts.specs.Asks.{Ask}
 use Rattle.port_engine.specs.Boxes.{box_at}
@@ -88,3 +90,20 @@ pub record OnlyTook (old new : List View) : Type 0 where
 -- no mail of the port waits for the process
 abbrev pub IsEmptied : ℕ → ℕ → List View → Type 0
 IsEmptied process port bodies = (d : View) → (box_at (slice_index_or bodies port d).mail process).waiting ≡ []
+
+-- a process waits for an answer to the signal, unless it was refused
+abbrev pub is_answered : Signal → Bool
+is_answered (Command payload) = false
+is_answered (OwnerCommand payload) = false
+is_answered (Control op bytes) = true
+is_answered (Call op bytes) = true
+is_answered Close = true
+is_answered OwnerClose = false
+is_answered (Connect process) = true
+is_answered (OwnerConnect process) = false
+is_answered Link = false
+is_answered Unlink = false
+is_answered (Monitor number) = false
+is_answered (Demonitor number) = false
+is_answered (Exit reason) = false
+is_answered (Gone reason) = false

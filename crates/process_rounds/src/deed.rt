@@ -4,6 +4,7 @@ ghost use Rattle.port_terms.specs.IoView.{io_tree};
 ghost use Rattle.port_terms.specs.Written.{flattened};
 ghost use Rattle.process_rounds.specs.Asks.{deed_of, vector_of};
 ghost use Rattle.process_rounds.specs.Mails.{own_mail};
+ghost use Rattle.process_rounds.specs.Running.{is_answered};
 
 use port_signal::{IoVec, Mail, NoMemory, Piece, Reason, Signal};
 use port_terms::{IoList, encode, flatten};
@@ -86,7 +87,9 @@ pub(crate) fn own_mail(port: u32, signal: &Signal) -> Option<Mail>
 }
 
 /// Whether the process waits for an answer to this signal.
-pub(crate) fn is_answered(signal: &Signal) -> bool {
+pub(crate) fn is_answered(signal: &Signal) -> bool
+    ensures { result ≡ is_answered signal.now }
+{
     matches!(
         signal,
         Signal::Control { .. } | Signal::Call { .. } | Signal::Close | Signal::Connect(_)

@@ -1,4 +1,4 @@
-ghost use Rattle.std.specs.Prelude.{◌≡◌, ◌<◌, ◌≤◌, ◌≢◌, ◌⊎◌, ℕ, List, [], length, false, true, OnOk, slice_index_or};
+ghost use Rattle.std.specs.Prelude.{◌≡◌, ◌<◌, ◌≤◌, ◌≢◌, ℕ, List, [], length, false, true, OnOk, slice_index_or};
 ghost use Rattle.port_engine.specs.Boxes.{box_at};
 ghost use Rattle.port_engine.specs.Body.{Turned, View};
 ghost use Rattle.call_receipts.specs.Asks.{Ask};

@@ -1,4 +1,4 @@
-ghost use Rattle.std.specs.Prelude.{◌≡◌, ◌<◌, ◌≤◌, ◌++◌, ◌∷◌, ℕ, List, [], length, All, true, false, OnOk, IfOk};
+ghost use Rattle.std.specs.Prelude.{◌≡◌, ◌<◌, ◌≤◌, ◌∷◌, ℕ, List, [], length, false, IfOk, OnOk};
 ghost use Rattle.call_receipts.specs.Asks.{Ask};
 ghost use Rattle.process_calls.specs.Served.{AreSame};
 ghost use Rattle.process_rounds.specs.Asks.{exit_asks};

@@ -1,4 +1,4 @@
-ghost use Rattle.std.specs.Prelude.{◌≡◌, ◌≢◌, ◌⊎◌, ◌<◌, ℕ, List, length, Ok, IfOk, OnOk, slice_index_or};
+ghost use Rattle.std.specs.Prelude.{◌≡◌, ◌≢◌, ◌⊎◌, ◌↔◌, IsTrue, ◌<◌, ℕ, List, length, Ok, IfOk, OnOk, slice_index_or};
 ghost use Rattle.port_engine.specs.Boxes.{box_at};
 ghost use Rattle.port_engine.specs.Body.{View};
 ghost use Rattle.call_receipts.specs.Asks.{Ask};
@@ -22,11 +22,14 @@ pub(crate) enum Took {
 
 impl Took {
     /// Whether it is the reply to the signal of this number.
-    fn answers(self, number: u64) -> bool {
+    fn answers(self, number: u64) -> bool
+        ensures { IsTrue result ↔ (self ≡ Took.Reply number) }
+    {
         matches!(self, Took::Reply(seq) if seq == number)
     }
 }
 
+/// Whether a mail is a reply, and to which signal.
 fn kind_of(mail: &Mail) -> Took
     ensures { result ≢ Took.Nothing }
 {
