@@ -1,4 +1,3 @@
-use Rattle.std.proofs.Common.{sym}
 use Rattle.std.proofs.lemmas.Result.{on_ok_weaker}
 use Rattle.process_rounds.proofs.Leaving.{AreSame-trans, Leaves-trans}
 use Rattle.process_rounds.proofs.steps.send.Goals as goal
