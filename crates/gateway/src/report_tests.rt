@@ -6,8 +6,7 @@ use crate::tests::{ABC, echoes, report_of};
 use crate::{Hosted, PortReport, ProcReport, Report, host_drivers};
 use call_receipts::Receipt;
 use driver_entry::{Driver, Store};
-use io_vector::{IoVec, Piece};
-use port_signal::{Answer, Effect, Mail, Row, Sender, Signal};
+use port_signal::{Answer, Effect, IoVec, Mail, Piece, Row, Sender, Signal};
 use std::alloc::Global;
 use std::test::Fail;
 
