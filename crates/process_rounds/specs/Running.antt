@@ -1,6 +1,7 @@
 -- What holds of the processes while they run.
-use Rattle.std.specs.Prelude.{◌≡◌, ◌≢◌, ℕ, ◌<◌, List, [], ◌++◌, length, reverse, map, All, Bool, true, false, Option, Some, None, if◌then◌else◌, slice_index_or}
+use Rattle.std.specs.Prelude.{◌≡◌, ◌≢◌, ℕ, ◌<◌, List, [], ◌++◌, length, reverse, map, All, Bool, true, false, Option, Some, None, if◌then◌else◌, slice_index_or, ◌∷◌}
 use Rattle.port_signal.specs.declared.mail.Mail.{Mail}
+use Rattle.port_signal.specs.declared.mail.Mail.TheVariants.{Message, Closed, Connected, Exit, Down, Reply}
 use Rattle.port_signal.specs.declared.signal.Signal.{Signal}
 use Rattle.port_signal.specs.declared.signal.Signal.TheVariants.{Command, OwnerCommand, Control, Call, Close, OwnerClose, Connect, OwnerConnect, Link, Unlink, Monitor, Demonitor, Exit, Gone}
 use Rattle.call_receipts.specs.declared.receipt.Receipt.{Receipt}
@@ -54,6 +55,23 @@ later_asks ports steps ended = if ended then [] else asks_by ports steps
 abbrev pub AwaitsWithin : ℕ → Option Awaited → Type 0
 AwaitsWithin ports None = Unit {0}
 AwaitsWithin ports (Some awaited) = awaited.port < ports
+
+-- the mail is a reply of this port to the signal of this number
+abbrev pub IsReply : ℕ → ℕ → Mail → Type 0
+IsReply port number (Message from flag bytes) = ⊥
+IsReply port number (Closed from) = ⊥
+IsReply port number (Connected from) = ⊥
+IsReply port number (Exit from reason) = ⊥
+IsReply port number (Down from monitor reason) = ⊥
+IsReply port number (Reply from seq answer) = (from ≡ port) × (seq ≡ number)
+
+-- such a reply is among the mail
+pub record HasReply (port number : ℕ) (mails : List Mail) : Type 0 where
+  pub before : List Mail
+  pub reply : Mail
+  pub after : List Mail
+  pub stands : mails ≡ before ++ reply ∷ after
+  pub is : IsReply port number reply
 
 -- a process made its calls but for those of the steps that are left and of its end
 pub record IsRunning (process ports : ℕ) (steps : List Step) (bodies : List View) (running : Running) : Type 0 where

@@ -1,9 +1,9 @@
-ghost use Rattle.std.specs.Prelude.{◌≡◌, ◌<◌, ◌≤◌, ◌∷◌, ℕ, List, [], length, false, IfOk, OnOk};
+ghost use Rattle.std.specs.Prelude.{◌≡◌, ◌<◌, ◌≤◌, ◌∷◌, ℕ, List, [], length, false, IfOk, OnOk, Some, ◌⊎◌};
 ghost use Rattle.call_receipts.specs.Asks.{Ask};
 ghost use Rattle.process_calls.specs.Served.{AreSame};
 ghost use Rattle.process_rounds.specs.Asks.{exit_asks};
 ghost use Rattle.process_rounds.specs.Rounds.{AreSteps};
-ghost use Rattle.process_rounds.specs.Running.{AwaitsWithin, HasDone, IsRunning, IsServed, Leaves};
+ghost use Rattle.process_rounds.specs.Running.{AwaitsWithin, HasDone, IsRunning, IsServed, Leaves, HasReply};
 
 use crate::Left;
 use crate::deed::{Deed, deed_of, is_answered, own_mail};
@@ -141,6 +141,9 @@ fn take_awaited<D: Driver>(
     ensures same { AreSame bodies.old.items bodies.new.items }
     ensures leaves { OnOk result (Leaves process bodies.old.items bodies.new.items) }
     ensures running { OnOk result (IsRunning process (length bodies.old.items) steps.now bodies.new.items running.new) }
+    // The process waits on unless the reply came, and makes no call.
+    ensures waits { OnOk result ((a : Awaited) → running.old.awaited ≡ Some a → (running.new.awaited ≡ Some a) ⊎ HasReply a.port a.number running.new.left.mails.items) }
+    ensures receipts { running.new.left.receipts ≡ running.old.left.receipts }
 {
     let Some(Awaited { port, number }) = running.awaited else {
         return Ok(());

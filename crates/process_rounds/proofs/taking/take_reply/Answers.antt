@@ -1,4 +1,4 @@
-use Rattle.std.proofs.Common.{length}
+use Rattle.std.proofs.Common.{length, ◌∙◌}
 use Rattle.port_engine.specs.Boxes.{box_at}
 use Rattle.process_rounds.proofs.Lists.{measure-falls}
 use Rattle.process_rounds.proofs.Leaving.{AreSame-trans, Leaves-trans, IsServed-leaves}
@@ -20,6 +20,9 @@ pub returns-then-answers : goal.returns-then-answers
 returns-then-answers g c = record {
   same = AreSame-trans _ _ _ c.loop-took.invariant.same c.take_next.ensures.same;
   leaves = Leaves-trans _ _ _ _ c.loop-took.invariant.leaves c.take_next.ensures.leaves;
+  receipts = c.take_next.ensures.receipts ∙ c.loop-took.invariant.receipts;
+  came = λ _. c.in_ok-took.ensures.reply c.args.port c.args.number (c.answers.ensures.0 c.if-answers.true);
+  missing = λ e. absurd cc;
   done = λ later whole h. c.in_ok-took.ensures.done later whole (c.loop-took.invariant.done later whole h);
 }
 
@@ -37,5 +40,6 @@ loop-took-preserved g c =
       port = rw l.same.len i.port;
       same = AreSame-trans c.args.bodies.now.items c.loop-took.bodies.items c.take_next.new.bodies.items i.same l.same;
       leaves = Leaves-trans c.args.process c.args.bodies.now.items c.loop-took.bodies.items c.take_next.new.bodies.items i.leaves l;
+      receipts = c.take_next.ensures.receipts ∙ i.receipts;
       done = λ later whole h. c.in_ok-took.ensures.done later whole (i.done later whole h);
     }

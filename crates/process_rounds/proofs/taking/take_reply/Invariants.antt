@@ -1,4 +1,4 @@
-use Rattle.std.proofs.Common.{◌<◌, List, length}
+use Rattle.std.proofs.Common.{◌≡◌, ◌<◌, List, length}
 use Rattle.std.specs.Prelude.{map, slice_index_or}
 use Rattle.port_engine.specs.Boxes.{box_at}
 use Rattle.call_receipts.specs.Asks.{Ask}
@@ -13,6 +13,7 @@ invariant-loop-took g l = record {
   port : l.port < length l.bodies.items;
   same : AreSame l.fn.bodies.items l.bodies.items;
   leaves : Leaves l.process l.fn.bodies.items l.bodies.items;
+  receipts : l.left.receipts ≡ l.fn.left.receipts;
   done : (later whole : List Ask) → HasDone l.process later whole l.fn.bodies.items l.fn.left.receipts.items l.fn.left.mails.items
       → HasDone l.process later whole l.bodies.items l.left.receipts.items l.left.mails.items;
 }
