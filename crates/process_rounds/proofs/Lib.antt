@@ -6,3 +6,4 @@ pub mod Stepping
 pub mod Placing
 pub mod Turning
 pub mod Whole
+pub mod Awaiting

@@ -1,5 +1,6 @@
 -- What holds of the processes while they run.
 use Rattle.std.specs.Prelude.{◌≡◌, ◌≢◌, ℕ, ◌<◌, List, [], ◌++◌, length, reverse, map, All, Bool, true, false, Option, Some, None, if◌then◌else◌, slice_index_or, ◌∷◌}
+use Rattle.std.specs.Option.{option_map}
 use Rattle.port_signal.specs.declared.mail.Mail.{Mail}
 use Rattle.port_signal.specs.declared.mail.Mail.TheVariants.{Message, Closed, Connected, Exit, Down, Reply}
 use Rattle.port_signal.specs.declared.signal.Signal.{Signal}
@@ -125,3 +126,13 @@ is_answered (Monitor number) = false
 is_answered (Demonitor number) = false
 is_answered (Exit reason) = false
 is_answered (Gone reason) = false
+
+-- the reply for which a process waits whose signal to the port got this number, or none
+abbrev pub awaited_for : ℕ → Signal → Option ℕ → Option Awaited
+awaited_for port signal number = if is_answered signal then option_map (λ n. record { port = port; number = n }) number else None
+
+-- a call got one receipt more, and the process waits for the reply to its number, if it is answered and was put
+pub record Awaits (port : ℕ) (signal : Signal) (old new : List Receipt) (awaited : Option Awaited) : Type 0 where
+  pub receipt : Receipt
+  pub put : new ≡ old ++ receipt ∷ []
+  pub for_it : awaited ≡ awaited_for port signal receipt.seq

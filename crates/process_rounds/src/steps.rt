@@ -3,7 +3,7 @@ ghost use Rattle.call_receipts.specs.Asks.{Ask};
 ghost use Rattle.process_calls.specs.Served.{AreSame};
 ghost use Rattle.process_rounds.specs.Asks.{exit_asks};
 ghost use Rattle.process_rounds.specs.Rounds.{AreSteps};
-ghost use Rattle.process_rounds.specs.Running.{AwaitsWithin, HasDone, IsRunning, IsServed, Leaves, HasReply};
+ghost use Rattle.process_rounds.specs.Running.{AwaitsWithin, HasDone, IsRunning, IsServed, Leaves, HasReply, Awaits};
 
 use crate::Left;
 use crate::deed::{Deed, deed_of, is_answered, own_mail};
@@ -30,6 +30,7 @@ fn call<D: Driver>(
     ensures same { AreSame bodies.old.items bodies.new.items }
     ensures leaves { OnOk result (Leaves process bodies.old.items bodies.new.items) }
     ensures awaited { IfOk result (λ awaited. AwaitsWithin (length bodies.old.items) awaited) }
+    ensures awaits { IfOk result (λ awaited. Awaits port signal left.old.receipts.items left.new.receipts.items awaited) }
     ensures done { OnOk result ((later whole : List Ask)
         → HasDone process (record { line = line; port = port; task = record { signal = signal } } ∷ later) whole bodies.old.items left.old.receipts.items left.old.mails.items
         → HasDone process later whole bodies.new.items left.new.receipts.items left.new.mails.items) }
@@ -64,6 +65,7 @@ fn send<D: Driver>(
     ensures same { AreSame bodies.old.items bodies.new.items }
     ensures leaves { OnOk result (Leaves process bodies.old.items bodies.new.items) }
     ensures awaited { IfOk result (λ awaited. AwaitsWithin (length bodies.old.items) awaited) }
+    ensures awaits { IfOk result (λ awaited. Awaits port signal left.old.receipts.items left.new.receipts.items awaited) }
     ensures done { OnOk result ((later whole : List Ask)
         → HasDone process (record { line = line; port = port; task = record { signal = signal } } ∷ later) whole bodies.old.items left.old.receipts.items left.old.mails.items
         → HasDone process later whole bodies.new.items left.new.receipts.items left.new.mails.items) }

@@ -16,10 +16,7 @@ use process_calls::take_mail;
 pub(crate) enum Took {
     Nothing,
     /// A reply of this port to the signal of this number.
-    Reply {
-        port: u32,
-        number: u64,
-    },
+    Reply { port: u32, number: u64 },
     OtherMail,
 }
 
@@ -126,6 +123,7 @@ pub(crate) fn take_all<D: Driver>(
     ensures boxes { (other k : ℕ) (d : View) → (other ≢ process) ⊎ (k ≢ port)
         → box_at (slice_index_or bodies.new.items k d).mail other ≡ box_at (slice_index_or bodies.old.items k d).mail other }
     ensures leaves { Leaves process bodies.old.items bodies.new.items }
+    ensures receipts { left.new.receipts ≡ left.old.receipts }
     ensures emptied { OnOk result (IsEmptied process port bodies.new.items) }
     ensures done { OnOk result ((later whole : List Ask) → HasDone process later whole bodies.old.items left.old.receipts.items left.old.mails.items
         → HasDone process later whole bodies.new.items left.new.receipts.items left.new.mails.items) }

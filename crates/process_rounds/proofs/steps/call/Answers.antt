@@ -1,5 +1,6 @@
-use Rattle.std.proofs.Common.{[], ◌∷◌}
+use Rattle.std.proofs.Common.{[], ◌∷◌, sym, ◌∙◌}
 use Rattle.std.proofs.lemmas.List.{append-nil}
+use Rattle.process_rounds.proofs.Awaiting.{answered, awaits, none-for, unanswered}
 use Rattle.process_rounds.proofs.Done.{HasDone-put, HasDone-refused}
 use Rattle.process_rounds.proofs.steps.call.Goals as goal
 
@@ -30,3 +31,27 @@ returns-in_default-clause-done g c = λ later whole h.
     []
     (record { len = c.make_call.ensures.same.len; put = c.in_ok-number.ensures.put; asked = c.in_ok-number.ensures.asked; mail = c.in_ok-number.ensures.mail })
     c.requires.served c.requires.port c.in-None.is c.in_default.ensures.none h)
+
+pub returns-in-Some-clause-awaits : goal.returns-in-Some-clause-awaits
+returns-in-Some-clause-awaits g c =
+    awaits c.args.line c.args.port c.args.signal c.args.bodies.now.items _ _ c.make_call.result c.in_ok-number.number _ c.requires.port c.in_ok-number.ensures.put c.in_ok-number.was
+    (λ long. (c.make_call.ensures.long long).1)
+    (answered c.args.port c.in-Some.number c.args.signal c.in_ok-number.number c.in-Some.is (sym c.is_answered-answered.ensures ∙ c.if-answered.true))
+
+pub returns-in-Some-2-clause-awaits : goal.returns-in-Some-2-clause-awaits
+returns-in-Some-2-clause-awaits g c =
+    awaits c.args.line c.args.port c.args.signal c.args.bodies.now.items _ _ c.make_call.result c.in_ok-number.number _ c.requires.port c.in_ok-number.ensures.put c.in_ok-number.was
+    (λ long. (c.make_call.ensures.long long).1)
+    (unanswered c.args.port c.args.signal c.in_ok-number.number (sym c.is_answered-answered.ensures ∙ c.if-answered.false))
+
+pub returns-in_ok-push-in-None-clause-awaits : goal.returns-in_ok-push-in-None-clause-awaits
+returns-in_ok-push-in-None-clause-awaits g c =
+    awaits c.args.line c.args.port c.args.signal c.args.bodies.now.items _ _ c.make_call.result c.in_ok-number.number _ c.requires.port c.in_ok-number.ensures.put c.in_ok-number.was
+    (λ long. (c.make_call.ensures.long long).1)
+    (none-for c.args.port c.args.signal c.in_ok-number.number c.in-None.is)
+
+pub returns-in_default-clause-awaits : goal.returns-in_default-clause-awaits
+returns-in_default-clause-awaits g c =
+    awaits c.args.line c.args.port c.args.signal c.args.bodies.now.items _ _ c.make_call.result c.in_ok-number.number _ c.requires.port c.in_ok-number.ensures.put c.in_ok-number.was
+    (λ long. (c.make_call.ensures.long long).1)
+    (none-for c.args.port c.args.signal c.in_ok-number.number c.in-None.is)

@@ -14,3 +14,9 @@ returns-clause-leaves g c = elim c.if-matches.branch [
   | then-matches+in_ok-take_all w ↦ on_ok_weaker c.call.result (λ l. Leaves-trans _ _ _ _ w.take_all.ensures.leaves (rw w.bodies-is at l)) c.call.ensures.leaves
   | else-matches w ↦ on_ok_weaker c.call.result (λ l. rw w.bodies-is at l) c.call.ensures.leaves
 ]
+
+pub returns-clause-awaits : goal.returns-clause-awaits
+returns-clause-awaits g c = elim c.if-matches.branch [
+  | then-matches+in_ok-take_all w ↦ rw w.take_all.ensures.receipts at (rw w.left-is at c.call.ensures.awaits)
+  | else-matches w ↦ rw w.left-is at c.call.ensures.awaits
+]

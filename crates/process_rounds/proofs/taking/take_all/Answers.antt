@@ -20,5 +20,6 @@ loop-preserved g c =
       rest = OnlyTook-trans c.args.bodies.now.items c.loop.bodies.items c.take_next.new.bodies.items i.rest c.take_next.ensures.rest;
       boxes = λ other k d e. c.take_next.ensures.boxes other k d e ∙ i.boxes other k d e;
       leaves = Leaves-trans c.args.process c.args.bodies.now.items c.loop.bodies.items c.take_next.new.bodies.items i.leaves l;
+      receipts = c.take_next.ensures.receipts ∙ i.receipts;
       done = λ later whole h. c.in_ok-take_next.ensures.done later whole (i.done later whole h);
     }

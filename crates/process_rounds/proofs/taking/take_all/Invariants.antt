@@ -17,6 +17,7 @@ invariant-loop g l = record {
   boxes : (other k : ℕ) (d : View) → (other ≢ l.process) ⊎ (k ≢ l.port)
       → box_at (slice_index_or l.bodies.items k d).mail other ≡ box_at (slice_index_or l.fn.bodies.items k d).mail other;
   leaves : Leaves l.process l.fn.bodies.items l.bodies.items;
+  receipts : l.left.receipts ≡ l.fn.left.receipts;
   done : (later whole : List Ask) → HasDone l.process later whole l.fn.bodies.items l.fn.left.receipts.items l.fn.left.mails.items
       → HasDone l.process later whole l.bodies.items l.left.receipts.items l.left.mails.items;
 }
