@@ -1,3 +1,4 @@
+pub mod Fresh
 pub mod Reported
 pub mod Rows
 pub mod Served

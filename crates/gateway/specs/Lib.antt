@@ -1,4 +1,5 @@
 pub mod Words
+pub mod Fresh
 pub mod Wanted
 pub mod Headline
 pub mod Reported
