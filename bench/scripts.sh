@@ -1,11 +1,8 @@
 #!/usr/bin/env bash
 # Times how long `read_script` takes for a script of about 250,000 bytes, for one of twice as many and for one of four times as many.
 set -u
-cd "$(dirname "$0")/../crates/script_bench" || exit 1
-if ! log=$(rt run 2>&1); then
-    echo "$log"
-    exit 1
-fi
+. "$(dirname "$0")/build.sh" || exit 1
+build script_bench
 for bytes in 250000 500000 1000000; do
     out/script_bench "$bytes" || exit 1
 done
