@@ -1,0 +1,9 @@
+pub mod Calls
+pub mod Same
+pub mod Echo
+pub mod Tally
+pub mod Valve
+pub mod Store
+pub mod Digest
+pub mod Spawn
+pub mod Drivers

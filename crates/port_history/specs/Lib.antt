@@ -1,0 +1,12 @@
+pub mod Opening
+pub mod Ties
+pub mod Marks
+pub mod Suspension
+pub mod Events
+pub mod Work
+pub mod Jobs
+pub mod Service
+pub mod State
+pub mod Laws
+pub mod Lawful
+pub mod Mail
