@@ -1,2 +1,6 @@
 pub mod Rows
-pub mod Worked
+pub mod Commands
+pub mod Owners
+pub mod Suspended
+pub mod Jobs
+pub mod Programs

@@ -1,5 +1,5 @@
 -- Short words for the rows of the worked histories. Rows are written oldest first.
-use Rattle.std.specs.Prelude.{ℕ, List, [], ◌∷◌, Bool, true, false, Option, None, Some, reverse, codes}
+use Rattle.std.specs.Prelude.{ℕ, List, [], ◌∷◌, true, false, Option, Some, reverse}
 use Rattle.io_vector.specs.declared.flag.Flag.TheVariants.{Plain}
 use Rattle.port_config.specs.declared.config.Config.{Config}
 use Rattle.port_config.specs.Config.{plain}
@@ -8,11 +8,11 @@ use Rattle.port_signal.specs.declared.row.MarkKind.TheVariants.{Busy as BusyMark
 use Rattle.port_model.specs.declared.event.Dir.{Dir}
 use Rattle.port_model.specs.declared.signal.Sender.TheVariants.{Process, Poller, Worker}
 use Rattle.port_model.specs.declared.signal.Signal.{Signal}
-use Rattle.port_model.specs.declared.signal.Signal.TheVariants.{Command, Control, Close, Ready, Dropped, AsyncDone}
+use Rattle.port_model.specs.declared.signal.Signal.TheVariants.{Command, Control, Ready, Dropped, AsyncDone}
 use Rattle.port_model.specs.declared.effect.Effect.{Effect}
-use Rattle.port_model.specs.declared.effect.Effect.TheVariants.{Message, Async}
+use Rattle.port_model.specs.declared.effect.Effect.TheVariants.{Message}
 use Rattle.port_model.specs.declared.row.Row.{Row}
-use Rattle.port_model.specs.declared.row.Row.TheVariants.{Handled, Late, Listed, Resumed, Mark}
+use Rattle.port_model.specs.declared.row.Row.TheVariants.{Handled, Late, Mark}
 use Rattle.port_model.specs.Tasks.{TaskView}
 use Rattle.driver_model.specs.Calls.{Kind}
 use Rattle.port_history.specs.Opening.{Opening}
