@@ -115,7 +115,8 @@ program config calls = record {
   write = write_event calls;
   rest = rest_of config.mode (taken_bytes calls);
   taken = length (taken_bytes calls);
-  busy = holds_busy config calls }
+  busy = holds_busy config calls;
+}
 
 -- the effects of a command
 abbrev pub output_effects : Config → List DriverCall → List ℕ → List ℕ → List Effect
@@ -128,7 +129,7 @@ abbrev pub offer_effects : Config → List DriverCall → List ℕ → List Outs
 offer_effects config earlier queue answers =
     if has_failed answers then Fail (codes "eio") ∷ []
     else (if holds_busy config earlier && nat_lt (length queue) config.busy_low then Busy false ∷ [] else [])
-      ++ (if is_empty queue then Select (write_event earlier) Write false ∷ [] else [])
+    ++ (if is_empty queue then Select (write_event earlier) Write false ∷ [] else [])
 
 -- the bytes in pieces of these lengths, where these are lengths of pieces that aren't empty and make up all the bytes; else one piece
 abbrev pub is_cut : List ℕ → ℕ → Bool

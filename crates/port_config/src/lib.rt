@@ -5,3 +5,6 @@ mod config;
 
 pub use config::{Config, DEFAULT_HIGH, DEFAULT_LOW, MAX_LIMIT};
 pub use packet_framing::Mode;
+
+#[cfg(test)]
+mod tests;

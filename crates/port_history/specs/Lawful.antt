@@ -34,11 +34,15 @@ least [] law = None
 least (true ∷ kept) law = least kept (law + 1)
 least (false ∷ kept) law = Some law
 
+-- which laws the row keeps, from the first to the ninth
+abbrev pub kept_laws : Opening → State → Row → List Bool
+kept_laws port s row =
+    keeps_order s row ∷ keeps_lifetime s row ∷ keeps_busy s row ∷ keeps_effects port s row ∷ keeps_marks s row
+    ∷ keeps_listed s row ∷ keeps_resumed s row ∷ keeps_ready s row ∷ keeps_jobs s row ∷ []
+
 -- the least law that the row breaks
 abbrev pub law_broken : Opening → State → Row → Option ℕ
-law_broken port s row =
-    least (keeps_order s row ∷ keeps_lifetime s row ∷ keeps_busy s row ∷ keeps_effects port s row ∷ keeps_marks s row
-        ∷ keeps_listed s row ∷ keeps_resumed s row ∷ keeps_ready s row ∷ keeps_jobs s row ∷ []) 1
+law_broken port s row = least (kept_laws port s row) 1
 
 -- a row by its place from 0, and the least law that it breaks
 pub record Broken : Type 0 where
@@ -58,10 +62,24 @@ abbrev pub broken : Opening → List Row → Option Broken
 broken port [] = None
 broken port (row ∷ older) = first_broken (broken port older) (broken_at (length older) (law_broken port (state port older) row))
 
+-- the least law that an end breaks, where no mark is due and the last law is kept as is said
+abbrev pub end_law : Bool → Bool → Option ℕ
+end_law true true = None
+end_law true false = Some 10
+end_law false ends = Some 5
+
 -- the least law that the end breaks
 abbrev pub end_broken : State → Option ℕ
-end_broken s = if none_due s.due then (if keeps_end s then None else Some 10) else Some 5
+end_broken s = end_law (none_due s.due) (keeps_end s)
 
 -- where a whole history first breaks a law: at a row, or at its end, whose place is the number of rows
 abbrev pub verdict : Opening → List Row → Option Broken
 verdict port history = first_broken (broken port history) (broken_at (length history) (end_broken (state port history)))
+
+-- a history of which nothing is told keeps the laws and is finished
+abbrev pub VerdictIsWhole : Type 0
+VerdictIsWhole = (port : Opening) (history : List Row) → verdict port history ≡ None → Lawful port history × IsFinished port history
+
+-- of a history that keeps the laws and is finished nothing is told
+abbrev pub VerdictIsRight : Type 0
+VerdictIsRight = (port : Opening) (history : List Row) → Lawful port history → IsFinished port history → verdict port history ≡ None

@@ -66,7 +66,8 @@ state_at_start port = record {
   listed = [];
   entries = [];
   marks = [];
-  due = [] }
+  due = [];
+}
 
 -- the port is open: no row has closed it
 abbrev pub is_open : State → Bool
@@ -124,7 +125,8 @@ after_handled port s t = record s {
   jobs = s.jobs ++ submitted_by t.effects;
   done = done_by t.task.signal s.done;
   senders = t.from ∷ s.senders;
-  due = busy_marks (is_busy s.marks) (busy_after (is_busy s.marks) t.effects) ++ closed_marks (closing_reason s t) }
+  due = busy_marks (is_busy s.marks) (busy_after (is_busy s.marks) t.effects) ++ closed_marks (closing_reason s t);
+}
 
 -- a late task calls no driver
 abbrev pub after_late : State → Taken → State
@@ -132,7 +134,8 @@ after_late s t = record s {
   ties = tied_late s.ties t.from t.task.signal;
   events = told_of true t.task.signal s.events;
   done = done_by t.task.signal s.done;
-  senders = t.from ∷ s.senders }
+  senders = t.from ∷ s.senders;
+}
 
 -- the state after one more row
 abbrev pub after : Opening → State → Row → State

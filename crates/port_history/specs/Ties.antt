@@ -36,7 +36,8 @@ abbrev pub without : ℕ → Ties → Ties
 without process ties = record ties {
   linked = without_process process ties.linked;
   monitors = without_watcher process ties.monitors;
-  ended = with_process process ties.ended }
+  ended = with_process process ties.ended;
+}
 
 -- the ties after a handled signal of a process that doesn't close the port
 abbrev pub tied_by : Opening → Ties → ℕ → Signal → Ties

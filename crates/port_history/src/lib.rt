@@ -5,3 +5,7 @@
 //! is a test on the state before a row and that row (specs/Laws.antt), so that the first row which breaks one, and the least law that it
 //! breaks, are functions of the history (specs/Lawful.antt).
 #![tactic(auto)]
+
+mod laws;
+
+pub use laws::nothing_is_told_of_lawful_histories_alone;
