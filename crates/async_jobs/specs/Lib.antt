@@ -1,0 +1,4 @@
+pub mod Work
+pub mod Items
+pub mod Pool
+pub mod Turns
