@@ -2,3 +2,4 @@ pub mod Work
 pub mod Items
 pub mod Pool
 pub mod Turns
+pub mod Order

@@ -5,9 +5,13 @@ use Rattle.async_jobs.specs.declared.job.Job.{Job}
 use Rattle.async_jobs.specs.declared.job.WorkItem.{WorkItem}
 use Rattle.async_jobs.specs.declared.job.WorkItem.TheVariants.{Work}
 
+-- what a pool's end in the lane of a worker shows
+abbrev pub PoolEnd : Type 0
+PoolEnd = Sending WorkItem (Unit {0})
+
 -- an end in the lane of each worker, in the order of the workers
 abbrev pub Lanes : Type 0
-Lanes = List (Sending WorkItem (Unit {0}))
+Lanes = List PoolEnd
 
 -- the place of the worker of a key
 abbrev pub worker_of : Lanes → ℕ → ℕ

@@ -8,12 +8,14 @@
 
 mod codes;
 mod job;
+mod laws;
 mod pool;
 mod worker;
 
 pub use codes::work;
 pub use io_vector::Piece;
 pub use job::{Done, Job, WorkItem};
+pub use laws::jobs_of_one_key_in_order;
 pub use no_memory::NoMemory;
 pub use pool::Pool;
 pub use task_queue::{SendEnd, TakeEnd};
