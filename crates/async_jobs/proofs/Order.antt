@@ -1,5 +1,5 @@
 -- Why jobs of one key are taken and answered in the order of their submission.
-use Rattle.std.proofs.Common.{◌≡◌, ◌≢◌, ℕ, ◌<◌, ◌≤◌, ◌%◌, eqb, cond, Bool, true, false, Some, List, [], ◌∷◌, ◌++◌, map, length, get_or, Contains, refl, sym, ap, ◌∙◌, ⊎_elim, subst, append-nil, append_assoc, arith, inl, inr}
+use Rattle.std.proofs.Common.{◌≡◌, ◌≢◌, ℕ, ◌%◌, eqb, cond, Bool, true, false, Some, List, [], ◌∷◌, ◌++◌, map, length, get_or, refl, sym, ap, ◌∙◌, ⊎_elim, subst, append-nil, append_assoc, arith, inl, inr}
 use mathlib.Core.List.{IsPrefix}
 use Rattle.std.specs.List.{flat_map}
 use Rattle.std.proofs.lemmas.Bool.{cases_eq, eq-eqb, ne_eqb}
@@ -19,7 +19,7 @@ use Rattle.async_jobs.specs.declared.worker.Worked.TheVariants as worked
 use Rattle.async_jobs.specs.Items.{AnyFits, jobs_in, jobs_of, with_key}
 use Rattle.async_jobs.specs.Pool.{PoolEnd, Lanes, worker_of, Submitted}
 use Rattle.async_jobs.specs.Turns.{Worker, Took, Turned, IsDoneOf}
-use Rattle.async_jobs.specs.Order.{AllSubmitted, share_of, SubmittedByKey, TakenByKey, TakenOnceEnded, AllTakenByKey, Asked, asked_by, answered_by, Turns, jobs_taken, AnsweredAsTaken, IsPartOf, AnsweredByKey, AllAnsweredByKey}
+use Rattle.async_jobs.specs.Order.{share_of, SubmittedByKey, TakenByKey, TakenOnceEnded, AllTakenByKey, Asked, asked_by, answered_by, jobs_taken, AnsweredAsTaken, IsPartOf, AnsweredByKey, AllAnsweredByKey}
 
 jobs_in-append : (xs ys : List WorkItem) → jobs_in (xs ++ ys) ≡ jobs_in xs ++ jobs_in ys
 jobs_in-append [] ys = refl

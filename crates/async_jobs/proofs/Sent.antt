@@ -1,7 +1,7 @@
 -- Jobs, and the ends of the lanes that carry them, may cross threads. A crate that hands them to threads answers its goals on that
 -- by `search jobs_cross depth 20`.
 use denote.Param.Send.{IsSend, IsSync, view_send, sendable}
-use denote.Param.SendFields.{declared_send, variants_send, as_row_send}
+use denote.Param.SendFields.{declared_send, variants_send}
 use Rattle.std.proofs.Crossing.{crosses, frees}
 use Rattle.std.specs.contracts.alloc.Global as heap
 use Rattle.std.specs.contracts.option.Option as option
@@ -10,7 +10,6 @@ use Rattle.std.specs.contracts.impls.GlobalAllocator.TheImpl as heap_impl
 use Rattle.bytes.specs.contracts.shared.Bytes as bytes
 use Rattle.bytes.specs.contracts.shared.Bytes.TheInside as bytes_inside
 use Rattle.bytes.specs.contracts.block.Block as block
-use Rattle.bytes.specs.contracts.block.Seen as seen
 use Rattle.bytes.proofs.Crosses.{block-send, block-sync}
 use Rattle.bytes.proofs.block.Seen.TheSendSync as seen_sent
 use Rattle.io_vector.specs.contracts.piece.Piece as piece

@@ -2,13 +2,11 @@
 use Rattle.std.specs.Prelude.{◌≡◌, ◌⊎◌, ℕ, ◌<◌, ◌==◌, if◌then◌else◌, Some, List, [], ◌∷◌, ◌++◌, map, flat_map, length, slice_index_or, Contains}
 use mathlib.Core.List.{IsPrefix}
 use Rattle.task_queue.specs.declared.item.Item.{Item}
-use Rattle.task_queue.specs.declared.protocol.Hand.{Hand}
 use Rattle.task_queue.specs.Items.{of}
 use Rattle.task_queue.specs.Lane.{sender_hand, taker_hand}
 use Rattle.task_queue.specs.Ends.{ended_of, KeepsOrder, TookAll}
 use Rattle.task_queue.specs.Laws.{AreEnds}
 use Rattle.async_jobs.specs.declared.job.Job.{Job}
-use Rattle.async_jobs.specs.declared.job.Done.{Done}
 use Rattle.async_jobs.specs.declared.job.WorkItem.{WorkItem}
 use Rattle.async_jobs.specs.declared.worker.Worked.{Worked}
 use Rattle.async_jobs.specs.declared.worker.Worked.TheVariants as worked
@@ -40,7 +38,7 @@ abbrev pub TakenByKey : Type 0
 TakenByKey = (old new : Lanes) (jobs : List Job) → AllSubmitted old jobs new → (n key : ℕ) (e : PoolEnd) → n < length old
     → (items : List (Item WorkItem)) (t : Worker) → AtMoment items (slice_index_or new n e) t
     → jobs_of key (of (slice_index_or new n e).number t.taken) ++ jobs_of key (of (slice_index_or new n e).number items)
-        ≡ jobs_of key (slice_index_or old n e).sent ++ share_of old n key jobs
+    ≡ jobs_of key (slice_index_or old n e).sent ++ share_of old n key jobs
 
 -- and after every turn of a worker that has taken in the pool's end
 abbrev pub TakenOnceEnded : Type 0

@@ -1,5 +1,5 @@
 -- What a worker's turns tell.
-use Rattle.std.specs.Prelude.{◌≡◌, List, [], ◌∷◌, ◌++◌}
+use Rattle.std.specs.Prelude.{◌≡◌, [], ◌∷◌, ◌++◌}
 use Rattle.task_queue.specs.declared.item.Item.{Item}
 use Rattle.task_queue.specs.Ends.{Taking, TookAll, WasEmpty}
 use Rattle.async_jobs.specs.declared.job.Job.{Job}

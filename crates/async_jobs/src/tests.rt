@@ -9,14 +9,22 @@ use std::thread::{Threads, join};
 use task_queue::lane;
 
 const WORKERS: usize = 3;
+
 const KEYS: u32 = 7;
+
 const JOBS: u64 = 1000;
 
 #[test]
 fn each_code_has_its_work(rt: HostRuntime) -> Result<(), Fail> {
     let alloc = rt.alloc();
-    assert_eq!(rt; work(alloc, 1, &[1, 2, 3])?.as_slice(), [3, 2, 1].as_slice());
-    assert_eq!(rt; work(alloc, 2, &[0xff, 0xff])?.as_slice(), [0, 0, 0, 0, 0, 0, 1, 0xfe].as_slice());
+    assert_eq!(rt;
+        work(alloc, 1, &[1, 2, 3])?.as_slice(),
+        [3, 2, 1].as_slice()
+    );
+    assert_eq!(rt;
+        work(alloc, 2, &[0xff, 0xff])?.as_slice(),
+        [0, 0, 0, 0, 0, 0, 1, 0xfe].as_slice()
+    );
     // The first example of FIPS 180-4's SHA-256.
     let digest = [
         0xba, 0x78, 0x16, 0xbf, 0x8f, 0x01, 0xcf, 0xea, 0x41, 0x41, 0x40, 0xde, 0x5d, 0xae, 0x22,
@@ -139,12 +147,13 @@ fn workers_keep_the_order_of_each_key(rt: HostRuntime) -> Result<(), Fail> {
         ends.push(end)?;
         workers.push(worker)?;
     }
+    assert!(rt; !ends.is_empty());
     let over = AtomicU64::new(0);
     let (sent, dones) = run(&rt, alloc, Pool::new(ends), workers, &over);
     assert!(rt; sent);
     let dones = dones.ok_or("memory")?;
     assert_eq!(rt; dones.len(), WORKERS);
-    let mut all = 0;
+    let mut all: u64 = 0;
     for key in 0..KEYS {
         let worker = key as usize % WORKERS;
         let Some(Some(dones)) = dones.get(worker) else {
@@ -155,7 +164,7 @@ fn workers_keep_the_order_of_each_key(rt: HostRuntime) -> Result<(), Fail> {
             if done.number % u64::from(KEYS) == u64::from(key) {
                 assert_eq!(rt; done.number, next);
                 next = next.saturating_add(u64::from(KEYS));
-                all += 1;
+                all = all.saturating_add(1);
             }
         }
         assert!(rt; next >= JOBS);
