@@ -1,5 +1,5 @@
 -- Why jobs of one key are taken and answered in the order of their submission.
-use Rattle.std.proofs.Common.{◌≡◌, ◌≢◌, ℕ, ◌%◌, eqb, cond, Bool, true, false, Some, List, [], ◌∷◌, ◌++◌, map, length, get_or, refl, sym, ap, ◌∙◌, ⊎_elim, subst, append-nil, append_assoc, arith, inl, inr}
+use Rattle.std.proofs.Common.{◌≡◌, ◌≢◌, ℕ, ◌%◌, eqb, cond, Bool, true, false, Some, List, [], ◌∷◌, ◌++◌, map, length, get_or, refl, sym, ap, ◌∙◌, ⊎_elim, subst, append-nil, append_assoc, inl, inr}
 use mathlib.Core.List.{IsPrefix}
 use Rattle.std.specs.List.{flat_map}
 use Rattle.std.proofs.lemmas.Bool.{cases_eq, eq-eqb, ne_eqb}
@@ -95,32 +95,32 @@ submitted_one old new job its n key e =
     (cases_eq n (worker_of old job.key))
 
 pub submitted_by_key : SubmittedByKey
-submitted_by_key old new [] same n key e below =
+submitted_by_key old new [] same n key e =
     ap (λ (lanes : Lanes). jobs_of key (get_or lanes n e).sent) same
     ∙ sym (append-nil (jobs_of key (get_or old n e).sent))
     ∙ ap (λ l. jobs_of key (get_or old n e).sent ++ l) (sym (share-none old n key [] refl))
-submitted_by_key old new (job ∷ jobs) (next, one, rest) n key e below =
-    submitted_by_key next new jobs rest n key e (omega (arith, one.workers))
+submitted_by_key old new (job ∷ jobs) (next, one, rest) n key e =
+    submitted_by_key next new jobs rest n key e
     ∙ ap (λ l. l ++ share_of next n key jobs) (submitted_one old next job one n key e)
     ∙ append_assoc (jobs_of key (get_or old n e).sent) (share_of old n key (job ∷ [])) (share_of next n key jobs)
     ∙ ap (λ l. jobs_of key (get_or old n e).sent ++ l) (share-cons old next n key job jobs one.workers)
 
 pub taken_by_key : TakenByKey
-taken_by_key old new jobs all n key e below items t ends =
+taken_by_key old new jobs all n key e items t ends =
     let s = get_or new n e in
     sym (jobs_of-append key (of s.number t.taken) (of s.number items))
     ∙ ap (jobs_of key) (left_always AnyFits items (taker_hand (Some t.key) t.taken t.ended) (sender_hand (Some s.key) s.number s.made s.sent) ends)
-    ∙ submitted_by_key old new jobs all n key e below
+    ∙ submitted_by_key old new jobs all n key e
 
 pub taken_once_ended : TakenOnceEnded
-taken_once_ended old new jobs all n key e below t among order =
+taken_once_ended old new jobs all n key e t among order =
     let s = get_or new n e in
     let (rest, is) : IsPrefix (of s.number t.taken) s.sent = All-contains (λ d. IsPrefix (of d.number t.taken) d.sent) t.ended (ended_of s) order.prefix among in
-    (jobs_of key rest, sym (jobs_of-append key (of s.number t.taken) rest) ∙ ap (jobs_of key) is ∙ submitted_by_key old new jobs all n key e below)
+    (jobs_of key rest, sym (jobs_of-append key (of s.number t.taken) rest) ∙ ap (jobs_of key) is ∙ submitted_by_key old new jobs all n key e)
 
 pub all_taken_by_key : AllTakenByKey
-all_taken_by_key old new jobs all n key e below t among whole =
-    ap (jobs_of key) (took t (ended_of (get_or new n e)) among whole) ∙ submitted_by_key old new jobs all n key e below
+all_taken_by_key old new jobs all n key e t among whole =
+    ap (jobs_of key) (took t (ended_of (get_or new n e)) among whole) ∙ submitted_by_key old new jobs all n key e
 
 -- the jobs taken, after one more item
 took_jobs : (old new : Worker) (v : WorkItem) → Took old v new → jobs_taken new ≡ jobs_taken old ++ jobs_in (v ∷ [])
@@ -193,6 +193,6 @@ answered_by_key first new turns fresh all number key =
     (part_of_taken number key new.taken)
 
 pub all_answered_by_key : AllAnsweredByKey
-all_answered_by_key old new jobs all n key e below first last turns fresh turned among whole =
-    subst (λ l. IsPartOf (map asked_by l) (flat_map answered_by turns)) (all_taken_by_key old new jobs all n key e below last among whole)
+all_answered_by_key old new jobs all n key e first last turns fresh turned among whole =
+    subst (λ l. IsPartOf (map asked_by l) (flat_map answered_by turns)) (all_taken_by_key old new jobs all n key e last among whole)
     (answered_by_key first last turns fresh turned (get_or new n e).number key)

@@ -1,5 +1,5 @@
 -- In which order the jobs of a key are taken and answered, whatever the workers do.
-use Rattle.std.specs.Prelude.{◌≡◌, ◌⊎◌, ℕ, ◌<◌, ◌==◌, if◌then◌else◌, Some, List, [], ◌∷◌, ◌++◌, map, flat_map, length, slice_index_or, Contains}
+use Rattle.std.specs.Prelude.{◌≡◌, ◌⊎◌, ℕ, ◌==◌, if◌then◌else◌, Some, List, [], ◌∷◌, ◌++◌, map, flat_map, slice_index_or, Contains}
 use mathlib.Core.List.{IsPrefix}
 use Rattle.task_queue.specs.declared.item.Item.{Item}
 use Rattle.task_queue.specs.Items.{of}
@@ -25,7 +25,7 @@ share_of lanes n key jobs = if n == worker_of lanes key then with_key key jobs e
 
 -- Of each key, submitting adds to what a worker was sent its share, in the order of submission
 abbrev pub SubmittedByKey : Type 0
-SubmittedByKey = (old new : Lanes) (jobs : List Job) → AllSubmitted old jobs new → (n key : ℕ) (e : PoolEnd) → n < length old
+SubmittedByKey = (old new : Lanes) (jobs : List Job) → AllSubmitted old jobs new → (n key : ℕ) (e : PoolEnd)
     → jobs_of key (slice_index_or new n e).sent ≡ jobs_of key (slice_index_or old n e).sent ++ share_of old n key jobs
 
 -- A pool's end and a worker's end at a moment at which the rule of their lane holds and its queue has these items
@@ -35,20 +35,20 @@ AtMoment items s t = AreEnds AnyFits items (taker_hand (Some t.key) t.taken t.en
 -- At every moment, of each key: what the worker took of a pool's end, and then what its queue has of it, are the jobs that were
 -- sent before and the worker's share of the jobs that were submitted. So what it took is a prefix of these, each once
 abbrev pub TakenByKey : Type 0
-TakenByKey = (old new : Lanes) (jobs : List Job) → AllSubmitted old jobs new → (n key : ℕ) (e : PoolEnd) → n < length old
+TakenByKey = (old new : Lanes) (jobs : List Job) → AllSubmitted old jobs new → (n key : ℕ) (e : PoolEnd)
     → (items : List (Item WorkItem)) (t : Worker) → AtMoment items (slice_index_or new n e) t
     → jobs_of key (of (slice_index_or new n e).number t.taken) ++ jobs_of key (of (slice_index_or new n e).number items)
     ≡ jobs_of key (slice_index_or old n e).sent ++ share_of old n key jobs
 
 -- and after every turn of a worker that has taken in the pool's end
 abbrev pub TakenOnceEnded : Type 0
-TakenOnceEnded = (old new : Lanes) (jobs : List Job) → AllSubmitted old jobs new → (n key : ℕ) (e : PoolEnd) → n < length old
+TakenOnceEnded = (old new : Lanes) (jobs : List Job) → AllSubmitted old jobs new → (n key : ℕ) (e : PoolEnd)
     → (t : Worker) → Contains t.ended (ended_of (slice_index_or new n e)) → KeepsOrder AnyFits t
     → IsPrefix (jobs_of key (of (slice_index_or new n e).number t.taken)) (jobs_of key (slice_index_or old n e).sent ++ share_of old n key jobs)
 
 -- and all of them, after a turn that then found the lane empty
 abbrev pub AllTakenByKey : Type 0
-AllTakenByKey = (old new : Lanes) (jobs : List Job) → AllSubmitted old jobs new → (n key : ℕ) (e : PoolEnd) → n < length old
+AllTakenByKey = (old new : Lanes) (jobs : List Job) → AllSubmitted old jobs new → (n key : ℕ) (e : PoolEnd)
     → (t : Worker) → Contains t.ended (ended_of (slice_index_or new n e)) → TookAll t
     → jobs_of key (of (slice_index_or new n e).number t.taken) ≡ jobs_of key (slice_index_or old n e).sent ++ share_of old n key jobs
 
@@ -100,7 +100,7 @@ AnsweredByKey = (first new : Worker) (turns : List Worked) → first.taken ≡ [
 
 -- And all jobs of a key stand there in the order of their submission, once the pool's end was taken in and the lane then found empty
 abbrev pub AllAnsweredByKey : Type 0
-AllAnsweredByKey = (old new : Lanes) (jobs : List Job) → AllSubmitted old jobs new → (n key : ℕ) (e : PoolEnd) → n < length old
+AllAnsweredByKey = (old new : Lanes) (jobs : List Job) → AllSubmitted old jobs new → (n key : ℕ) (e : PoolEnd)
     → (first last : Worker) (turns : List Worked) → first.taken ≡ [] → Turns first turns last
     → Contains last.ended (ended_of (slice_index_or new n e)) → TookAll last
     → IsPartOf (map asked_by (jobs_of key (slice_index_or old n e).sent ++ share_of old n key jobs)) (flat_map answered_by turns)

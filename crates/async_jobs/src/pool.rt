@@ -42,8 +42,9 @@ impl Pool {
         lanes
     }
 
-    /// Puts the job into the lane of its key's worker, whose place is `key` modulo the number of workers, and into no other.
-    /// Where no memory is found the job comes back, and nothing was put. It may spin while another thread is in a call.
+    /// Puts the job into the lane of its key's worker and into no other. The worker's place is `key` modulo the number of workers,
+    /// as `driver_async` picks its thread. Where no memory is found the job comes back, and nothing was put. It may spin while
+    /// another thread is in a call.
     pub fn submit<R: Wait>(&mut self, rt: &R, job: Job) -> Result<(), (Job, NoMemory)>
         ensures same { SameLanes self.old self.new }
         ensures submitted { OnOk result (Submitted self.old job self.new) }

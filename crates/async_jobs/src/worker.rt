@@ -25,8 +25,8 @@ pub enum Worked {
 }
 
 impl Pool {
-    /// A turn of a worker: takes the next item of its lane, and works it if it is a job. It may spin while another thread is in a
-    /// call.
+    /// A turn of a worker: takes the next item of its lane, and works it if it is a job. Where no memory is found the job comes
+    /// back, and stays taken. It may spin while another thread is in a call.
     pub fn worker_turn<R: Wait>(rt: &R, alloc: Global, end: &mut TakeEnd<WorkItem>) -> Worked
         ensures same { end.new ≡ record end.old { taken = end.new.taken } }
         ensures turned { Turned end.old end.new result }
