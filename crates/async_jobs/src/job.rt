@@ -4,9 +4,10 @@ ghost use Rattle.async_jobs.specs.Work.{IsCode, work_of};
 use io_vector::Piece;
 use task_queue::Fits;
 
-/// A job as a driver submits it. Its port and its number name it: a port's jobs are numbered from 0.
+/// A job as a driver submits it, after `driver_async`. Its port and its number name it: a port's jobs are numbered from 0.
 ///
-/// Jobs of one key are worked in the order in which they were submitted. The code says what is asked for: 1, 2 or 3.
+/// The jobs of one key that one pool submits are worked in the order of their submission. The code says what is asked for: 1, 2 or
+/// 3.
 #[derive(Drop)]
 pub struct Job {
     pub port: u32,

@@ -2,8 +2,9 @@
 //! of erl_driver.
 //!
 //! A pool has a lane for each worker, and a job's key picks its worker. So jobs of one key are worked one after another, in the
-//! order in which they were submitted, and jobs of two keys may be worked beside each other. A pool starts no thread and waits for
-//! nothing: who holds a worker's end makes its turns.
+//! order in which the pool submits them, and jobs of two keys may be worked beside each other. Several pools, one for each port,
+//! may have ends in the lanes of the same workers. A pool starts no thread and waits for nothing: who holds a worker's end makes
+//! its turns.
 #![tactic(auto)]
 
 mod codes;
