@@ -1,0 +1,5 @@
+pub mod Work
+pub mod Items
+pub mod Pool
+pub mod Turns
+pub mod Order
