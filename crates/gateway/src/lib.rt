@@ -14,12 +14,3 @@ pub use port_hosts::Hosted;
 pub use script_reader::ScriptFault;
 pub use top::{Ended, gateway};
 pub use words::script_name;
-
-#[cfg(test)]
-mod process_tests;
-#[cfg(test)]
-mod report_tests;
-#[cfg(test)]
-mod script_tests;
-#[cfg(test)]
-mod tests;

@@ -15,6 +15,3 @@ pub use cause::{Cause, cause_text};
 pub use report::{PortReport, ProcReport, Report};
 pub use script_reader::ScriptFault;
 pub use text::report_text;
-
-#[cfg(test)]
-mod tests;

@@ -31,6 +31,3 @@ pub use no_memory::NoMemory;
 pub use reading::decode;
 pub use values::{AtomName, MAX_DEPTH, MAX_ITEMS, MAX_NAME_CHARS, Octets, Term, Terms};
 pub use writing::encode;
-
-#[cfg(test)]
-mod tests;

@@ -15,6 +15,3 @@ mod taking;
 
 pub use left::Left;
 pub use rounds::run_processes;
-
-#[cfg(test)]
-mod tests;

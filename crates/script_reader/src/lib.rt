@@ -16,8 +16,6 @@ mod reader;
 mod saying;
 mod script;
 mod steps;
-#[cfg(test)]
-mod tests;
 mod words;
 
 pub use decl::{Act, PortDecl, ProcessDecl, Step};

@@ -19,6 +19,3 @@ pub use laws::each_text_has_one_value;
 pub use terms::read_term;
 pub use texts::read_text;
 pub use tokens::{read_number, skip_gap};
-
-#[cfg(test)]
-mod tests;
