@@ -23,7 +23,7 @@ use Rattle.port_history.specs.Events.{Event, event_of, is_selected, is_armed_in}
 use Rattle.port_history.specs.Jobs.{Submitted, is_done, is_submitted, each_of, is_next_of_key}
 use Rattle.port_history.specs.Service.{effects_after}
 use Rattle.port_history.specs.State.{State, is_open, signal_calls, row_calls}
-use Rattle.port_history.specs.Work.{work_of}
+use Rattle.async_jobs.specs.Work.{work_of}
 
 -- how many tasks of the sender have a row
 abbrev pub count_of : Sender → List Sender → ℕ

@@ -3,7 +3,6 @@ pub mod Ties
 pub mod Marks
 pub mod Suspension
 pub mod Events
-pub mod Work
 pub mod Jobs
 pub mod Service
 pub mod State
