@@ -1,6 +1,7 @@
 pub mod ViewLemmas
 pub mod WordLemmas
 pub mod StatLemmas
+pub mod TryLemmas
 pub mod LedgerLemmas
 pub mod PeriodLemmas
 pub mod BoundLemmas

@@ -1,5 +1,5 @@
 -- The seats of a table as contracts see them.
-use Rattle.std.specs.Prelude.{◌≡◌, ℕ, ◌+◌, ◌%◌, ◌≤◌, Bool, true, List, [], ◌∷◌, ◌++◌}
+use Rattle.std.specs.Prelude.{◌≡◌, ◌≢◌, ℕ, ◌+◌, ◌%◌, ◌≤◌, Bool, true, List, [], ◌∷◌, ◌++◌, All}
 use Rattle.std.proofs.Common.{zero, suc}
 use Rattle.atomic_table.specs.Seated.{TableId}
 use Rattle.port_words.specs.declared.busy.view.AddHow.{AddHow}
@@ -51,28 +51,46 @@ with_weight v name = record v { senders = v.senders ++ []; weights = v.weights +
 abbrev pub with_sender : BusyView → SenderView → BusyView
 with_sender v s = record v { senders = v.senders ++ s ∷ [] }
 
--- an add that left this word from the last one that it found, and whose weight is the next of the sender
+-- Each word differs from the one before it. A call that loads a word, and then tries with each word that it finds, finds these: an exchange that expected a word
+-- and failed found another one
+abbrev pub ChangedFrom : ℕ → List ℕ → Type 0
+ChangedFrom word [] = Unit {0}
+ChangedFrom word (n ∷ ns) = (n ≢ word) × ChangedFrom n ns
+
+abbrev pub EachChanged : List ℕ → Type 0
+EachChanged [] = Unit {0}
+EachChanged (word ∷ ns) = ChangedFrom word ns
+
+-- what an add without suspension found before: words that let it try
+abbrev pub LetsAdd : AddHow → List ℕ → Type 0
+LetsAdd how words = is_nosuspend how ≡ true → All (λ w. period_of w % 2 ≡ 0) words
+
+-- An add that left this word from the last one that it found, and whose weight is the next of the sender. It tried again only where the word had changed
 pub record AddsTo (old new : SendKnown) (how : AddHow) (size word : ℕ) (weight : WeightKnown) : Type 0 where
   pub found : List ℕ
   pub last : ℕ
+  pub tries : EachChanged (found ++ last ∷ [])
   pub left : word ≡ added old.setup.limits last size
-  pub permitted : is_nosuspend how ≡ true → period_of last % 2 ≡ 0
+  pub permitted : LetsAdd how (found ++ last ∷ [])
   pub seat : new ≡ send_known old.table old.setup (adding (heard old.sender (found ++ last ∷ [])) how size word)
   pub tells : TellsQueue (seat_view new.setup new.sender []) word
   pub weight_is : weight ≡ weight_known old.table (next_name old.sender.ledger size)
 
--- a refused add: the last word that it found has an odd period, and nothing was added
+-- A refused add: the last word that it found, and no earlier one, has an odd period, and nothing was added
 pub record FindsBusy (old new : SendKnown) (how : AddHow) (word : ℕ) : Type 0 where
   pub found : List ℕ
-  pub permitted : is_nosuspend how ≡ true
+  pub tries : EachChanged (found ++ word ∷ [])
+  pub refused : is_nosuspend how ≡ true
+  pub permitted : LetsAdd how found
   pub busy : period_of word % 2 ≡ 1
   pub seat : new ≡ send_known old.table old.setup (heard old.sender (found ++ word ∷ []))
   pub tells : TellsQueue (seat_view new.setup new.sender []) word
 
--- an add taken back, which left this word from the last one found
+-- an add taken back, which left this word from the last one found, and tried again only where the word had changed
 pub record TakesBack (old new : SendKnown) (name : AddName) (word : ℕ) : Type 0 where
   pub found : List ℕ
   pub last : ℕ
+  pub tries : EachChanged (found ++ last ∷ [])
   pub left : word ≡ taken old.setup.limits last name.size
   pub seat : new ≡ send_known old.table old.setup (undoing (heard old.sender (found ++ last ∷ [])) (name ∷ []) word)
   pub tells : TellsQueue (seat_view new.setup new.sender []) word
@@ -81,10 +99,11 @@ pub record TakesBack (old new : SendKnown) (name : AddName) (word : ℕ) : Type 
 abbrev pub removed_view : BusyView → AddName → List ℕ → ℕ → BusyView
 removed_view v name found word = record v { removed = v.removed ++ name ∷ []; words = v.words ++ found ++ word ∷ [] }
 
--- a weight removed by the port, which left this word from the last one found
+-- a weight removed by the port, which left this word from the last one found, and tried again only where the word had changed
 pub record TakesAway (old new : PortKnown) (name : AddName) (word : ℕ) : Type 0 where
   pub found : List ℕ
   pub last : ℕ
+  pub tries : EachChanged (found ++ last ∷ [])
   pub left : word ≡ taken old.known.setup.limits last name.size
   pub seat : new ≡ port_known old.table (removed_view old.known name (found ++ last ∷ []) word)
   pub tells : TellsQueue new.known word

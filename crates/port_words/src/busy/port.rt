@@ -167,7 +167,7 @@ fn try_remove(
     requires word { TellsQueue seat.old.me.0 word }
     ensures same { (seat.new.table_id ≡ seat.old.table_id) × (seat.new.id ≡ seat.old.id) }
     ensures ok { IfOk result (λ left. (left ≡ taken setup.limits word size) × (seat.new.me ≡ (removing seat.old.me.0 left, [])) × TellsQueue (removing seat.old.me.0 left) left) }
-    ensures err { IfErr result (λ n. (seat.new.me ≡ (port_heard seat.old.me.0 (n ∷ []), [])) × TellsQueue (port_heard seat.old.me.0 (n ∷ [])) n) }
+    ensures err { IfErr result (λ n. (n ≢ word) × (seat.new.me ≡ (port_heard seat.old.me.0 (n ∷ []), [])) × TellsQueue (port_heard seat.old.me.0 (n ∷ [])) n) }
 {
     let left = after_removal(setup.limits, word, size);
     let found = shared.compare_exchange::<Removing>(seat, MSGQ, word, left);

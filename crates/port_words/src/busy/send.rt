@@ -1,5 +1,5 @@
 // A sender's seat, and the weight of an add.
-ghost use Rattle.std.specs.Prelude.{◌≡◌, ◌≢◌, ℕ, ◌+◌, ◌%◌, ◌<◌, ◌≤◌, true, List, [], ◌++◌, ◌∷◌, length, IfOk, IfErr};
+ghost use Rattle.std.specs.Prelude.{◌≡◌, ◌≢◌, ℕ, ◌+◌, ◌%◌, ◌<◌, ◌≤◌, true, false, List, [], ◌++◌, ◌∷◌, length, IfOk, IfErr};
 ghost use mathlib.Core.Option.{some};
 ghost use Rattle.std.specs.Arc.{arc_value};
 ghost use Rattle.port_words.specs.declared.busy.view.StatMark.{StatMark};
@@ -64,6 +64,14 @@ fn is_nosuspend_add(how: AddHow) -> bool
     }
 }
 
+// Whether this word refuses the add.
+fn is_refused(how: AddHow, word: u64) -> bool
+    ensures refused { result ≡ true → (is_nosuspend how ≡ true) × (period_of word % 2 ≡ 1) }
+    ensures permitted { result ≡ false → is_nosuspend how ≡ true → period_of word % 2 ≡ 0 }
+{
+    is_nosuspend_add(how) && msgq_is_busy(word)
+}
+
 // Adds to this word, or answers the word found.
 fn try_add(
     shared: &SharedWords,
@@ -79,7 +87,7 @@ fn try_add(
     requires permitted { is_nosuspend told.now.how ≡ true → period_of word % 2 ≡ 0 }
     ensures same { (seat.new.table_id ≡ seat.old.table_id) × (seat.new.id ≡ seat.old.id) }
     ensures ok { IfOk result (λ r. (r.0 ≡ added setup.limits word told.now.size) × (r.1 ≡ weight_known seat.old.table_id (next_name (own seat.old.me.0).ledger told.now.size)) × (seat.new.me ≡ (seat_view setup (adding (own seat.old.me.0) told.now.how told.now.size r.0) [], [])) × TellsQueue (seat_view setup (adding (own seat.old.me.0) told.now.how told.now.size r.0) []) r.0) }
-    ensures err { IfErr result (λ n. (seat.new.me ≡ (seat_view setup (heard (own seat.old.me.0) (n ∷ [])) [], [])) × TellsQueue (seat_view setup (heard (own seat.old.me.0) (n ∷ [])) []) n) }
+    ensures err { IfErr result (λ n. (n ≢ word) × (seat.new.me ≡ (seat_view setup (heard (own seat.old.me.0) (n ∷ [])) [], [])) × TellsQueue (seat_view setup (heard (own seat.old.me.0) (n ∷ [])) []) n) }
 {
     let left = after_add(setup.limits, word, told.size);
     let found = shared.compare_exchange_with::<Adding>(seat, MSGQ, word, left, told);
@@ -107,7 +115,7 @@ fn try_undo(
     requires word { TellsQueue seat.old.me.0 word }
     ensures same { (seat.new.table_id ≡ seat.old.table_id) × (seat.new.id ≡ seat.old.id) }
     ensures ok { IfOk result (λ left. (left ≡ taken setup.limits word size) × (seat.new.me ≡ (seat_view setup (undoing (own seat.old.me.0) (name_of seat.old.me.0.weights ∷ []) left) [], [])) × TellsQueue (seat_view setup (undoing (own seat.old.me.0) (name_of seat.old.me.0.weights ∷ []) left) []) left) }
-    ensures err { IfErr result (λ n. (seat.new.me ≡ (seat_view setup (heard (own seat.old.me.0) (n ∷ [])) (name_of seat.old.me.0.weights ∷ []), [])) × TellsQueue seat.new.me.0 n) }
+    ensures err { IfErr result (λ n. (n ≢ word) × (seat.new.me ≡ (seat_view setup (heard (own seat.old.me.0) (n ∷ [])) (name_of seat.old.me.0.weights ∷ []), [])) × TellsQueue seat.new.me.0 n) }
 {
     let left = after_removal(setup.limits, word, size);
     let found = shared.compare_exchange::<Undoing>(seat, MSGQ, word, left);
@@ -156,7 +164,7 @@ impl SendSeat {
         requires word { IsQueueWord self.old.setup.limits word }
         requires permitted { is_nosuspend told.now.how ≡ true → period_of word % 2 ≡ 0 }
         ensures ok { IfOk result (λ r. (r.0 ≡ added self.old.setup.limits word told.now.size) × (r.1 ≡ weight_known self.old.table (next_name self.old.sender.ledger told.now.size)) × (self.new ≡ send_known self.old.table self.old.setup (adding self.old.sender told.now.how told.now.size r.0)) × TellsQueue (seat_view self.new.setup self.new.sender []) r.0) }
-        ensures err { IfErr result (λ n. (self.new ≡ send_known self.old.table self.old.setup (heard self.old.sender (n ∷ []))) × TellsQueue (seat_view self.new.setup self.new.sender []) n) }
+        ensures err { IfErr result (λ n. (n ≢ word) × (self.new ≡ send_known self.old.table self.old.setup (heard self.old.sender (n ∷ []))) × TellsQueue (seat_view self.new.setup self.new.sender []) n) }
     {
         try_add(&self.table.shared, &mut self.seat, self.setup, word, told)
     }
@@ -171,7 +179,7 @@ impl SendSeat {
         let told = PlannedAdd { how, size: n };
         let mut word = self.look_msgq();
         'tries: for _ in rt.forever() {
-            if is_nosuspend_add(how) && msgq_is_busy(word) {
+            if is_refused(how, word) {
                 return Added::Busy { msgq: word };
             }
             match self.try_add(word, &told) {
