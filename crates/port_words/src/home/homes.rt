@@ -98,10 +98,11 @@ pub struct Ticket {
     ghost in_range: { turn < 2 ^ 61 },
 }
 
-/// A body that runs a turn. It isn't dropped: whoever has it puts it home.
+/// A body that runs a turn, and the seat that began the turn, as clauses see it. It isn't dropped: its home takes it back.
 pub struct Running<B> {
     turn: u64,
     body: B,
+    seat: Snapshot<WordSeat<B>>,
     ghost in_range: { turn < 2 ^ 61 },
 }
 
@@ -218,6 +219,8 @@ impl<B: Lodged> Model for HomeSeat<B> {
 }
 
 impl<B: Lodged> HomeSeat<B> {
+    ghost use Rattle.port_words.specs.home.Lent.{home_of};
+
     /// The word RUN as it stands.
     pub fn look(&mut self) -> u64
         ensures seat { self.new ≡ home_known self.old.home self.old.port (looked self.old.known (result ∷ [])) }
@@ -266,7 +269,7 @@ impl<B: Lodged> HomeSeat<B> {
     /// Begins the turn of a ticket, which one claim does at most once. Answers the body, or the word found.
     pub fn claim(&mut self, ticket: Ticket) -> Result<Running<B>, u64>
         requires { ticket.port ≡ self.old.port }
-        ensures ok { IfOk result (λ r. (r.turn ≡ ticket.turn) × IsBodyOf B.name self.old.known.body ticket.turn r.body × TellsHome self.old.known (queued ticket.turn) × (self.new ≡ home_known self.old.home self.old.port (claimed_view self.old.known ticket.turn))) }
+        ensures ok { IfOk result (λ r. (home_of r ≡ self.old.home) × (r.turn ≡ ticket.turn) × IsBodyOf B.name self.old.known.body ticket.turn r.body × TellsHome self.old.known (queued ticket.turn) × (self.new ≡ home_known self.old.home self.old.port (claimed_view self.old.known ticket.turn))) }
         ensures err { IfErr result (λ run. (run ≢ queued ticket.turn) × TellsHome self.old.known run × (self.new ≡ home_known self.old.home self.old.port (stale_view self.old.known ticket.turn run))) }
     {
         let expected = 4 * ticket.turn + 1;
@@ -275,9 +278,11 @@ impl<B: Lodged> HomeSeat<B> {
             .shared
             .compare_exchange::<Claiming>(&mut self.seat, 0, expected, expected + 1);
         if found == expected {
+            let body = taken(&self.words.shared, &mut self.seat);
             Ok(Running {
                 turn: ticket.turn,
-                body: taken(&self.words.shared, &mut self.seat),
+                body,
+                seat: Snapshot::of(&self.seat),
             })
         } else {
             Err(found)
@@ -295,7 +300,7 @@ impl<B: Lodged> HomeSeat<B> {
 
     /// Begins a turn of an idle port without a ticket. Answers the body, or the word that the last try found.
     pub fn claim_idle(&mut self) -> Result<Running<B>, u64>
-        ensures ok { IfOk result (λ r. AfterTries self.old.known (λ v. IsBodyOf B.name v.body r.turn r.body × TellsHome v (4 * r.turn) × (self.new ≡ home_known self.old.home self.old.port (begun_view v r.turn)))) }
+        ensures ok { IfOk result (λ r. (home_of r ≡ self.old.home) × AfterTries self.old.known (λ v. IsBodyOf B.name v.body r.turn r.body × TellsHome v (4 * r.turn) × (self.new ≡ home_known self.old.home self.old.port (begun_view v r.turn)))) }
         ensures err { IfErr result (λ run. IsNotIdle run × AfterTries self.old.known (λ v. TellsHome v run × (self.new ≡ home_known self.old.home self.old.port (looked v (run ∷ []))))) }
     {
         let mut run = self.look();
@@ -308,6 +313,7 @@ impl<B: Lodged> HomeSeat<B> {
                     return Ok(Running {
                         turn: run / 4,
                         body,
+                        seat: Snapshot::of(&self.seat),
                     });
                 }
                 Err(found) => run = found,
@@ -317,11 +323,16 @@ impl<B: Lodged> HomeSeat<B> {
 
     /// Ends the turn that this seat runs: the body goes home, and then the port is idle.
     pub fn put_home(&mut self, running: Running<B>)
+        requires home { home_of running ≡ self.old.home }
         requires turn { self.old.known.running ≡ Some running.turn }
         requires name { IsNamed B.name self.old.known.body running.body }
         ensures { self.new ≡ home_known self.old.home self.old.port (ended_view self.old.known running.turn) }
     {
-        let Running { turn, body } = running;
+        let Running {
+            turn,
+            body,
+            seat: _,
+        } = running;
         let shared = &self.words.shared;
         drop(shared.exchange(&mut self.seat, 0, Some(body)));
         shared.swap::<Ending>(&mut self.seat, 0, 4 * (turn + 1));
@@ -338,9 +349,8 @@ impl<B: Lodged> HomeSeat<B> {
             words,
             seat,
         } = other;
-        self.words
-            .shared
-            .join_seat::<AllShares>(&mut self.seat, seat);
+        let shared = &self.words.shared;
+        shared.join_seat::<AllShares>(&mut self.seat, seat);
         drop(words);
     }
 

@@ -121,9 +121,8 @@ impl OverSeat {
             seat,
             counted: _,
         } = other;
-        self.word
-            .shared
-            .join_seat::<AllPlaces>(&mut self.seat, seat);
+        let shared = &self.word.shared;
+        shared.join_seat::<AllPlaces>(&mut self.seat, seat);
         drop(word);
     }
 }
