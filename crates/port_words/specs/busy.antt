@@ -5,3 +5,4 @@ pub mod Parts
 pub mod Steps
 pub mod Known
 pub mod Answers
+pub mod Laws

@@ -5,6 +5,7 @@
 //! carries a weight, by which its bytes are taken away again. At the end of a run the port takes the senders' seats in and learns what they saw.
 //! Nobody waits here: what a sender does when the port is busy is decided above.
 
+mod laws;
 mod port;
 mod send;
 mod stat;
@@ -12,6 +13,7 @@ mod table;
 mod view;
 mod words;
 
+pub use crate::busy::laws::{busy_rule_at_every_moment, busy_rule_kept_by_each_step};
 pub use crate::busy::port::{PortSeat, busy_table};
 pub use crate::busy::send::{Added, SendSeat, Weight};
 pub use crate::busy::stat::{stat_busy, stat_closed, stat_marks, stat_tells_its_marks};

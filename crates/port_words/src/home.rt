@@ -5,7 +5,9 @@
 //! It isn't a run queue: who gets a ticket is decided above.
 
 mod homes;
+mod laws;
 mod view;
 
 pub use crate::home::homes::{HomeSeat, Lodged, Running, Ticket, home};
+pub use crate::home::laws::{home_rule_kept_by_each_step, one_runs_at_every_moment};
 pub use crate::home::view::{HomeKey, HomeView};

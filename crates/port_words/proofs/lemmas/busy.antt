@@ -7,3 +7,4 @@ pub mod PeriodLemmas
 pub mod BoundLemmas
 pub mod FillLemmas
 pub mod BusyLemmas
+pub mod LawLemmas
