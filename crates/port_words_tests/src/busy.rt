@@ -1,6 +1,9 @@
 ghost use Rattle.std.specs.Prelude.{◌≡◌, ◌+◌, ◌^◌, ◌<◌, ◌≤◌, length};
 
-use port_words::busy::{AddHow, Added, PortSeat, SendSeat, Weight, busy_table};
+use port_words::busy::{
+    AddHow, Added, PortSeat, SendSeat, Weight, busy_table, msgq_is_busy, msgq_period, stat_busy,
+    stat_closed, stat_marks,
+};
 use std::process::Abort;
 use std::sync::Wait;
 use std::test::Fail;
@@ -54,6 +57,35 @@ fn senders_see_the_marks_of_the_port(rt: HostRuntime) -> Result<(), Fail> {
     assert_eq!(rt; (port.mark(true), sender.look()), (5, 5));
     assert_eq!(rt; (port.mark(false), sender.look()), (8, 8));
     assert_eq!(rt; (port.mark_closed(), sender.look()), (14, 14));
+    assert_eq!(rt; (stat_marks(14), stat_closed(14), stat_busy(14)), (3, true, false));
+    assert_eq!(rt; (stat_marks(5), stat_closed(5), stat_busy(5)), (1, false, true));
+    assert_eq!(rt; (msgq_period(PERIOD + 8), msgq_is_busy(PERIOD + 8)), (1, true));
+    Ok(())
+}
+
+#[test]
+fn several_senders_fill_one_queue(rt: HostRuntime) -> Result<(), Fail> {
+    let (mut port, mut seats) = busy_table(rt.alloc(), true, 4, 8, 3)?;
+    let mut third = seats.pop().ok_or("no third")?;
+    let mut second = seats.pop().ok_or("no second")?;
+    let mut first = seats.pop().ok_or("no first")?;
+    let (word, three) = add(&rt, &mut first, 3, AddHow::Plain);
+    assert_eq!(rt; word, 3);
+    let (word, five) = add(&rt, &mut second, 5, AddHow::NoSuspend);
+    assert_eq!(rt; word, PERIOD + 8);
+    match third.add_command(&rt, 1, AddHow::NoSuspend) {
+        Added::Busy { msgq } => assert_eq!(rt; msgq, PERIOD + 8),
+        Added::Added { .. } => panic!(rt; "the queue is busy"),
+    }
+    let (word, seven) = add(&rt, &mut third, 7, AddHow::Forced);
+    assert_eq!(rt; word, PERIOD + 15);
+    assert_eq!(rt; first.undo(&rt, three), PERIOD + 12);
+    assert_eq!(rt; port.removed(&rt, seven), PERIOD + 5);
+    assert_eq!(rt; port.removed(&rt, five), 2 * PERIOD);
+    assert_eq!(rt; second.look_msgq(), 2 * PERIOD);
+    port.join(first);
+    port.join(second);
+    port.join(third);
     Ok(())
 }
 

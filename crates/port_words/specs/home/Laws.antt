@@ -1,12 +1,12 @@
 -- What holds of every home, whatever its threads do and in whatever order.
-use Rattle.std.specs.Prelude.{◌≡◌, ◌≢◌, ℕ, ◌+◌, ◌^◌, ◌<◌, ◌≤◌, List, [], ◌∷◌, ◌==◌, sum_by, Option, Some, None, slice_index}
+use Rattle.std.specs.Prelude.{◌≡◌, ℕ, ◌+◌, ◌^◌, ◌<◌, ◌≤◌, [], ◌∷◌, ◌==◌, sum_by, Option, Some, None, slice_index}
 use Rattle.std.specs.declared.snapshot.Snapshot.{Snapshot}
 use mathlib.Core.Option as seat
 use lib.ListN.{get_elem?}
 use prog.Atomic.{either}
 use Rattle.atomic_table.specs.Table.{State, Me, Allows, Splits, Joins, opening}
 use Rattle.port_words.specs.declared.home.view.HomeView.{HomeView}
-use Rattle.port_words.specs.home.Home.{IsHome, IsSlot, IsNamed, kind_of, idle, queued, running, begun_in, made_in, fresh_view, other_shares, one_share, joined, spent, Looks, Queues, Claims, Begins, Withdraws, Ends}
+use Rattle.port_words.specs.home.Home.{IsHome, IsSlot, IsNamed, idle, queued, running, begun_in, made_in, fresh_view, other_shares, one_share, joined, spent, Looks, Queues, Claims, Begins, Withdraws, Ends}
 use Rattle.port_words.specs.home.Seats.{held}
 
 module _ {B N : Type 0} (name : B → N) where

@@ -13,7 +13,7 @@ use crate::busy::table::{
     Both, Learning, MSGQ, MarkingBusy, MarkingClosed, MarkingFree, OneSender, PortHearing,
     Removing, STAT, SharedWords, WordSeat, Words,
 };
-use crate::busy::view::{QueueLimits, BusySetup};
+use crate::busy::view::{BusySetup, QueueLimits};
 use crate::busy::words::after_removal;
 use no_memory::NoMemory;
 use std::alloc::{AllocError, Global};

@@ -6,7 +6,7 @@ ghost use Rattle.port_words.specs.busy.Parts.{IsBusyTable};
 ghost use Rattle.port_words.specs.busy.Steps.{FindsStat, Marks, Learns, SenderHears, PortHears, Adds, Undoes, Removes, first_sender, other_senders, its_weights, no_weights, joined, spent};
 ghost use Rattle.port_words.specs.busy.Known.{fresh_port, fresh_senders};
 
-use crate::busy::view::{BusyView, BusySetup, PlannedAdd};
+use crate::busy::view::{BusySetup, BusyView, PlannedAdd};
 use atomic_table::{Join, Play, Seat, Shared, Split, Table, TableRule};
 use std::alloc::Global;
 

@@ -1,5 +1,5 @@
 -- Which seat runs.
-use Rattle.std.proofs.Common.{◌≡◌, ◌≢◌, ℕ, zero, suc, ◌+◌, ◌≤◌, eqb, List, [], ◌∷◌, get_or, sym, refl, ap, ◌∙◌, subst, arith, Option, Some, None}
+use Rattle.std.proofs.Common.{◌≡◌, ℕ, suc, ◌≤◌, eqb, List, [], ◌∷◌, get_or, sym, refl, ap, ◌∙◌, arith, Option, Some, None}
 use Rattle.std.specs.List.{sum_by}
 use Rattle.std.proofs.lemmas.List.Sums.{sum_by-cons}
 use mathlib.Core.Option as seat
@@ -11,7 +11,7 @@ use Rattle.port_words.specs.sums.Counts.{one_if}
 use Rattle.port_words.proofs.lemmas.sums.Counting.{same_number, other_number, is_one, once_below-not, once_below-le}
 use Rattle.port_words.proofs.lemmas.sums.Totals.{sum_at, sum_at_two, sum_by-at_most}
 use Rattle.port_words.specs.declared.home.view.HomeView.{HomeView}
-use Rattle.port_words.specs.home.Home.{IsHome, running, queued, runs_at, runs_in, begun_in, made_in, used_in, begun_of}
+use Rattle.port_words.specs.home.Home.{IsHome, running, queued, runs_at, runs_in, begun_in, used_in, begun_of}
 use Rattle.port_words.specs.home.Laws.{OneRuns, RunsSomewhere, TurnsBeginOnce}
 
 -- a sum that is not 0 has a part that is not 0
@@ -50,12 +50,12 @@ module _ {B N : Type 0} (name : B → N) where
       dite (ℕ_discrete i j)
       (λ one. (one, same, run))
       (λ two.
-          let parts = sum_at_two (runs_in turn) s.views i j v w at at' two in
-          let first : runs_in turn v ≡ 1 = runs_one turn v.running runs in
-          let second : runs_in turn w ≡ 1 = runs_one turn w.running (runs' ∙ ap (λ n. Some n) (sym same)) in
-          let all = rule.one_runs turn in
-          let most = at_most_one (get_or s.words 0 0) (running turn) in
-          absurd (omega arith))
+      let parts = sum_at_two (runs_in turn) s.views i j v w at at' two in
+      let first : runs_in turn v ≡ 1 = runs_one turn v.running runs in
+      let second : runs_in turn w ≡ 1 = runs_one turn w.running (runs' ∙ ap (λ n. Some n) (sym same)) in
+      let all = rule.one_runs turn in
+      let most = at_most_one (get_or s.words 0 0) (running turn) in
+      absurd (omega arith))
 
   pub runs_somewhere : RunsSomewhere name
   runs_somewhere was seats s rule turn is =

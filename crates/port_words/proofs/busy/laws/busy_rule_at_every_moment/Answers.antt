@@ -1,4 +1,4 @@
-use Rattle.std.proofs.Common.{◌≡◌, ◌∙◌, ◌%◌, ◌≤◌, sym, subst, arith, All}
+use Rattle.std.proofs.Common.{◌∙◌, sym, subst, arith, All}
 use Rattle.port_words.proofs.lemmas.sums.Counting.{once_below-le}
 use Rattle.port_words.specs.busy.Views.{size_of, is_add, over_senders, adds_made_by}
 use Rattle.port_words.specs.busy.Stat.{stat_of, EachRises}
