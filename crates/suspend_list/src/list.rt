@@ -1,4 +1,5 @@
-ghost use Rattle.std.specs.Prelude.{◌≡◌, ◌<◌, false, [], ◌∷◌, ◌++◌, drop, slice_get, IfOk};
+ghost use Rattle.std.specs.Prelude.{◌≡◌, ◌<◌, false, [], ◌∷◌, ◌++◌, drop, length, slice_get, IfOk};
+ghost use Rattle.circular_buffer.specs.Buffer.{buffer};
 ghost use Rattle.suspend_list.specs.Entries.{suspended, is_listed, EachOnce};
 
 use circular_buffer::HeapCircularBuffer;
@@ -13,10 +14,28 @@ pub struct Entry {
     pub seq: u64,
 }
 
+type Entries = HeapCircularBuffer<Entry, Global>;
+
+fn put_behind(entries: &mut Entries, entry: Entry)
+    requires { length entries.old.items < entries.old.capacity }
+    ensures { entries.new ≡ buffer (entries.old.items ++ entry ∷ []) entries.old.capacity }
+{
+    if entries.try_push_back(entry).is_err() {
+        unreachable!();
+    }
+}
+
+fn take_first(entries: &mut Entries) -> Option<Entry>
+    ensures first { result ≡ slice_get entries.old.items 0 }
+    ensures rest { entries.new ≡ buffer (drop 1 entries.old.items) entries.old.capacity }
+{
+    entries.pop_front()
+}
+
 /// The processes that a port suspended, in the order in which it did. There is one place for each process, and no call takes memory but `new`.
 #[derive(Drop)]
 pub struct SuspendList {
-    entries: HeapCircularBuffer<Entry, Global>,
+    entries: Entries,
 }
 
 impl Model for SuspendList {
@@ -45,9 +64,7 @@ impl SuspendList {
         requires once { is_listed entry.process self.old.entries ≡ false }
         ensures { self.new ≡ suspended (self.old.entries ++ entry ∷ []) self.old.places }
     {
-        if self.entries.try_push_back(entry).is_err() {
-            unreachable!();
-        }
+        put_behind(&mut self.entries, entry);
     }
 
     /// The process that is resumed next. None exactly where no process is suspended.
@@ -63,6 +80,6 @@ impl SuspendList {
         ensures first { result ≡ slice_get self.old.entries 0 }
         ensures rest { self.new ≡ suspended (drop 1 self.old.entries) self.old.places }
     {
-        self.entries.pop_front()
+        take_first(&mut self.entries)
     }
 }

@@ -22,7 +22,11 @@ fn processes_are_resumed_in_the_order_of_their_suspension(rt: HostRuntime) -> Re
     list.list(zero);
     assert!(rt; list.first() == Some(one) && list.drop_first() == Some(one));
     list.list(Entry { process: 1, seq: 1 });
-    assert!(rt; list.drop_first() == Some(zero) && list.first() == Some(Entry { process: 1, seq: 1 }));
-    assert!(rt; list.drop_first().is_some() && list.drop_first().is_none() && list.first().is_none());
+    assert!(rt;
+        list.drop_first() == Some(zero) && list.first() == Some(Entry { process: 1, seq: 1 })
+    );
+    assert!(rt;
+        list.drop_first().is_some() && list.drop_first().is_none() && list.first().is_none()
+    );
     Ok(())
 }
