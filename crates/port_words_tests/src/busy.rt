@@ -57,9 +57,18 @@ fn senders_see_the_marks_of_the_port(rt: HostRuntime) -> Result<(), Fail> {
     assert_eq!(rt; (port.mark(true), sender.look()), (5, 5));
     assert_eq!(rt; (port.mark(false), sender.look()), (8, 8));
     assert_eq!(rt; (port.mark_closed(), sender.look()), (14, 14));
-    assert_eq!(rt; (stat_marks(14), stat_closed(14), stat_busy(14)), (3, true, false));
-    assert_eq!(rt; (stat_marks(5), stat_closed(5), stat_busy(5)), (1, false, true));
-    assert_eq!(rt; (msgq_period(PERIOD + 8), msgq_is_busy(PERIOD + 8)), (1, true));
+    assert_eq!(rt;
+        (stat_marks(14), stat_closed(14), stat_busy(14)),
+        (3, true, false)
+    );
+    assert_eq!(rt;
+        (stat_marks(5), stat_closed(5), stat_busy(5)),
+        (1, false, true)
+    );
+    assert_eq!(rt;
+        (msgq_period(PERIOD + 8), msgq_is_busy(PERIOD + 8)),
+        (1, true)
+    );
     Ok(())
 }
 

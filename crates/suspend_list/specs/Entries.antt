@@ -1,5 +1,5 @@
 -- The list of the suspended processes.
-use Rattle.std.specs.Prelude.{◌≡◌, ℕ, ◌<◌, Bool, true, List, [], ◌∷◌, ◌++◌, ◌==◌, map}
+use Rattle.std.specs.Prelude.{◌≡◌, ℕ, ◌<◌, Bool, true, List, ◌==◌, map}
 use Rattle.std.specs.List.{IsDistinct, list_any}
 use Rattle.suspend_list.specs.declared.list.Entry.{Entry}
 

@@ -10,8 +10,8 @@ ghost use Rattle.port_words.specs.busy.Known.{PortKnown, port_known, send_known,
 
 use crate::busy::send::{SendSeat, Weight};
 use crate::busy::table::{
-    Both, Learning, MSGQ, MarkingBusy, MarkingClosed, MarkingFree, OneSender, PortHearing,
-    Removing, STAT, SharedWords, WordSeat, Words,
+    Both, BusyWordSeat, BusyWords, Learning, MSGQ, MarkingBusy, MarkingClosed, MarkingFree,
+    OneSender, PortHearing, Removing, STAT, SharedBusyWords,
 };
 use crate::busy::view::{BusySetup, QueueLimits};
 use crate::busy::words::after_removal;
@@ -23,10 +23,10 @@ use std::sync::{Arc, Wait};
 /// The port's seat: a clause sees its table and what it knows. Only the port writes STAT.
 #[derive(Drop)]
 pub struct PortSeat {
-    table: Arc<Words, Global>,
+    table: Arc<BusyWords, Global>,
     setup: BusySetup,
     stat: u64,
-    seat: WordSeat,
+    seat: BusyWordSeat,
 }
 
 impl Model for PortSeat {
@@ -141,7 +141,7 @@ fn after_close(stat: u64) -> u64
 }
 
 // A sender's seat comes into the port's, which then learns.
-fn take_in(shared: &SharedWords, seat: &mut WordSeat, other: WordSeat)
+fn take_in(shared: &SharedBusyWords, seat: &mut BusyWordSeat, other: BusyWordSeat)
     requires table { (seat.old.table_id ≡ shared.now.table_id) × (seat.old.table_id.words ≡ 2) × (seat.old.me.0.setup ≡ shared.now.key) }
     requires port { (seat.old.me.0.port ≡ true) × (seat.old.me.1 ≡ []) }
     requires other { (other.table_id ≡ seat.old.table_id) × (other.me.1 ≡ []) × (other.me.0.removed ≡ []) }
@@ -155,8 +155,8 @@ fn take_in(shared: &SharedWords, seat: &mut WordSeat, other: WordSeat)
 
 // Takes the seat's one weight away from this word, or answers the word found.
 fn try_remove(
-    shared: &SharedWords,
-    seat: &mut WordSeat,
+    shared: &SharedBusyWords,
+    seat: &mut BusyWordSeat,
     setup: BusySetup,
     word: u64,
     size: u32,
@@ -176,8 +176,8 @@ fn try_remove(
 
 fn remove<R: Wait>(
     rt: &R,
-    shared: &SharedWords,
-    seat: &mut WordSeat,
+    shared: &SharedBusyWords,
+    seat: &mut BusyWordSeat,
     setup: BusySetup,
     weight: Weight,
 ) -> u64
@@ -200,8 +200,8 @@ fn remove<R: Wait>(
 
 // The first sender that is left gets a seat of its own.
 fn cut(
-    table: &Arc<Words, Global>,
-    rest: &mut WordSeat,
+    table: &Arc<BusyWords, Global>,
+    rest: &mut BusyWordSeat,
     setup: BusySetup,
 ) -> Result<SendSeat, AllocError>
     requires table { (rest.old.table_id ≡ (arc_value table.now).shared.table_id) × (rest.old.table_id.words ≡ 2) × ((arc_value table.now).shared.key ≡ setup) }
@@ -230,7 +230,7 @@ pub fn busy_table(
         limits: QueueLimits { on, low, high },
         senders,
     };
-    let (table, mut rest) = Words::of_words(alloc, &[0, 0], &setup)?;
+    let (table, mut rest) = BusyWords::of_words(alloc, &[0, 0], &setup)?;
     let table = Arc::new(alloc, table)?;
     let mut seats = Vec::new(alloc);
     'numbers: for _ in 0..setup.senders {

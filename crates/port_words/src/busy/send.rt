@@ -10,8 +10,8 @@ ghost use Rattle.port_words.specs.busy.Steps.{TellsQueue, own, saw, heard, addin
 ghost use Rattle.port_words.specs.busy.Known.{SendKnown, send_known, WeightKnown, weight_known, name_of, with_weight, TakesBack};
 
 use crate::busy::table::{
-    Adding, Both, FindingStat, MSGQ, STAT, SenderHearing, SharedWords, Undoing, Weights, WordSeat,
-    Words,
+    Adding, Both, BusyWordSeat, BusyWords, FindingStat, MSGQ, STAT, SenderHearing, SharedBusyWords,
+    Undoing, Weights,
 };
 use crate::busy::view::{AddHow, BusySetup, PlannedAdd};
 use crate::busy::words::{after_add, after_removal, msgq_is_busy};
@@ -23,7 +23,7 @@ use std::sync::{Arc, Wait};
 #[derive(Drop)]
 pub struct Weight {
     size: u32,
-    seat: WordSeat,
+    seat: BusyWordSeat,
 }
 
 impl Model for Weight {
@@ -36,7 +36,7 @@ impl Model for Weight {
 
 impl Weight {
     // The weight's seat comes into another one. Answers its size.
-    pub(crate) fn join_into(self, shared: &SharedWords, seat: &mut WordSeat) -> u32
+    pub(crate) fn join_into(self, shared: &SharedBusyWords, seat: &mut BusyWordSeat) -> u32
         requires table { (seat.old.table_id ≡ shared.now.table_id) × (seat.old.table_id.words ≡ 2) × (seat.old.me.0.setup ≡ shared.now.key) }
         requires weight { self.table ≡ seat.old.table_id }
         ensures size { result ≡ self.name.size }
@@ -74,8 +74,8 @@ fn is_refused(how: AddHow, word: u64) -> bool
 
 // Adds to this word, or answers the word found.
 fn try_add(
-    shared: &SharedWords,
-    seat: &mut WordSeat,
+    shared: &SharedBusyWords,
+    seat: &mut BusyWordSeat,
     setup: BusySetup,
     word: u64,
     told: &PlannedAdd,
@@ -103,8 +103,8 @@ fn try_add(
 
 // Takes the seat's one weight away from this word, or answers the word found.
 fn try_undo(
-    shared: &SharedWords,
-    seat: &mut WordSeat,
+    shared: &SharedBusyWords,
+    seat: &mut BusyWordSeat,
     setup: BusySetup,
     word: u64,
     size: u32,
@@ -125,9 +125,9 @@ fn try_undo(
 /// A sender's seat: a clause sees its table, the setup, and its sender. A seat that is dropped stays counted, as one that adds nothing more.
 #[derive(Drop)]
 pub struct SendSeat {
-    pub(crate) table: Arc<Words, Global>,
+    pub(crate) table: Arc<BusyWords, Global>,
     pub(crate) setup: BusySetup,
-    pub(crate) seat: WordSeat,
+    pub(crate) seat: BusyWordSeat,
 }
 
 impl Model for SendSeat {
@@ -202,8 +202,8 @@ impl SendSeat {
 
 fn undo<R: Wait>(
     rt: &R,
-    shared: &SharedWords,
-    seat: &mut WordSeat,
+    shared: &SharedBusyWords,
+    seat: &mut BusyWordSeat,
     setup: BusySetup,
     weight: Weight,
 ) -> u64

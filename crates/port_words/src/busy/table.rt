@@ -14,11 +14,11 @@ pub(crate) const STAT: usize = 0;
 
 pub(crate) const MSGQ: usize = 1;
 
-pub(crate) type Words = Table<PlannedAdd, BusyView, BusySetup, Telling, Global>;
+pub(crate) type BusyWords = Table<PlannedAdd, BusyView, BusySetup, Telling, Global>;
 
-pub(crate) type SharedWords = Shared<PlannedAdd, BusyView, BusySetup, Telling>;
+pub(crate) type SharedBusyWords = Shared<PlannedAdd, BusyView, BusySetup, Telling>;
 
-pub(crate) type WordSeat = Seat<PlannedAdd, BusyView>;
+pub(crate) type BusyWordSeat = Seat<PlannedAdd, BusyView>;
 
 pub(crate) struct Telling;
 

@@ -24,10 +24,14 @@ pub struct BusySetup {
     pub senders: u32,
 }
 
-/// One change of a port's state that its senders see.
+/// One change of a port's state that STAT shows to its senders.
+#[derive(Debug, Clone, Copy, PartialEq, Eq)]
 pub enum StatMark {
+    /// The port takes no commands from now on.
     Busy,
+    /// The port takes commands again.
     Free,
+    /// The port is no longer open.
     Closed,
 }
 

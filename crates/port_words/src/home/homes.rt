@@ -21,11 +21,11 @@ pub trait Lodged: Drop {
     ghost name: { Self → Name };
 }
 
-type Words<B> = Table<Option<B>, HomeView<B>, HomeKey<B>, Housing, Global>;
+type HomeWords<B> = Table<Option<B>, HomeView<B>, HomeKey<B>, Housing, Global>;
 
-type SharedWords<B> = Shared<Option<B>, HomeView<B>, HomeKey<B>, Housing>;
+type SharedHomeWords<B> = Shared<Option<B>, HomeView<B>, HomeKey<B>, Housing>;
 
-type WordSeat<B> = Seat<Option<B>, HomeView<B>>;
+type HomeWordSeat<B> = Seat<Option<B>, HomeView<B>>;
 
 // The idle word after which no turn begins.
 const LAST_IDLE: u64 = 1 << 63;
@@ -38,9 +38,9 @@ impl<B: Lodged> TableRule<Option<B>, HomeView<B>, HomeKey<B>> for Housing {
     ghost first = { λ key. fresh_view (Some key.body) key.seats key.seats };
 }
 
-struct Looking;
+struct HomeLooking;
 
-impl<B: Lodged> Play<Option<B>, HomeView<B>> for Looking {
+impl<B: Lodged> Play<Option<B>, HomeView<B>> for HomeLooking {
     ghost then = { λ _. Looks };
 }
 
@@ -102,7 +102,7 @@ pub struct Ticket {
 pub struct Running<B> {
     turn: u64,
     body: B,
-    seat: Snapshot<WordSeat<B>>,
+    seat: Snapshot<HomeWordSeat<B>>,
     ghost in_range: { turn < 2 ^ 61 },
 }
 
@@ -119,7 +119,7 @@ impl<B: Lodged> Running<B> {
 }
 
 // The body that the step before took out of the slot.
-fn taken<B: Lodged>(shared: &SharedWords<B>, seat: &mut WordSeat<B>) -> B
+fn taken<B: Lodged>(shared: &SharedHomeWords<B>, seat: &mut HomeWordSeat<B>) -> B
     requires table { seat.old.table_id ≡ shared.now.table_id }
     requires taken { (x : B) × (seat.old.me.1 ≡ (0, Some x) ∷ []) }
     ensures body { seat.old.me.1 ≡ (0, Some result) ∷ [] }
@@ -132,7 +132,11 @@ fn taken<B: Lodged>(shared: &SharedWords<B>, seat: &mut WordSeat<B>) -> B
 }
 
 // Begins the turn of an idle word without a ticket, or answers the word found.
-fn try_begin<B: Lodged>(shared: &SharedWords<B>, seat: &mut WordSeat<B>, run: u64) -> Result<B, u64>
+fn try_begin<B: Lodged>(
+    shared: &SharedHomeWords<B>,
+    seat: &mut HomeWordSeat<B>,
+    run: u64,
+) -> Result<B, u64>
     requires table { (seat.old.table_id ≡ shared.now.table_id) × (seat.old.table_id.words ≡ 1) }
     requires held { (seat.old.me.1 ≡ held seat.old.me.0.running) × (0 < seat.old.me.0.shares) }
     requires idle { (kind_of run ≡ 0) × (run ≤ 2 ^ 63) }
@@ -150,8 +154,8 @@ fn try_begin<B: Lodged>(shared: &SharedWords<B>, seat: &mut WordSeat<B>, run: u6
 
 // Begins the turn of a queued word without its ticket, or answers the word found.
 fn try_withdraw<B: Lodged>(
-    shared: &SharedWords<B>,
-    seat: &mut WordSeat<B>,
+    shared: &SharedHomeWords<B>,
+    seat: &mut HomeWordSeat<B>,
     run: u64,
 ) -> Result<B, u64>
     requires table { (seat.old.table_id ≡ shared.now.table_id) × (seat.old.table_id.words ≡ 1) }
@@ -170,7 +174,11 @@ fn try_withdraw<B: Lodged>(
 }
 
 // Begins the turn of a word by which nobody runs, or answers the word found.
-fn try_close<B: Lodged>(shared: &SharedWords<B>, seat: &mut WordSeat<B>, run: u64) -> Result<B, u64>
+fn try_close<B: Lodged>(
+    shared: &SharedHomeWords<B>,
+    seat: &mut HomeWordSeat<B>,
+    run: u64,
+) -> Result<B, u64>
     requires table { (seat.old.table_id ≡ shared.now.table_id) × (seat.old.table_id.words ≡ 1) }
     requires held { (seat.old.me.1 ≡ held seat.old.me.0.running) × (0 < seat.old.me.0.shares) }
     requires word { (kind_of run ≤ 1) × (run ≤ 2 ^ 63) }
@@ -186,13 +194,13 @@ fn try_close<B: Lodged>(shared: &SharedWords<B>, seat: &mut WordSeat<B>, run: u6
 }
 
 // Takes the body out for good, by the one seat that has every share.
-fn close<B: Lodged>(shared: &SharedWords<B>, mut seat: WordSeat<B>) -> B
+fn close<B: Lodged>(shared: &SharedHomeWords<B>, mut seat: HomeWordSeat<B>) -> B
     requires table { (seat.table_id ≡ shared.now.table_id) × (seat.table_id.words ≡ 1) }
     requires all { (0 < seat.me.0.shares) × (seat.me.0.shares ≡ seat.me.0.seats) }
     requires idle { (seat.me.0.running ≡ None) × (seat.me.1 ≡ []) }
     ensures { IsLastBody B.name seat.me.0 result }
 {
-    let mut run = shared.load::<Looking>(&mut seat, 0);
+    let mut run = shared.load::<HomeLooking>(&mut seat, 0);
     'tries: loop {
         match try_close(shared, &mut seat, run) {
             Ok(body) => return body,
@@ -206,8 +214,8 @@ fn close<B: Lodged>(shared: &SharedWords<B>, mut seat: WordSeat<B>) -> B
 #[derive(Drop)]
 pub struct HomeSeat<B: Lodged> {
     port: u32,
-    words: Arc<Words<B>, Global>,
-    seat: WordSeat<B>,
+    words: Arc<HomeWords<B>, Global>,
+    seat: HomeWordSeat<B>,
 }
 
 impl<B: Lodged> Model for HomeSeat<B> {
@@ -226,7 +234,7 @@ impl<B: Lodged> HomeSeat<B> {
         ensures seat { self.new ≡ home_known self.old.home self.old.port (looked self.old.known (result ∷ [])) }
         ensures word { TellsHome self.old.known result }
     {
-        self.words.shared.load::<Looking>(&mut self.seat, 0)
+        self.words.shared.load::<HomeLooking>(&mut self.seat, 0)
     }
 
     // Queues the turn of an idle word, or answers the word found.
@@ -374,7 +382,7 @@ fn furnish<B: Lodged>(
     alloc: Global,
     body: B,
     key: &HomeKey<B>,
-) -> Result<(Words<B>, WordSeat<B>), B>
+) -> Result<(HomeWords<B>, HomeWordSeat<B>), B>
     requires { key.now.body.value ≡ body }
     ensures ok { IfOk result (λ t. (t.0.shared.table_id.words ≡ 1) × (t.1.table_id ≡ t.0.shared.table_id) × (t.1.me ≡ (fresh_view (Some key.now.body) key.now.seats key.now.seats, []))) }
     ensures err { IfErr result (λ x. x ≡ body) }
@@ -386,7 +394,7 @@ fn furnish<B: Lodged>(
             None => unreachable!(),
         };
     }
-    match Words::new(alloc, &[0], slots, key) {
+    match HomeWords::new(alloc, &[0], slots, key) {
         Ok(furnished) => Ok(furnished),
         Err(Refused { mut slots }) => match slots.pop() {
             Some(Some(body)) => Err(body),
@@ -397,9 +405,9 @@ fn furnish<B: Lodged>(
 
 fn copies<B: Lodged>(
     alloc: Global,
-    words: &Arc<Words<B>, Global>,
+    words: &Arc<HomeWords<B>, Global>,
     count: u32,
-) -> Result<Vec<Arc<Words<B>, Global>>, AllocError>
+) -> Result<Vec<Arc<HomeWords<B>, Global>>, AllocError>
     ensures { IfOk result (λ all. (vec_len all ≡ count) × All (λ h. arc_value h ≡ arc_value words.now) all.items) }
 {
     let mut all = Vec::new(alloc);
@@ -410,7 +418,11 @@ fn copies<B: Lodged>(
 }
 
 // One share of the seat becomes a seat of its own.
-fn cut<B: Lodged>(port: u32, words: Arc<Words<B>, Global>, rest: &mut WordSeat<B>) -> HomeSeat<B>
+fn cut<B: Lodged>(
+    port: u32,
+    words: Arc<HomeWords<B>, Global>,
+    rest: &mut HomeWordSeat<B>,
+) -> HomeSeat<B>
     requires table { (rest.old.table_id ≡ (arc_value words).shared.table_id) × (rest.old.table_id.words ≡ 1) }
     requires shares { (rest.old.me.1 ≡ []) × (1 < rest.old.me.0.shares) }
     ensures cut { result ≡ home_known rest.old.table_id port (one_share rest.old.me.0) }
@@ -436,9 +448,9 @@ fn add<B: Lodged>(all: &mut Vec<HomeSeat<B>>, seat: HomeSeat<B>)
 fn deal<B: Lodged>(
     mut all: Vec<HomeSeat<B>>,
     port: u32,
-    words: Arc<Words<B>, Global>,
-    mut rest: WordSeat<B>,
-    mut copies: Vec<Arc<Words<B>, Global>>,
+    words: Arc<HomeWords<B>, Global>,
+    mut rest: HomeWordSeat<B>,
+    mut copies: Vec<Arc<HomeWords<B>, Global>>,
 ) -> Vec<HomeSeat<B>>
     requires room { (all.items ≡ []) × (vec_len copies < vec_capacity all) }
     requires table { (rest.table_id ≡ (arc_value words).shared.table_id) × (rest.table_id.words ≡ 1) }

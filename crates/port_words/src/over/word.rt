@@ -11,7 +11,7 @@ use std::alloc::{AllocError, Global};
 use std::marker::Model;
 use std::sync::Arc;
 
-type Word = Table<(), OverView, OverSize, Counting, Global>;
+type OverWord = Table<(), OverView, OverSize, Counting, Global>;
 
 struct Counting;
 
@@ -21,9 +21,9 @@ impl TableRule<(), OverView, OverSize> for Counting {
     ghost first = { λ size. over_view size (fresh_from 0 size.seats) [] };
 }
 
-struct Looking;
+struct OverLooking;
 
-impl Play<(), OverView> for Looking {
+impl Play<(), OverView> for OverLooking {
     ghost then = { λ _. Looks };
 }
 
@@ -60,7 +60,7 @@ const ONE_STOP: u64 = 1 << 32;
 /// A seat of the word: a clause sees which word it is, and what this seat knows. A seat that is dropped stays counted, as one that says nothing more.
 #[derive(Drop)]
 pub struct OverSeat {
-    word: Arc<Word, Global>,
+    word: Arc<OverWord, Global>,
     seat: Seat<(), OverView>,
     counted: u32,
 }
@@ -101,7 +101,7 @@ impl OverSeat {
         ensures seat { self.new ≡ over_known self.old.word (looked self.old.known result) }
         ensures word { TellsOver self.old.known result }
     {
-        self.word.shared.load::<Looking>(&mut self.seat, 0)
+        self.word.shared.load::<OverLooking>(&mut self.seat, 0)
     }
 
     /// The number of counted seats with which the word was made.
@@ -129,7 +129,7 @@ impl OverSeat {
 
 // The first place of the seats that are left becomes a seat of its own.
 fn cut(
-    word: &Arc<Word, Global>,
+    word: &Arc<OverWord, Global>,
     rest: &mut Seat<(), OverView>,
     size: OverSize,
 ) -> Result<OverSeat, AllocError>
@@ -157,7 +157,7 @@ pub fn over_word(alloc: Global, counted: u32, others: u32) -> Result<Vec<OverSea
         counted,
         seats: counted + others,
     };
-    let (table, mut rest) = Word::of_words(alloc, &[0], &size)?;
+    let (table, mut rest) = OverWord::of_words(alloc, &[0], &size)?;
     let word = Arc::new(alloc, table)?;
     let mut seats = Vec::new(alloc);
     'numbers: for _ in 0..size.seats {
