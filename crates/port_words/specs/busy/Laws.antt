@@ -1,5 +1,5 @@
 -- What holds of every table, whatever its threads do and in whatever order.
-use Rattle.std.specs.Prelude.{◌≡◌, ℕ, ◌+◌, ◌%◌, ◌<◌, ◌≤◌, true, List, [], ◌∷◌, ◌++◌, ◌==◌, length, sum_by, All, slice_index}
+use Rattle.std.specs.Prelude.{◌≡◌, ℕ, ◌+◌, ◌*◌, ◌%◌, ◌<◌, ◌≤◌, true, false, List, [], ◌∷◌, ◌++◌, ◌==◌, length, sum_by, All, slice_index}
 use mathlib.Core.Option.{some}
 use lib.ListN.{get_elem?}
 use prog.Atomic.{either}
@@ -10,9 +10,9 @@ use Rattle.port_words.specs.declared.busy.view.BusyView.{BusyView}
 use Rattle.port_words.specs.declared.busy.view.PlannedAdd.{PlannedAdd}
 use Rattle.port_words.specs.declared.busy.view.SenderView.{SenderView}
 use Rattle.port_words.specs.declared.busy.view.StatMark.{StatMark}
-use Rattle.port_words.specs.busy.Views.{over_adds, adds_weigh, undone_weigh, weights_weigh, removed_weigh, size_of, is_add, seat_view}
+use Rattle.port_words.specs.busy.Views.{over_adds, over_senders, WordsIn, adds_weigh, undone_weigh, weights_weigh, removed_weigh, size_of, is_add, seat_view}
 use Rattle.port_words.specs.busy.Stat.{stat_of, EachRises}
-use Rattle.port_words.specs.busy.Queue.{period_of, bytes_of, left_in, unsuspended_in, add_size, added, taken, is_nosuspend}
+use Rattle.port_words.specs.busy.Queue.{period_of, bytes_of, Climbs, IsWithin, left_in, unsuspended_in, filled_in, add_size, added, taken, is_nosuspend}
 use Rattle.port_words.specs.busy.Parts.{IsSetup, IsBusyTable}
 use Rattle.port_words.specs.busy.Steps.{first_sender, other_senders, its_weights, no_weights, joined, spent, FindsStat, Marks, Learns, SenderHears, PortHears, Adds, Undoes, Removes}
 use Rattle.port_words.specs.busy.Known.{fresh_port, fresh_senders}
@@ -49,6 +49,24 @@ abbrev pub BusyHasCause : Type 0
 BusyHasCause = Always (λ setup s. setup.limits.on ≡ true →
     (0 < period_of (slice_index s.words 1) → setup.limits.high ≤ over_adds add_size s.views)
     × (period_of (slice_index s.words 1) % 2 ≡ 1 → setup.limits.low ≤ bytes_of (slice_index s.words 1)))
+
+-- the periods of the MSGQ words in a view rise, none is above the present one, and that is at most twice the number of adds
+abbrev pub PeriodsClimb : Type 0
+PeriodsClimb = Always (λ setup s.
+    All (WordsIn (λ words. Climbs 0 words (period_of (slice_index s.words 1)))) s.views × (period_of (slice_index s.words 1) ≤ 2 * over_senders (λ l. length l.adds) s.views))
+
+-- with limits on, every MSGQ word in a view is within the bound of its period
+abbrev pub WordsAreBounded : Type 0
+WordsAreBounded = Always (λ setup s. setup.limits.on ≡ true → All (WordsIn (All (IsWithin setup.limits (λ period. over_adds (left_in period) s.views)))) s.views)
+
+-- with limits on, an add left each odd period so far with at least high bytes
+abbrev pub PeriodsAreFilled : Type 0
+PeriodsAreFilled = Always (λ setup s. setup.limits.on ≡ true →
+    (period : ℕ) → period % 2 ≡ 1 → period ≤ period_of (slice_index s.words 1) → 1 ≤ over_adds (filled_in setup.limits.high period) s.views)
+
+-- with limits off the queue is never busy
+abbrev pub NeverBusyOff : Type 0
+NeverBusyOff = Always (λ setup s. setup.limits.on ≡ false → period_of (slice_index s.words 1) ≡ 0)
 
 -- a new table meets the rule
 abbrev pub NewTableKept : Type 0

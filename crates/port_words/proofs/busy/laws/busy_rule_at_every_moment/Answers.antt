@@ -25,3 +25,15 @@ returns-clause-bounded c setup s rule on = (within setup.limits _ _ (rule.bounde
 
 pub returns-clause-cause : goal.returns-clause-cause
 returns-clause-cause c setup s rule on = (rule.filled.heavy on, rule.level.odd on)
+
+pub returns-clause-climbs : goal.returns-clause-climbs
+returns-clause-climbs c setup s rule = (rule.climbing.climbs, let most = rule.climbing.periods in omega arith)
+
+pub returns-clause-words : goal.returns-clause-words
+returns-clause-words c setup s rule = rule.bounded.words
+
+pub returns-clause-filled : goal.returns-clause-filled
+returns-clause-filled c setup s rule = rule.filled.filled
+
+pub returns-clause-off : goal.returns-clause-off
+returns-clause-off c setup s rule = rule.level.off
