@@ -1,12 +1,4 @@
-pub use Rattle.busy_table.specs.Answers
-pub use Rattle.busy_table.specs.Known
-pub use Rattle.busy_table.specs.Parts
-pub use Rattle.busy_table.specs.Queue
-pub use Rattle.busy_table.specs.Stat
-pub use Rattle.busy_table.specs.Steps
-pub use Rattle.busy_table.specs.Views
-pub use Rattle.port_home.specs.Home
-pub use Rattle.port_home.specs.Lent
-pub use Rattle.port_home.specs.Seats
-pub use Rattle.port_over.specs.Over
-pub use Rattle.port_sums.specs.Counts
+pub mod sums
+pub mod over
+pub mod home
+pub mod busy

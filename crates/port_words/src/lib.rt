@@ -1,14 +1,13 @@
-//! The atomic state words of a port, under one name.
+//! The atomic words by which threads share a port.
 //!
-//! `BusyTable`'s STAT and MSGQ tell senders how busy a port is (`busy_table`), a home keeps the port's body and says who runs it (`port_home`), and one word
-//! tells when a run is over (`port_over`). Each has its rule and its proof in a crate of its own, so that a change of one leaves the others checked.
-//! There is no code here: a layer above lists this crate, and takes what it needs.
+//! `busy` has STAT and MSGQ, by which a port and its senders tell each other how busy the port is. `home` keeps the port's body and says who runs it. `over`
+//! tells when a run is over. Each word is changed by seats, which may cross threads, and has a rule that holds between any two steps: the functions
+//! `busy_rule_at_every_moment`, `one_runs_at_every_moment` and `over_rule_at_every_moment`, and the three
+//! `.._kept_by_each_step` beside them, have these rules as their contracts. Nobody waits here for another thread.
 #![tactic(auto)]
 
-pub use busy_table::{
-    Add, AddHow, AddName, Added, BusyView, Ledger, Limits, Mark, PortSeat, SendSeat, Sender, Setup,
-    Told, Weight, busy_table,
-};
-pub use port_home::{HomeKey, HomeSeat, HomeView, Lodged, Running, Ticket, home};
-pub use port_over::{OverPlace, OverSeat, OverSize, OverView, over_word};
-pub use port_sums::NoMemory;
+pub mod busy;
+pub mod home;
+pub mod over;
+
+pub use no_memory::NoMemory;

@@ -8,7 +8,7 @@ use Rattle.task_queue.specs.declared.protocol.Hand.{Hand}
 use Rattle.task_queue.specs.Items.{of, IsNumbered}
 use Rattle.task_queue.specs.Lane.{IsEnded, FitsKey, Stood, WasFront, taker_hand, after_take}
 use Rattle.task_queue.specs.Ends.{LaneId, Sending, Taking, ended_of, KeepsOrder, TookAll}
-use Rattle.task_queue.specs.Laws.{TakenIsPrefix, LeftIsQueued}
+use Rattle.task_queue.specs.Laws.{TakenIsPrefix, LeftIsQueued, EndedIsPrefix, EndedIsQueued}
 use Rattle.std.proofs.Math.ListN.{get_or-append, length-append}
 use Rattle.std.proofs.Math.Seq.{get_or-append_seam}
 use Rattle.task_queue.proofs.Items.{of-append, IsNumbered-front, IsNumbered-at}
@@ -78,6 +78,17 @@ module _ {T K : Type 0} (fits : K → ℕ → T → Type 0) where
 
   pub prefix_always : TakenIsPrefix fits
   prefix_always items v w ends = (of w.number items, left_always items v w ends)
+
+  pub ended_left_always : EndedIsQueued fits
+  ended_left_always items v takes' (pass, views, (key, reader, seats, made, taken, laid), at) =
+      let me = (laid.hands pass v at).taker takes' in
+      All-weaker (IsEnded seats made (taken ++ items)) (λ (d : Ended T). of d.number v.taken ++ of d.number items ≡ d.sent)
+      (λ d old. sym (of-append d.number v.taken items) ∙ ap (λ l. of d.number (l ++ items)) me.took ∙ old.sent) v.ended me.ended
+
+  pub ended_prefix_always : EndedIsPrefix fits
+  ended_prefix_always items v takes' stood =
+      All-weaker (λ (d : Ended T). of d.number v.taken ++ of d.number items ≡ d.sent) (λ (d : Ended T). IsPrefix (of d.number v.taken) d.sent)
+      (λ d whole. (of d.number items, whole)) v.ended (ended_left_always items v takes' stood)
 
   -- what a pop tells of the taker's hand before and after it
   abbrev pub Pop : Hand T K → Hand T K → Type 0 → Option (Item T) → Type 0

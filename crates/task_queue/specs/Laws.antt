@@ -1,5 +1,5 @@
 -- What holds of every lane, whatever its threads do and in whatever order.
-use Rattle.std.specs.Prelude.{◌≡◌, ℕ, true, Some, None, List, [], ◌∷◌, ◌++◌, length}
+use Rattle.std.specs.Prelude.{◌≡◌, ℕ, true, Some, None, List, [], ◌∷◌, ◌++◌, length, All}
 use mathlib.Core.Option as seat
 use mathlib.Core.List.{IsPrefix}
 use lib.ListN.{get_elem?}
@@ -7,7 +7,7 @@ use Rattle.crossbeam_queue.specs.Fifo.{Pushes, Pops, Forks, Merges}
 use Rattle.task_queue.specs.declared.item.Item.{Item}
 use Rattle.task_queue.specs.declared.protocol.Hand.{Hand}
 use Rattle.task_queue.specs.Items.{of}
-use Rattle.task_queue.specs.Lane.{Lane, FitsKey, taker_hand, sender_hand, spent_hand, after_split, split_off, after_put, after_take, after_take_in}
+use Rattle.task_queue.specs.Lane.{Lane, Stood, FitsKey, taker_hand, sender_hand, spent_hand, after_split, split_off, after_put, after_take, after_take_in}
 
 module _ {T K : Type 0} (fits : K → ℕ → T → Type 0) where
   -- Two ends at a moment at which the rule holds and the queue holds these items: one that takes, and one that sends
@@ -26,6 +26,13 @@ module _ {T K : Type 0} (fits : K → ℕ → T → Type 0) where
   -- and what is left of it is in the queue, in order
   abbrev pub LeftIsQueued : Type 0
   LeftIsQueued = (items : List (Item T)) (v w : Hand T K) → AreEnds items v w → of w.number v.taken ++ of w.number items ≡ w.sent
+
+  -- the same of each sender whose end was taken in, at a moment at which the rule holds and the queue holds these items
+  abbrev pub EndedIsPrefix : Type 0
+  EndedIsPrefix = (items : List (Item T)) (v : Hand T K) → v.takes ≡ true → Stood fits items v → All (λ e. IsPrefix (of e.number v.taken) e.sent) v.ended
+
+  abbrev pub EndedIsQueued : Type 0
+  EndedIsQueued = (items : List (Item T)) (v : Hand T K) → v.takes ≡ true → Stood fits items v → All (λ e. of e.number v.taken ++ of e.number items ≡ e.sent) v.ended
 
   -- a new lane meets the rule, before and after it gets its key and its end 0
   abbrev pub NewLaneKept : Type 0

@@ -1,9 +1,0 @@
-use Rattle.std.proofs.Common.{ap, arith}
-use Rattle.busy_table.proofs.BusyLemmas.{undo_one_at}
-use Rattle.busy_table.proofs.send.try_undo.Goals as goal
-
-pub compare_exchange-found-requires : goal.compare_exchange-found-requires
-compare_exchange-found-requires c =
-    let wide = ap (λ z. z.words) c.requires.table.0 in
-    let two = c.requires.table.1 in
-    (c.requires.table.0, omega arith, undo_one_at _ _ _ _ _ _ _ _ _ _ c.requires.table.2 c.requires.view c.after_removal-left.ensures c.requires.weight.0 c.requires.weight.1)

@@ -1,6 +1,0 @@
-use Rattle.std.specs.Arc.{arc_value}
-use Rattle.port_over.proofs.OverLemmas.{Dealing}
-use Rattle.port_over.proofs.over.over_word.Given as goal
-
-abbrev pub invariant-numbers : goal.invariant-numbers
-invariant-numbers l = Dealing (arc_value l.word).shared.table_id l.size l.counter l.rest.table_id l.rest.me l.seats.items

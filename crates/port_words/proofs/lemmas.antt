@@ -1,0 +1,4 @@
+pub mod sums
+pub mod over
+pub mod home
+pub mod busy

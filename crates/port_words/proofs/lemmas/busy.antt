@@ -1,0 +1,10 @@
+pub mod ViewLemmas
+pub mod WordLemmas
+pub mod StatLemmas
+pub mod TryLemmas
+pub mod LedgerLemmas
+pub mod PeriodLemmas
+pub mod BoundLemmas
+pub mod FillLemmas
+pub mod BusyLemmas
+pub mod LawLemmas

@@ -1,0 +1,11 @@
+use Rattle.std.proofs.Common.{◌∙◌, ap, sym, subst, arith}
+use Rattle.port_words.proofs.lemmas.over.OverLemmas.{finishes}
+use Rattle.port_words.specs.over.Over.{HasToFinish}
+use Rattle.port_words.proofs.over.word.OverSeat.finished.Goals as goal
+
+pub fetch_add-requires : goal.fetch_add-requires
+fetch_add-requires c =
+    let own = c.self.invariant.0 ∙ ap (λ t. t.shared.table_id) (sym c.deref.ensures) in
+    let wide = ap (λ z. z.words) own in
+    let one = c.self.invariant.1 in
+    (own, omega arith, finishes _ _ _ _ (subst (λ k. HasToFinish k.known.size.counted k.known.places) (sym c.self.view_is) c.requires))

@@ -1,0 +1,10 @@
+use Rattle.std.proofs.Common.{◌∙◌, ap, sym, arith}
+use Rattle.port_words.proofs.lemmas.over.OverLemmas.{looks}
+use Rattle.port_words.proofs.over.word.OverSeat.look.Goals as goal
+
+pub load-requires : goal.load-requires
+load-requires c =
+    let own = c.self.invariant.0 ∙ ap (λ t. t.shared.table_id) (sym c.deref.ensures) in
+    let wide = ap (λ z. z.words) own in
+    let one = c.self.invariant.1 in
+    (own, omega arith, looks _ _ _ _ c.self.invariant.3)

@@ -1,0 +1,4 @@
+pub mod Home
+pub mod Seats
+pub mod Lent
+pub mod Laws
