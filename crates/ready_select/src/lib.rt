@@ -1,0 +1,7 @@
+//! Readiness.
+#![tactic(auto)]
+
+mod event_set;
+mod selector;
+
+pub use selector::{Delivered, NotUsed, Selector, Unused};
