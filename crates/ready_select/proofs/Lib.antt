@@ -1,3 +1,5 @@
-pub mod Sorted
-pub mod Sets
+pub mod Entries
 pub mod Selecting
+pub mod Sets
+pub mod Sorted
+pub mod Taking

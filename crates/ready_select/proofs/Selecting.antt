@@ -13,7 +13,7 @@ use Rattle.ready_select.specs.Sets.{has, in_dir, same_dir, PerDir, Events, IsPar
 use Rattle.ready_select.specs.Events.{Call, Select, Unuse, Arm, Deliver, Dropped, IsAfter, holds, waits, selects, arms, is_held, is_waiting, is_selected, is_armed}
 use Rattle.ready_select.proofs.Sets.{shorter-part}
 
-latest-snoc : {X : Type 0} (decides : X → Option Bool) (before : Bool) (xs : List X) (x : X) → latest decides before (xs ++ x ∷ []) ≡ unwrap_or (decides x) (latest decides before xs)
+pub latest-snoc : {X : Type 0} (decides : X → Option Bool) (before : Bool) (xs : List X) (x : X) → latest decides before (xs ++ x ∷ []) ≡ unwrap_or (decides x) (latest decides before xs)
 latest-snoc decides before xs x = fold-append (λ answer entry. unwrap_or (decides entry) answer) before xs (x ∷ [])
 
 or_same : {a b c d : Bool} → a ≡ c → b ≡ d → (a || b) ≡ (c || d)

@@ -1,7 +1,9 @@
 -- Sets of events: what a search in the list finds, and what an insert and a removal leave.
 use Rattle.std.proofs.Common.{◌≡◌, ℕ, zero, suc, ◌+◌, ◌<◌, ◌≤◌, ◌==◌, Bool, true, false, ◌||◌, ◌&&◌, not, List, [], ◌∷◌, length, refl, sym, ap, ◌∙◌, subst, arith, Result, Ok, Err, is_ok, ◌⊎◌, inl, inr, eqb-true, eq-eqb}
 use Rattle.std.specs.List.{list_any, insert, remove, HoldsAt, slice_index_or, AllByRecursion}
-use Rattle.std.specs.List.Sorted.{IsStrictlySortedBy, IsBinarySearchResult, IsSearchInRange}
+use Rattle.std.specs.List.Sorted.{IsStrictlySortedBy, IsStrictlyIncreasing, IsBinarySearchResult, IsSearchInRange}
+use Rattle.std.proofs.lemmas.Map.Keys.{IsStrictlyIncreasing-from_sorted, sorted_from_strictly_increasing}
+use Rattle.outside.specs.Sublist.{IsSublist}
 use Rattle.std.specs.Ordering.{nat_cmp}
 use Rattle.std.specs.declared.cmp.Ordering.TheVariants.{Equal, Less}
 use Rattle.std.proofs.lemmas.Cmp.{nat_cmp_total, tied_itself, ranked}
@@ -120,3 +122,20 @@ shorter-part xs ys e left right within out there =
   where
     differs : (e z : ℕ) (xs : List ℕ) → has e xs ≡ false → has z xs ≡ true → (e == z) ≡ false
     differs e z xs out there = elim (e == z) as (λ b. (e == z) ≡ b → b ≡ false) [ | true ↦ λ equal. let both : has z xs ≡ false = subst (λ w. has w xs ≡ false) (eqb-true e z equal) out in absurd (cc) | false ↦ λ _. refl ] refl
+
+all_sublist : (P : ℕ → Type 0) (xs ys : List ℕ) → IsSublist xs ys → AllByRecursion P ys → AllByRecursion P xs
+all_sublist P [] ys part all = tt
+all_sublist P (x ∷ xs) [] part all = absurd part
+all_sublist P (x ∷ xs) (y ∷ ys) (inl (is, part)) all = (subst P (sym is) all.0, all_sublist P xs ys part all.1)
+all_sublist P (x ∷ xs) (y ∷ ys) (inr part) all = all_sublist P (x ∷ xs) ys part all.1
+
+sorted-sublist : (xs ys : List ℕ) → IsSublist xs ys → IsStrictlySortedBy nat_cmp ys → IsStrictlySortedBy nat_cmp xs
+unfolding IsStrictlySortedBy
+sorted-sublist [] ys part sorted = tt
+sorted-sublist (x ∷ xs) [] part sorted = absurd part
+sorted-sublist (x ∷ xs) (y ∷ ys) (inl (is, part)) sorted = (subst (λ z. AllByRecursion (λ w. nat_cmp z w ≡ Less) xs) (sym is) (all_sublist (λ w. nat_cmp y w ≡ Less) xs ys part sorted.0), sorted-sublist xs ys part sorted.1)
+sorted-sublist (x ∷ xs) (y ∷ ys) (inr part) sorted = sorted-sublist (x ∷ xs) ys part sorted.1
+
+-- some of rising events rise
+pub rising-sublist : (xs ys : List ℕ) → IsSublist xs ys → IsStrictlyIncreasing ys → IsStrictlyIncreasing xs
+rising-sublist xs ys part rising = IsStrictlyIncreasing-from_sorted xs (sorted-sublist xs ys part (sorted_from_strictly_increasing ys rising))

@@ -1,12 +1,13 @@
 -- Lists in strictly rising order: an insert at the place that a binary search found, and a removal.
-use Rattle.std.proofs.Common.{◌≡◌, ℕ, zero, suc, ◌+◌, ◌<◌, ◌≤◌, Bool, true, false, ◌||◌, ◌&&◌, not, List, [], ◌∷◌, ◌++◌, length, refl, sym, ap, ◌∙◌, subst, arith, cond}
-use Rattle.std.specs.List.{list_any, insert, remove, AllWithin, HoldsAt, AllByRecursion, slice_index_or}
-use Rattle.std.specs.List.Sorted.{IsStrictlySortedBy, IsPartitionPoint, IsNonDecreasingBy, IsBinarySearchResult}
+use Rattle.std.proofs.Common.{◌≡◌, ℕ, zero, suc, ◌+◌, ◌<◌, ◌≤◌, Bool, true, false, ◌||◌, ◌&&◌, not, List, [], ◌∷◌, ◌++◌, length, refl, sym, ap, ◌∙◌, subst, arith, cond, Result, Ok, Err, is_ok}
+use Rattle.std.specs.List.{list_any, filter, insert, remove, AllWithin, HoldsAt, AllByRecursion, slice_index_or}
+use Rattle.std.specs.List.Sorted.{IsStrictlySortedBy, IsPartitionPoint, IsNonDecreasingBy, IsBinarySearchResult, IsSearchInRange}
 use Rattle.std.specs.Cmp.{IsTotalOrder}
-use Rattle.std.specs.Ordering.{ordering_reverse, ordering_index, is_lt}
+use Rattle.std.specs.Ordering.{ordering_reverse, ordering_index, is_lt, is_eq}
 use Rattle.std.specs.declared.cmp.Ordering.{Ordering}
 use Rattle.std.specs.declared.cmp.Ordering.TheVariants.{Less, Equal, Greater}
 use Rattle.std.proofs.lemmas.List.Sorted.{searchable_from_sorted}
+use Rattle.std.proofs.lemmas.List.Folds.{list_any_at}
 use Rattle.std.proofs.lemmas.Map.Keys.{Less-from_sorted}
 
 -- what holds within a list holds of its first element, and within its rest
@@ -120,3 +121,74 @@ any-remove p [] zero fails = refl
 any-remove p [] (suc i) fails = refl
 any-remove p (y ∷ ys) zero fails = rw (fails y (omega arith)) refl
 any-remove p (y ∷ ys) (suc i) fails = ap (λ rest. p y || rest) (any-remove p ys i (λ d within. fails d (omega arith)))
+
+list_any-same : {K : Type 0} (p q : K → Bool) → ((y : K) → p y ≡ q y) → (xs : List K) → list_any p xs ≡ list_any q xs
+list_any-same p q same [] = refl
+list_any-same p q same (x ∷ xs) = let head = same x in let rest = list_any-same p q same xs in cc
+
+is_Equal : (r : Ordering) → is_eq r ≡ true → r ≡ Equal
+is_Equal Less e = absurd (cc)
+is_Equal Equal e = refl
+is_Equal Greater e = absurd (cc)
+
+-- A list in strictly rising order by a comparison whose ties are what a test finds the same
+module _ {K : Type 0} (c : K → K → Ordering) (o : IsTotalOrder c) (same : K → K → Bool) (ties : (y x : K) → same y x ≡ is_eq (c y x)) where
+  only : (x y : K) → same y x ≡ true → c y x ≡ Equal
+  only x y equal = is_Equal (c y x) (sym (ties y x) ∙ equal)
+
+  -- what is the same as e is the same as what e is the same as
+  alike : (e other : K) → same e other ≡ true → (y : K) → same y e ≡ same y other
+  alike e other equal y =
+      let to_both : c e y ≡ c other y = o.congr e other y (only other e equal) in
+      ties y e ∙ ap is_eq (o.antisymm y e ∙ ap ordering_reverse to_both ∙ sym (o.antisymm y other)) ∙ sym (ties y other)
+
+  pub any-searched : (xs : List K) (e : K) (r : Result ℕ ℕ) → IsStrictlySortedBy c xs → IsSearchInRange r (length xs) → IsBinarySearchResult (λ y. c y e) xs r → is_ok r ≡ list_any (λ y. same y e) xs
+  any-searched xs e (Ok i) sorted within there = sym (list_any_at (λ y. same y e) xs i e within (ties (slice_index_or xs i e) e ∙ ap is_eq (there e)))
+  any-searched xs e (Err i) sorted within place = sym (none_beside c o (λ y. same y e) e xs i (only e) (searched_place c o xs e i sorted place))
+
+  pub any-again : (xs : List K) (e other : K) → list_any (λ y. same y e) xs ≡ true → list_any (λ y. same y other) xs ≡ (same e other || list_any (λ y. same y other) xs)
+  any-again xs e other there =
+      elim (same e other) as (λ b. same e other ≡ b → list_any (λ y. same y other) xs ≡ (b || list_any (λ y. same y other) xs)) [
+        | true ↦ λ equal. sym (list_any-same (λ y. same y e) (λ y. same y other) (alike e other equal) xs) ∙ there
+        | false ↦ λ _. refl
+      ] refl
+
+  pub any-removed : (xs : List K) (e other : K) (i : ℕ) → IsStrictlySortedBy c xs → i < length xs → HoldsAt (λ y. c y e ≡ Equal) xs i
+      → list_any (λ y. same y other) (remove xs i) ≡ (list_any (λ y. same y other) xs && not (same e other))
+  any-removed xs e other i sorted within here =
+      elim (same e other) as (λ b. same e other ≡ b → list_any (λ y. same y other) (remove xs i) ≡ (list_any (λ y. same y other) xs && not b)) [
+        | true ↦ λ equal. none_left c o (λ y. same y other) other xs i (only other) sorted within (λ d. o.congr (slice_index_or xs i d) e other (here d) ∙ only other e equal) ∙ sym (nothing (list_any (λ y. same y other) xs))
+        | false ↦ λ differ. any-remove (λ y. same y other) xs i (λ d _. ties (slice_index_or xs i d) other ∙ ap is_eq (o.congr (slice_index_or xs i d) e other (here d)) ∙ sym (ties e other) ∙ differ) ∙ sym (all (list_any (λ y. same y other) xs))
+      ] refl
+    where
+      nothing : (b : Bool) → (b && false) ≡ false
+      nothing true = refl
+      nothing false = refl
+
+      all : (b : Bool) → (b && true) ≡ b
+      all true = refl
+      all false = refl
+
+  pub any-left : (xs : List K) (e other : K) → list_any (λ y. same y e) xs ≡ false → list_any (λ y. same y other) xs ≡ (list_any (λ y. same y other) xs && not (same e other))
+  any-left xs e other missing =
+      elim (same e other) as (λ b. same e other ≡ b → list_any (λ y. same y other) xs ≡ (list_any (λ y. same y other) xs && not b)) [
+        | true ↦ λ equal. let out : list_any (λ y. same y other) xs ≡ false = sym (list_any-same (λ y. same y e) (λ y. same y other) (alike e other equal) xs) ∙ missing in rw out refl
+        | false ↦ λ _. sym (all (list_any (λ y. same y other) xs))
+      ] refl
+    where
+      all : (b : Bool) → (b && true) ≡ b
+      all true = refl
+      all false = refl
+
+all_filter : {K : Type 0} (P : K → Type 0) (p : K → Bool) (xs : List K) → AllByRecursion P xs → AllByRecursion P (filter p xs)
+all_filter P p [] all = tt
+all_filter P p (x ∷ xs) all = elim (p x) as (λ b. AllByRecursion P (cond b (x ∷ filter p xs) (filter p xs))) [ | true ↦ (all.0, all_filter P p xs all.1) | false ↦ all_filter P p xs all.1 ]
+
+pub sorted-filter : {K : Type 0} (c : K → K → Ordering) (p : K → Bool) (xs : List K) → IsStrictlySortedBy c xs → IsStrictlySortedBy c (filter p xs)
+unfolding IsStrictlySortedBy
+sorted-filter c p [] sorted = tt
+sorted-filter c p (x ∷ xs) sorted =
+    elim (p x) as (λ b. IsStrictlySortedBy c (cond b (x ∷ filter p xs) (filter p xs))) [
+      | true ↦ (all_filter (λ y. c x y ≡ Less) p xs sorted.0, sorted-filter c p xs sorted.1)
+      | false ↦ sorted-filter c p xs sorted.1
+    ]

@@ -1,3 +1,4 @@
 pub mod Events
 pub mod Latest
+pub mod Polling
 pub mod Sets

@@ -1,5 +1,5 @@
 ghost use Rattle.std.specs.Prelude.{◌≡◌, ℕ, ◌<◌, ◌≤◌, ◌⊎◌, ◌==◌, ◌&&◌, ◌||◌, not, true, [], length};
-ghost use Rattle.std.specs.List.Sorted.{IsStrictlySortedBy};
+ghost use Rattle.std.specs.List.Sorted.{IsStrictlySortedBy, IsStrictlyIncreasing};
 ghost use Rattle.std.specs.Ordering.{nat_cmp};
 ghost use Rattle.port_model.specs.declared.event.Dir.{Dir};
 ghost use Rattle.ready_select.specs.Sets.{has, in_dir, same_dir, IsWith, IsWithout};
@@ -7,6 +7,14 @@ ghost use Rattle.ready_select.specs.Sets.{has, in_dir, same_dir, IsWith, IsWitho
 use arrayvec::ArrayVec;
 use port_model::Dir;
 use std::marker::Model;
+
+/// Whether an event is among these, which are in rising order.
+pub(crate) fn is_among(events: &[u32], event: u32) -> bool
+    requires { IsStrictlyIncreasing events.now }
+    ensures { result ≡ has event events.now }
+{
+    events.binary_search(&event).is_ok()
+}
 
 /// A set of at most 64 events, in rising order. It takes no memory.
 #[derive(Drop)]
