@@ -12,7 +12,8 @@ use Rattle.std.proofs.lemmas.Map.Keys.{IsStrictlyIncreasing-from_sorted}
 use Rattle.ready_select.specs.Latest.{when}
 use Rattle.ready_select.specs.Sets.{has}
 use Rattle.ready_select.specs.declared.armed.Armed.{Armed}
-use Rattle.ready_select.specs.Polling.{armed_cmp, same_armed, same_bool}
+use Rattle.ready_select.specs.Order.{armed_cmp}
+use Rattle.ready_select.specs.Polling.{same_armed, same_bool}
 
 pub armed_total : IsTotalOrder armed_cmp
 armed_total = then_total (on_total (λ a. a.event) nat_cmp_total) (then_total (on_total (λ a. a.port) nat_cmp_total) (on_total (λ a. a.is_write) bool_cmp_total))

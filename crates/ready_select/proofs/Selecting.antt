@@ -60,7 +60,7 @@ room events part event rising few within there =
 
 module _ (calls : List Call) (listed waiting : List ℕ) (selected armed : PerDir) (event : ℕ) (at : IsAfter calls (record { listed = listed; waiting = waiting; selected = selected; armed = armed })) where
   by_event : (o : ℕ) (P : Bool → Type 0) → (event ≡ o → P true) → P false → P (event == o)
-  by_event o P here there = elim (event == o) as (λ b. (event == o) ≡ b → P b) [ | true ↦ λ equal. here (eqb-true event o equal) | false ↦ λ _. there ] refl
+  by_event o P here there = elim (event == o) as (λ b. (event == o) ≡ b → P b) [ true ↦ λ equal. here (eqb-true event o equal) | false ↦ λ _. there ] refl
 
   -- what the calls so far say of an event that is in a set, or out of it
   says_waiting : (b : Bool) (o : ℕ) → event ≡ o → has event waiting ≡ b → is_waiting calls o ≡ b
@@ -118,13 +118,13 @@ module _ (calls : List Call) (listed waiting : List ℕ) (selected armed : PerDi
   pub stays_listed : has event waiting ≡ true → (o : ℕ) → has o listed ≡ (unwrap_or (when (event == o) false) (is_held calls o) || is_waiting calls o)
   stays_listed known o =
       by_event o (λ b. has o listed ≡ (unwrap_or (when b false) (is_held calls o) || is_waiting calls o))
-          (λ is. let waits_here = says_waiting true o is known in at.listed o ∙ or_same refl waits_here ∙ or_true (is_held calls o) ∙ sym waits_here) (at.listed o)
+      (λ is. let waits_here = says_waiting true o is known in at.listed o ∙ or_same refl waits_here ∙ or_true (is_held calls o) ∙ sym waits_here) (at.listed o)
 
   pub leaves_list : (listed' : List ℕ) → has event waiting ≡ false → ((o : ℕ) → has o listed' ≡ (has o listed && not (event == o)))
       → (o : ℕ) → has o listed' ≡ (unwrap_or (when (event == o) false) (is_held calls o) || is_waiting calls o)
   leaves_list listed' known left o = left o
       ∙ by_event o (λ b. (has o listed && not b) ≡ (unwrap_or (when b false) (is_held calls o) || is_waiting calls o))
-          (λ is. and_false (has o listed) ∙ sym (says_waiting false o is known)) (and_true (has o listed) ∙ at.listed o)
+      (λ is. and_false (has o listed) ∙ sym (says_waiting false o is known)) (and_true (has o listed) ∙ at.listed o)
 
   pub after_arm : (dir : Dir) (armed' : PerDir) → ((d : Dir) → IsWith (in_dir d armed) (in_dir d armed') event (same_dir dir d))
       → IsAfter (calls ++ Arm event dir ∷ []) (record { listed = listed; waiting = waiting; selected = selected; armed = armed' })
@@ -159,7 +159,7 @@ module _ (calls : List Call) (listed waiting : List ℕ) (selected armed : PerDi
       record {
         listed = λ o. left o
             ∙ by_event o (λ b. (has o listed && not b) ≡ (is_held calls o || unwrap_or (when b false) (is_waiting calls o)))
-                (λ is. and_false (has o listed) ∙ sym (or_same (not_held o is) refl)) (and_true (has o listed) ∙ at.listed o)
+            (λ is. and_false (has o listed) ∙ sym (or_same (not_held o is) refl)) (and_true (has o listed) ∙ at.listed o)
             ∙ sym (or_same (latest-snoc (holds o) false calls call) (latest-snoc (waits o) false calls call));
         waiting = λ o. over o ∙ taken_out (event == o) (has o waiting) ∙ ap (unwrap_or (when (event == o) false)) (at.waiting o) ∙ sym (latest-snoc (waits o) false calls call);
         selected = λ o d. at.selected o d ∙ sym (latest-snoc (selects o d) false calls call);
@@ -228,8 +228,8 @@ pub room_after : (listed listed' part : List ℕ) (event : ℕ) → IsPartOf lis
     → (has event part ≡ true) ⊎ (length part < 64)
 room_after listed listed' part event within added rising few =
     room listed' part event rising few
-        (record { rising = within.rising; within = λ o in_it. added o ∙ or_same refl (within.within o in_it) ∙ or_true (event == o) })
-        (added event ∙ or_same (eq-eqb event event refl) refl)
+    (record { rising = within.rising; within = λ o in_it. added o ∙ or_same refl (within.within o in_it) ∙ or_true (event == o) })
+    (added event ∙ or_same (eq-eqb event event refl) refl)
 
 module _ (calls : List Call) (listed waiting : List ℕ) (selected armed : PerDir) (event : ℕ) (at : IsAfter calls (record { listed = listed; waiting = waiting; selected = selected; armed = armed })) where
   pub after_on : (dir : Dir) (on : Bool) (listed' : List ℕ) (selected' : PerDir) → on ≡ true → has event waiting ≡ false
@@ -237,14 +237,14 @@ module _ (calls : List Call) (listed waiting : List ℕ) (selected armed : PerDi
       → IsAfter (calls ++ Select event dir on ∷ []) (record { listed = listed'; waiting = waiting; selected = selected'; armed = armed })
   after_on dir on listed' selected' is free added sets =
       after_select calls listed waiting selected armed event at dir on listed' selected' free added
-          (λ o d. (sets d).has_lem o ∙ put_in ((event == o) && same_dir dir d) (has o (in_dir d selected)) ∙ ap (λ v. unwrap_or (when ((event == o) && same_dir dir d) v) (has o (in_dir d selected))) (sym is))
+      (λ o d. (sets d).has_lem o ∙ put_in ((event == o) && same_dir dir d) (has o (in_dir d selected)) ∙ ap (λ v. unwrap_or (when ((event == o) && same_dir dir d) v) (has o (in_dir d selected))) (sym is))
 
   pub after_off : (dir : Dir) (on : Bool) (listed' : List ℕ) (selected' : PerDir) → on ≡ false → has event waiting ≡ false
       → ((o : ℕ) → has o listed' ≡ ((event == o) || has o listed)) → ((d : Dir) → IsWithout (in_dir d selected) (in_dir d selected') event (same_dir dir d))
       → IsAfter (calls ++ Select event dir on ∷ []) (record { listed = listed'; waiting = waiting; selected = selected'; armed = armed })
   after_off dir on listed' selected' is free added sets =
       after_select calls listed waiting selected armed event at dir on listed' selected' free added
-          (λ o d. (sets d).has_lem o ∙ taken_out ((event == o) && same_dir dir d) (has o (in_dir d selected)) ∙ ap (λ v. unwrap_or (when ((event == o) && same_dir dir d) v) (has o (in_dir d selected))) (sym is))
+      (λ o d. (sets d).has_lem o ∙ taken_out ((event == o) && same_dir dir d) (has o (in_dir d selected)) ∙ ap (λ v. unwrap_or (when ((event == o) && same_dir dir d) v) (has o (in_dir d selected))) (sym is))
 
   -- the answers, by what was found in the sets
   pub tells_unused : (b : Bool) → (has event (in_dir Read armed) || has event (in_dir Write armed)) ≡ b → (is_armed calls event Read || is_armed calls event Write) ≡ b

@@ -79,7 +79,7 @@ below_rest x (y ∷ ys) z all there =
     ] refl there
 
 apart : (x z : ℕ) → x < z → (x == z) ≡ false
-apart x z less = elim (x == z) as (λ b. (x == z) ≡ b → b ≡ false) [ | true ↦ λ equal. let is : x ≡ z = eqb-true x z equal in absurd (omega arith) | false ↦ λ _. refl ] refl
+apart x z less = elim (x == z) as (λ b. (x == z) ≡ b → b ≡ false) [ true ↦ λ equal. let is : x ≡ z = eqb-true x z equal in absurd (omega arith) | false ↦ λ _. refl ] refl
 
 -- where an event stands in a list and isn't the first one, it is in the rest
 in_rest : (y z : ℕ) (ys : List ℕ) → (y == z) ≡ false → has z (y ∷ ys) ≡ true → has z ys ≡ true
@@ -101,7 +101,7 @@ length-part (x ∷ xs) (y ∷ ys) left right within =
     ] refl
   where
     more : (x z : ℕ) (xs : List ℕ) → has z xs ≡ true → ((x == z) || has z xs) ≡ true
-    more x z xs there = elim (x == z) as (λ b. (b || has z xs) ≡ true) [ | true ↦ refl | false ↦ there ]
+    more x z xs there = elim (x == z) as (λ b. (b || has z xs) ≡ true) [ true ↦ refl | false ↦ there ]
 
     no_less : (x y z : ℕ) (xs : List ℕ) → y < x → AllByRecursion (λ w. nat_cmp x w ≡ Less) xs → has z (x ∷ xs) ≡ true → y < z
     no_less x y z xs less all there =
@@ -116,12 +116,12 @@ shorter-part xs ys e left right within out there =
     let (k, x, below, is, passes) = Any-from_list_any (λ y. y == e) ys there in
     let here : HoldsAt (λ y. nat_cmp y e ≡ Equal) ys k = λ d. same e (slice_index_or ys k d) (subst (λ w. (w == e) ≡ true) (sym is ∙ get_or_default ys k x d below) passes) in
     let fits = length-part xs (remove ys k) left (sorted-remove nat_cmp nat_cmp_total ys k right)
-        (λ z in_part. rw (has-removed ys e k z right below here, within z in_part, differs e z xs out in_part) refl) in
+    (λ z in_part. rw (has-removed ys e k z right below here, within z in_part, differs e z xs out in_part) refl) in
     let gone = length-remove ys k below in
     omega arith
   where
     differs : (e z : ℕ) (xs : List ℕ) → has e xs ≡ false → has z xs ≡ true → (e == z) ≡ false
-    differs e z xs out there = elim (e == z) as (λ b. (e == z) ≡ b → b ≡ false) [ | true ↦ λ equal. let both : has z xs ≡ false = subst (λ w. has w xs ≡ false) (eqb-true e z equal) out in absurd (cc) | false ↦ λ _. refl ] refl
+    differs e z xs out there = elim (e == z) as (λ b. (e == z) ≡ b → b ≡ false) [ true ↦ λ equal. let both : has z xs ≡ false = subst (λ w. has w xs ≡ false) (eqb-true e z equal) out in absurd (cc) | false ↦ λ _. refl ] refl
 
 all_sublist : (P : ℕ → Type 0) (xs ys : List ℕ) → IsSublist xs ys → AllByRecursion P ys → AllByRecursion P xs
 all_sublist P [] ys part all = tt

@@ -95,7 +95,7 @@ module _ {K : Type 0} (c : K → K → Ordering) (o : IsTotalOrder c) where
   rec_at P (y ∷ ys) zero d all within = all.0
   rec_at P (y ∷ ys) (suc k) d all within = rec_at P ys k d all.1 (omega arith)
 
-  none_above : (p : K → Bool) (x y : K) (ys : List K) → ((z : K) → p z ≡ true → c z x ≡ Equal) → c y x ≡ Equal → AllByRecursion (λ z. c y z ≡ Less) ys → list_any p ys ≡ false
+  pub none_above : (p : K → Bool) (x y : K) (ys : List K) → ((z : K) → p z ≡ true → c z x ≡ Equal) → c y x ≡ Equal → AllByRecursion (λ z. c y z ≡ Less) ys → list_any p ys ≡ false
   none_above p x y [] only here above = refl
   none_above p x y (z ∷ zs) only here above =
       elim (p z) as (λ b. p z ≡ b → (b || list_any p zs) ≡ false) [
@@ -133,7 +133,7 @@ is_Equal Greater e = absurd (cc)
 
 -- A list in strictly rising order by a comparison whose ties are what a test finds the same
 module _ {K : Type 0} (c : K → K → Ordering) (o : IsTotalOrder c) (same : K → K → Bool) (ties : (y x : K) → same y x ≡ is_eq (c y x)) where
-  only : (x y : K) → same y x ≡ true → c y x ≡ Equal
+  pub only : (x y : K) → same y x ≡ true → c y x ≡ Equal
   only x y equal = is_Equal (c y x) (sym (ties y x) ∙ equal)
 
   -- what is the same as e is the same as what e is the same as
@@ -182,7 +182,7 @@ module _ {K : Type 0} (c : K → K → Ordering) (o : IsTotalOrder c) (same : K 
 
 all_filter : {K : Type 0} (P : K → Type 0) (p : K → Bool) (xs : List K) → AllByRecursion P xs → AllByRecursion P (filter p xs)
 all_filter P p [] all = tt
-all_filter P p (x ∷ xs) all = elim (p x) as (λ b. AllByRecursion P (cond b (x ∷ filter p xs) (filter p xs))) [ | true ↦ (all.0, all_filter P p xs all.1) | false ↦ all_filter P p xs all.1 ]
+all_filter P p (x ∷ xs) all = elim (p x) as (λ b. AllByRecursion P (cond b (x ∷ filter p xs) (filter p xs))) [ true ↦ (all.0, all_filter P p xs all.1) | false ↦ all_filter P p xs all.1 ]
 
 pub sorted-filter : {K : Type 0} (c : K → K → Ordering) (p : K → Bool) (xs : List K) → IsStrictlySortedBy c xs → IsStrictlySortedBy c (filter p xs)
 unfolding IsStrictlySortedBy

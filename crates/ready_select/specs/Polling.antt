@@ -2,14 +2,12 @@
 use Rattle.std.specs.Prelude.{◌≡◌, ℕ, ◌+◌, ◌≤◌, ◌==◌, Bool, true, false, ◌&&◌, not, if◌then◌else◌, List, [], ◌∷◌, ◌++◌, Option, None, Some, length, map, filter, count_by, ◌⊎◌, IfSome}
 use Rattle.std.specs.List.{list_any}
 use Rattle.std.specs.List.Sorted.{IsStrictlyIncreasing}
-use Rattle.std.specs.declared.cmp.Ordering.{Ordering}
 use Rattle.port_model.specs.declared.event.Dir.{Dir}
 use Rattle.port_model.specs.declared.event.Dir.TheVariants.{Read, Write}
 use Rattle.outside.specs.Causes.{Rose, WaitOk}
 use Rattle.task_queue.specs.declared.item.Item.{Item}
 use Rattle.task_queue.specs.Ends.{Taking, TookAll, WasEmpty}
 use Rattle.ready_select.specs.declared.armed.Armed.{Armed}
-use Rattle.ready_select.specs.contracts.armed.ArmedOrd.TheImpl as ord
 use Rattle.ready_select.specs.declared.ask.PollAsk.{PollAsk}
 use Rattle.ready_select.specs.declared.ask.PollAsk.TheVariants.{Arm, Drop, Finish}
 use Rattle.ready_select.specs.declared.ask.Polled.{Polled}
@@ -18,10 +16,6 @@ use Rattle.ready_select.specs.declared.take_asks.Taken.{Taken}
 use Rattle.ready_select.specs.declared.take_asks.Taken.TheVariants as taken
 use Rattle.ready_select.specs.Latest.{latest, when}
 use Rattle.ready_select.specs.Sets.{has}
-
--- how the program compares entries: by event, then by port, then by direction
-abbrev pub armed_cmp : Armed → Armed → Ordering
-armed_cmp = ord.ghosts.cmp
 
 abbrev pub entry_of : ℕ → ℕ → Dir → Armed
 entry_of port event Read = record { event = event; port = port; is_write = false }

@@ -2,10 +2,13 @@
 ghost use Rattle.std.specs.Prelude.{◌≡◌, ◌<◌, ◌≤◌, ℕ, Bool, ◌||◌, ◌&&◌, ◌++◌, ◌∷◌, [], not, filter, vec_len, vec_capacity, unwrap_or};
 ghost use Rattle.std.specs.List.Sorted.{IsStrictlySortedBy};
 ghost use Rattle.ready_select.specs.declared.armed.Armed.{Armed as Entry};
-ghost use Rattle.ready_select.specs.Polling.{armed_cmp, has_armed, same_armed, arms_entry, is_drop, entry_of, arm_ask};
+ghost use Rattle.ready_select.specs.Order.{armed_cmp};
+ghost use Rattle.ready_select.specs.Polling.{has_armed, same_armed, arms_entry, is_drop, entry_of, arm_ask};
 
 use crate::ask::PollAsk;
 use port_model::Dir;
+use std::alloc::Global;
+use std::marker::Model;
 
 /// A port wants to know once that an event is ready for reading, or for writing.
 #[derive(Clone, Copy, Debug, PartialEq, Eq, PartialOrd, Ord)]
@@ -80,5 +83,36 @@ pub(crate) fn settle(entries: &mut Vec<Armed>, found: &mut Vec<PollAsk>, ask: Po
             };
         }
         PollAsk::Finish => {}
+    }
+}
+
+/// The armed entries of a poller: of the `Arm` asks that it took, each until it told the port, or took a `Drop` of its
+/// port and event.
+#[derive(Drop)]
+pub struct PollTable {
+    pub(crate) entries: Vec<Armed>,
+}
+
+impl Model for PollTable {
+    ghost use Rattle.std.specs.Prelude.{List};
+    ghost use Rattle.ready_select.specs.declared.armed.Armed.{Armed};
+    ghost use Rattle.std.specs.List.Sorted.{IsStrictlySortedBy};
+    ghost use Rattle.ready_select.specs.Order.{armed_cmp};
+
+    ghost Value = { List Armed };
+
+    ghost view = { λ t. t.entries.items };
+
+    ghost invariant = { λ t. IsStrictlySortedBy armed_cmp t.entries.items };
+}
+
+impl PollTable {
+    /// Nothing is armed.
+    pub fn new(alloc: Global) -> PollTable
+        ensures { result ≡ [] }
+    {
+        PollTable {
+            entries: Vec::new(alloc),
+        }
     }
 }

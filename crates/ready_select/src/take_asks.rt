@@ -2,7 +2,8 @@ ghost use Rattle.std.specs.Prelude.{◌≡◌, List};
 ghost use Rattle.std.specs.List.Sorted.{IsStrictlySortedBy};
 ghost use Rattle.task_queue.specs.declared.item.Item.{Item as TheItem};
 ghost use Rattle.ready_select.specs.declared.ask.PollAsk.{PollAsk as Ask};
-ghost use Rattle.ready_select.specs.Polling.{armed_cmp, TookAsks, EndsTaking};
+ghost use Rattle.ready_select.specs.Order.{armed_cmp};
+ghost use Rattle.ready_select.specs.Polling.{TookAsks, EndsTaking};
 
 use crate::armed::{Armed, settle};
 use crate::ask::PollAsk;

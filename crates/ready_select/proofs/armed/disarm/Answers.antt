@@ -1,6 +1,7 @@
 use Rattle.std.proofs.Common.{◌≡◌, ℕ, ◌≤◌, true, false, sym, ◌∙◌, ap, subst, arith, length, List, Result, Ok, Err, is_ok}
 use Rattle.std.specs.List.Sorted.{IsBinarySearchResult, IsSearchInRange, IsStrictlySortedBy}
-use Rattle.ready_select.specs.Polling.{armed_cmp, has_armed, same_armed}
+use Rattle.ready_select.specs.Order.{armed_cmp}
+use Rattle.ready_select.specs.Polling.{has_armed, same_armed}
 use Rattle.ready_select.proofs.Entries.{armed_total, armed_ties}
 use Rattle.ready_select.proofs.Sorted.{sorted-remove, any-searched, any-removed, any-left}
 use Rattle.ready_select.proofs.armed.disarm.Goals as goal
@@ -10,8 +11,8 @@ returns-in-Ok-clause-left c = λ a.
     let w = subst (λ zs. IsSearchInRange c.binary_search.result (length zs)) c.deref.ensures.value c.binary_search.ensures.bound in
     let p = subst (λ zs. IsBinarySearchResult (λ y. armed_cmp y c.args.armed) zs c.binary_search.result) c.deref.ensures.value c.binary_search.ensures.position in
     rw c.remove.ensures.items (any-removed armed_cmp armed_total same_armed armed_ties c.args.entries.now.items c.args.armed a c.in-Ok.place c.requires
-        (subst (λ q. IsSearchInRange q (length c.args.entries.now.items)) c.in-Ok.is w)
-        (subst (λ q. IsBinarySearchResult (λ y. armed_cmp y c.args.armed) c.args.entries.now.items q) c.in-Ok.is p))
+    (subst (λ q. IsSearchInRange q (length c.args.entries.now.items)) c.in-Ok.is w)
+    (subst (λ q. IsBinarySearchResult (λ y. armed_cmp y c.args.armed) c.args.entries.now.items q) c.in-Ok.is p))
 
 pub returns-in-Ok-clause-rising : goal.returns-in-Ok-clause-rising
 returns-in-Ok-clause-rising c = rw c.remove.ensures.items (sorted-remove armed_cmp armed_total c.args.entries.now.items c.in-Ok.place c.requires)

@@ -2,7 +2,8 @@ use Rattle.std.proofs.Common.{◌≡◌, List, length}
 use Rattle.std.specs.List.Sorted.{IsStrictlySortedBy}
 use Rattle.task_queue.specs.declared.item.Item.{Item}
 use Rattle.ready_select.specs.declared.ask.PollAsk.{PollAsk}
-use Rattle.ready_select.specs.Polling.{armed_cmp, TookAsks, HasNoFinish}
+use Rattle.ready_select.specs.Order.{armed_cmp}
+use Rattle.ready_select.specs.Polling.{TookAsks, HasNoFinish}
 use Rattle.ready_select.proofs.take_asks.take_asks.Given as goal
 
 abbrev pub invariant-loop-taken : goal.invariant-loop-taken

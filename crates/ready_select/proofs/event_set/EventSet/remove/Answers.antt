@@ -18,8 +18,8 @@ returns-in-Ok-clause-left c = λ other.
     let r = search_moved _ _ c.args.event _ c.as_slice.ensures.value c.binary_search.ensures.position in
     let w = range_moved _ _ c.binary_search.result c.as_slice.ensures.value c.binary_search.ensures.bound in
     rw (c.remove.ensures.items, ← c.self.view_is) (has-removed c.self.inside.events.items c.args.event c.in-Ok.place other c.self.invariant.0
-        (subst (λ q. IsSearchInRange q (length c.self.inside.events.items)) c.in-Ok.is w)
-        (subst (λ q. IsBinarySearchResult (λ y. nat_cmp y c.args.event) c.self.inside.events.items q) c.in-Ok.is r))
+    (subst (λ q. IsSearchInRange q (length c.self.inside.events.items)) c.in-Ok.is w)
+    (subst (λ q. IsBinarySearchResult (λ y. nat_cmp y c.args.event) c.self.inside.events.items q) c.in-Ok.is r))
 
 pub returns-in_default-clause-left : goal.returns-in_default-clause-left
 returns-in_default-clause-left c = λ other.

@@ -11,7 +11,7 @@ returns-then-not-contains-clause-answer c = λ calls at.
 pub insert-requires : goal.insert-requires
 insert-requires c =
     room c.self.inside.listed _ _ c.self.invariant.rising c.self.invariant.few (c.self.invariant.armed c.args.dir)
-        ((c.self.invariant.selected c.args.dir).within _ (sym c.contains.ensures ∙ c.if-not-contains.false))
+    ((c.self.invariant.selected c.args.dir).within _ (sym c.contains.ensures ∙ c.if-not-contains.false))
 
 pub returns-clause-made : goal.returns-clause-made
 returns-clause-made c = λ calls at. after_arm calls _ _ _ _ _ (subst (λ e. IsAfter calls e) (sym c.self.view_is) at) c.args.dir _ c.insert.ensures

@@ -24,7 +24,7 @@ returns-clause-answer c = λ calls at.
     elim c.if-is_selected.branch [
       | then-is_selected+then-is_armed w ↦ w.result-is ∙ sym (ap (λ b. cond b told.Call told.Stale) (t ∙ both _ _ w.if-is_selected.true w.if-is_armed.true))
       | else-is_selected w ↦ w.result-is ∙ elim w.else-is_selected.branch [
-          | else-is_selected-via-then-is_selected+else-is_armed w' ↦ sym (ap (λ b. cond b told.Call told.Stale) (t ∙ second _ _ w'.if-is_selected.true w'.if-is_armed.false))
-          | else-is_selected-via-else-is_selected w' ↦ sym (ap (λ b. cond b told.Call told.Stale) (t ∙ first _ _ w'.if-is_selected.false))
-        ]
+        | else-is_selected-via-then-is_selected+else-is_armed w' ↦ sym (ap (λ b. cond b told.Call told.Stale) (t ∙ second _ _ w'.if-is_selected.true w'.if-is_armed.false))
+        | else-is_selected-via-else-is_selected w' ↦ sym (ap (λ b. cond b told.Call told.Stale) (t ∙ first _ _ w'.if-is_selected.false))
+      ]
     ]

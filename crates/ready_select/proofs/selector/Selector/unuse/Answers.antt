@@ -7,7 +7,7 @@ use Rattle.ready_select.proofs.selector.Selector.unuse.Goals as goal
 pub insert-requires : goal.insert-requires
 insert-requires c =
     room c.self.inside.listed _ _ c.self.invariant.rising c.self.invariant.few c.self.invariant.waiting
-        (listed_if_armed _ _ _ _ _ c.self.invariant (sym c.contains_any.ensures ∙ c.if-contains_any.true))
+    (listed_if_armed _ _ _ _ _ c.self.invariant (sym c.contains_any.ensures ∙ c.if-contains_any.true))
 
 pub invariant_of-self : goal.invariant_of-self
 invariant_of-self c =
@@ -16,7 +16,7 @@ invariant_of-self c =
 pub returns-then-contains_any-clause-made : goal.returns-then-contains_any-clause-made
 returns-then-contains_any-clause-made c = λ calls at.
     after_later calls _ _ _ _ _ (subst (λ e. IsAfter calls e) (sym c.self.view_is) at) _ _
-        (listed_if_armed _ _ _ _ _ c.self.invariant (sym c.contains_any.ensures ∙ c.if-contains_any.true)) c.insert.ensures.added c.remove_both.ensures
+    (listed_if_armed _ _ _ _ _ c.self.invariant (sym c.contains_any.ensures ∙ c.if-contains_any.true)) c.insert.ensures.added c.remove_both.ensures
 
 pub returns-then-contains_any-clause-answer : goal.returns-then-contains_any-clause-answer
 returns-then-contains_any-clause-answer c = λ calls at.

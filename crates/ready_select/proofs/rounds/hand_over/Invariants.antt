@@ -1,7 +1,7 @@
 use Rattle.std.proofs.Common.{◌≡◌, ◌+◌, ◌-◌, ◌≤◌, ◌++◌, map, filter, take, length, vec_len, vec_capacity}
 use Rattle.ready_select.specs.Sets.{has}
 use Rattle.ready_select.specs.Polling.{arm_ask}
-use Rattle.ready_select.proofs.poll_round.hand_over.Given as goal
+use Rattle.ready_select.proofs.rounds.hand_over.Given as goal
 
 abbrev pub invariant-loop-entry : goal.invariant-loop-entry
 invariant-loop-entry l = record {

@@ -3,10 +3,11 @@ use Rattle.std.specs.List.{list_any}
 use Rattle.std.specs.List.Sorted.{IsStrictlySortedBy, IsStrictlyIncreasing}
 use Rattle.outside.specs.Sublist.{IsSublist}
 use Rattle.ready_select.specs.Sets.{has}
-use Rattle.ready_select.specs.Polling.{armed_cmp, arm_ask}
+use Rattle.ready_select.specs.Order.{armed_cmp}
+use Rattle.ready_select.specs.Polling.{arm_ask}
 use Rattle.ready_select.proofs.Sorted.{sorted-filter}
 use Rattle.ready_select.proofs.Sets.{rising-sublist}
-use Rattle.ready_select.proofs.poll_round.wait_once.Goals as goal
+use Rattle.ready_select.proofs.rounds.wait_once.Goals as goal
 
 pub hand_over-requires-clause-events : goal.hand_over-requires-clause-events
 hand_over-requires-clause-events g c =
