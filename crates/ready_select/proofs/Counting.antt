@@ -2,7 +2,7 @@
 use Rattle.std.proofs.Common.{◌≡◌, ℕ, ◌+◌, ◌≤◌, ◌==◌, Bool, true, false, ◌||◌, ◌&&◌, List, [], ◌∷◌, ◌++◌, length, map, filter, drop, count_by, cond, refl, sym, ap, ◌∙◌, subst, arith, Option, None, Some, eqb-true, append_assoc}
 use Rattle.std.specs.List.{list_any, AllByRecursion}
 use Rattle.std.specs.List.Sorted.{IsStrictlySortedBy}
-use Rattle.std.specs.declared.cmp.Ordering.TheVariants.{Less, Equal}
+use Rattle.std.specs.declared.cmp.Ordering.TheVariants.{Less}
 use Rattle.std.specs.Option.{option_map}
 use Rattle.std.proofs.lemmas.List.Sums.{sum_by-cons, sum_by-append}
 use Rattle.ready_select.specs.declared.armed.Armed.{Armed}
@@ -15,7 +15,7 @@ use Rattle.outside.specs.declared.poll_set.PollFault.TheVariants.{Failed, NoMemo
 use Rattle.ready_select.specs.Sets.{has}
 use Rattle.ready_select.specs.Order.{armed_cmp}
 use Rattle.ready_select.specs.Polling.{arm_ask, entry_of, same_armed, same_bool, is_drop}
-use Rattle.ready_select.specs.Answered.{tells, times, IsAnswered, ToldRound, AreRounds, all_found, last_answers, RoundsAreAnswered}
+use Rattle.ready_select.specs.Answered.{tells, times, IsAnswered, all_found, last_answers, RoundsAreAnswered}
 use Rattle.ready_select.proofs.Entries.{armed_total, armed_ties}
 use Rattle.ready_select.proofs.Sorted.{none_above, only}
 

@@ -1,5 +1,5 @@
 -- What each call of a selector does to its sets, told by the calls so far.
-use Rattle.std.proofs.Common.{◌≡◌, ℕ, ◌+◌, ◌<◌, ◌≤◌, ◌==◌, Bool, true, false, ◌||◌, ◌&&◌, not, List, [], ◌∷◌, ◌++◌, length, refl, sym, ap, ◌∙◌, subst, arith, ◌⊎◌, inl, inr, eqb-true, eq-eqb, Option, unwrap_or}
+use Rattle.std.proofs.Common.{◌≡◌, ℕ, ◌<◌, ◌≤◌, ◌==◌, Bool, true, false, ◌||◌, ◌&&◌, not, List, [], ◌∷◌, ◌++◌, length, refl, sym, ap, ◌∙◌, subst, arith, ◌⊎◌, inl, inr, eqb-true, eq-eqb, Option, unwrap_or}
 use Rattle.std.specs.List.Sorted.{IsStrictlySortedBy}
 use Rattle.std.specs.Ordering.{nat_cmp}
 use Rattle.std.proofs.lemmas.List.Sums.{fold-append}
@@ -9,7 +9,7 @@ use Rattle.ready_select.specs.declared.selector.Unused.TheVariants.{Now, Later}
 use Rattle.ready_select.specs.declared.selector.Delivered.{Delivered}
 use Rattle.ready_select.specs.declared.selector.Delivered.TheVariants as told
 use Rattle.ready_select.specs.Latest.{latest, when}
-use Rattle.ready_select.specs.Sets.{has, in_dir, same_dir, PerDir, Events, IsPartOf, IsKept, IsWith, IsWithout}
+use Rattle.ready_select.specs.Sets.{has, in_dir, same_dir, PerDir, IsPartOf, IsKept, IsWith, IsWithout}
 use Rattle.ready_select.specs.Events.{Call, Select, Unuse, Arm, Deliver, Dropped, IsAfter, holds, waits, selects, arms, is_held, is_waiting, is_selected, is_armed}
 use Rattle.ready_select.proofs.Sets.{shorter-part}
 

@@ -1,6 +1,6 @@
 -- Sets of events: what a search in the list finds, and what an insert and a removal leave.
-use Rattle.std.proofs.Common.{◌≡◌, ℕ, zero, suc, ◌+◌, ◌<◌, ◌≤◌, ◌==◌, Bool, true, false, ◌||◌, ◌&&◌, not, List, [], ◌∷◌, length, refl, sym, ap, ◌∙◌, subst, arith, Result, Ok, Err, is_ok, ◌⊎◌, inl, inr, eqb-true, eq-eqb}
-use Rattle.std.specs.List.{list_any, insert, remove, HoldsAt, slice_index_or, AllByRecursion}
+use Rattle.std.proofs.Common.{◌≡◌, ℕ, suc, ◌<◌, ◌≤◌, ◌==◌, Bool, true, false, ◌||◌, ◌&&◌, not, List, [], ◌∷◌, length, refl, sym, ◌∙◌, subst, arith, Result, Ok, Err, is_ok, inl, inr, eqb-true, eq-eqb}
+use Rattle.std.specs.List.{insert, remove, HoldsAt, slice_index_or, AllByRecursion}
 use Rattle.std.specs.List.Sorted.{IsStrictlySortedBy, IsStrictlyIncreasing, IsBinarySearchResult, IsSearchInRange}
 use Rattle.std.proofs.lemmas.Map.Keys.{IsStrictlyIncreasing-from_sorted, sorted_from_strictly_increasing}
 use Rattle.outside.specs.Sublist.{IsSublist}
@@ -11,7 +11,7 @@ use Rattle.std.proofs.lemmas.List.Folds.{list_any_at, Any-from_list_any}
 use Rattle.std.proofs.lemmas.List.Edits.{length-remove}
 use Rattle.std.proofs.lemmas.List.{get_or_default}
 use Rattle.ready_select.specs.Sets.{has}
-use Rattle.ready_select.proofs.Sorted.{sorted-insert, searched_place, none_beside, none_left, any-insert, any-remove, sorted-remove}
+use Rattle.ready_select.proofs.Sorted.{sorted-insert, searched_place, none_beside, none_left, any-remove, sorted-remove}
 
 same : (x y : ℕ) → (y == x) ≡ true → nat_cmp y x ≡ Equal
 same x y equal = let is : y ≡ x = eqb-true y x equal in subst (λ z. nat_cmp z x ≡ Equal) (sym is) (tied_itself nat_cmp_total x)

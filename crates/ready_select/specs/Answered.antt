@@ -1,8 +1,8 @@
 -- What a poller tells, beside what its poll set answered.
-use Rattle.std.specs.Prelude.{◌≡◌, ℕ, ◌+◌, ◌≤◌, ◌==◌, Bool, false, List, [], ◌∷◌, ◌++◌, Option, None, Some, count_by}
+use Rattle.std.specs.Prelude.{ℕ, ◌+◌, ◌≤◌, ◌==◌, Bool, false, List, [], ◌∷◌, ◌++◌, Option, None, Some, count_by}
 use Rattle.ready_select.specs.declared.armed.Armed.{Armed}
 use Rattle.ready_select.specs.declared.ask.PollAsk.{PollAsk}
-use Rattle.ready_select.specs.declared.ask.PollAsk.TheVariants.{Arm, Drop, Finish}
+use Rattle.ready_select.specs.declared.ask.PollAsk.TheVariants.{Arm}
 use Rattle.ready_select.specs.Polling.{entry_of, same_armed}
 
 -- whether a port is told of this entry

@@ -1,5 +1,5 @@
 -- The events of a driver, by the calls that were made on its selector.
-use Rattle.std.specs.Prelude.{◌≡◌, ℕ, ◌==◌, ◌<◌, Bool, true, false, ◌&&◌, ◌||◌, if◌then◌else◌, List, ◌∷◌, [], ◌++◌, Option, None, length}
+use Rattle.std.specs.Prelude.{◌≡◌, ℕ, ◌==◌, Bool, true, false, ◌&&◌, ◌||◌, if◌then◌else◌, List, ◌∷◌, [], ◌++◌, Option, None}
 use Rattle.port_model.specs.declared.event.Dir.{Dir}
 use Rattle.port_model.specs.declared.event.Dir.TheVariants.{Read, Write}
 use Rattle.ready_select.specs.declared.selector.Unused.{Unused}

@@ -54,7 +54,9 @@ impl Model for Selector {
 impl Selector {
     /// A selector on which no call was made.
     pub fn new() -> Selector
-        ensures { IsAfter [] result }
+        ensures made { IsAfter [] result }
+        ensures empty { result.listed ≡ [] }
+        ensures free { result.waiting ≡ [] }
     {
         Selector {
             listed: EventSet::new(),

@@ -1,9 +1,9 @@
-use Rattle.std.proofs.Common.{◌≡◌, ℕ, ◌≤◌, true, false, sym, ◌∙◌, ap, subst, arith, length, List, Result, Ok, Err, is_ok}
+use Rattle.std.proofs.Common.{◌≡◌, ℕ, sym, ◌∙◌, ap, subst, length, List, Result, Err, is_ok}
 use Rattle.std.specs.List.{insert}
 use Rattle.std.specs.List.Sorted.{IsBinarySearchResult, IsSearchInRange, IsStrictlySortedBy}
 use Rattle.ready_select.specs.declared.armed.Armed.{Armed}
 use Rattle.ready_select.specs.Order.{armed_cmp}
-use Rattle.ready_select.specs.Polling.{has_armed, same_armed}
+use Rattle.ready_select.specs.Polling.{same_armed}
 use Rattle.ready_select.proofs.Entries.{armed_total, armed_ties}
 use Rattle.ready_select.proofs.Sorted.{sorted-insert, searched_place, any-insert, any-searched, any-again}
 use Rattle.ready_select.proofs.armed.arm.Goals as goal

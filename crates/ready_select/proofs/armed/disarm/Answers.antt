@@ -1,7 +1,7 @@
-use Rattle.std.proofs.Common.{◌≡◌, ℕ, ◌≤◌, true, false, sym, ◌∙◌, ap, subst, arith, length, List, Result, Ok, Err, is_ok}
-use Rattle.std.specs.List.Sorted.{IsBinarySearchResult, IsSearchInRange, IsStrictlySortedBy}
+use Rattle.std.proofs.Common.{sym, ◌∙◌, ap, subst, length, is_ok}
+use Rattle.std.specs.List.Sorted.{IsBinarySearchResult, IsSearchInRange}
 use Rattle.ready_select.specs.Order.{armed_cmp}
-use Rattle.ready_select.specs.Polling.{has_armed, same_armed}
+use Rattle.ready_select.specs.Polling.{same_armed}
 use Rattle.ready_select.proofs.Entries.{armed_total, armed_ties}
 use Rattle.ready_select.proofs.Sorted.{sorted-remove, any-searched, any-removed, any-left}
 use Rattle.ready_select.proofs.armed.disarm.Goals as goal

@@ -1,5 +1,5 @@
-use Rattle.std.proofs.Common.{◌≡◌, ◌∙◌, ap, sym, subst, eqb, List, ℕ, map}
-use Rattle.std.specs.List.{dedup, list_any}
+use Rattle.std.proofs.Common.{◌∙◌, ap, sym, subst, eqb}
+use Rattle.std.specs.List.{dedup}
 use Rattle.std.specs.List.Sorted.{IsStrictlyIncreasing}
 use Rattle.std.proofs.lemmas.List.Filters.{dedup_is}
 use Rattle.ready_select.specs.Sets.{has}

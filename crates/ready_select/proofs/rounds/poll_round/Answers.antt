@@ -1,4 +1,4 @@
-use Rattle.std.proofs.Common.{◌≡◌, ◌∙◌, sym, refl}
+use Rattle.std.proofs.Common.{◌∙◌, refl}
 use Rattle.ready_select.specs.Polling.{asks_of}
 use Rattle.ready_select.proofs.Counting.{answered-none, answered-round, none_answered}
 use Rattle.ready_select.proofs.rounds.poll_round.Goals as goal

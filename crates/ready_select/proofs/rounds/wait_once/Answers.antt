@@ -1,4 +1,4 @@
-use Rattle.std.proofs.Common.{◌≡◌, ◌∙◌, ◌++◌, ◌==◌, ap, sym, subst, not, map, filter, List, ℕ}
+use Rattle.std.proofs.Common.{◌∙◌, ◌++◌, ◌==◌, ap, sym, subst, not, map, filter}
 use Rattle.std.specs.List.{list_any}
 use Rattle.std.specs.List.Sorted.{IsStrictlySortedBy, IsStrictlyIncreasing}
 use Rattle.outside.specs.Sublist.{IsSublist}

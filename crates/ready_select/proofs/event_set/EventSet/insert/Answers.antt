@@ -1,4 +1,4 @@
-use Rattle.std.proofs.Common.{◌≡◌, ◌==◌, ℕ, ◌<◌, ◌≤◌, true, false, sym, ◌∙◌, ap, subst, arith, length, List, Result, Ok, Err, is_ok, ◌⊎◌, inl, inr}
+use Rattle.std.proofs.Common.{◌≡◌, ◌==◌, ℕ, ◌<◌, ◌≤◌, true, false, sym, ◌∙◌, ap, subst, arith, length, List, Result, Err, is_ok, ◌⊎◌, inl, inr}
 use Rattle.std.specs.List.{insert}
 use Rattle.std.specs.List.Sorted.{IsBinarySearchResult, IsSearchInRange, IsStrictlySortedBy}
 use Rattle.std.specs.Ordering.{nat_cmp}

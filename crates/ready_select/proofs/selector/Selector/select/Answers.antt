@@ -1,4 +1,4 @@
-use Rattle.std.proofs.Common.{sym, ◌∙◌, subst}
+use Rattle.std.proofs.Common.{sym, subst}
 use Rattle.ready_select.specs.Events.{IsAfter}
 use Rattle.ready_select.proofs.Selecting.{room_after, after_on, after_off}
 use Rattle.ready_select.proofs.selector.Selector.select.Goals as goal
