@@ -1,0 +1,5 @@
+pub mod Counting
+pub mod Entries
+pub mod Selecting
+pub mod Sets
+pub mod Sorted
