@@ -1,6 +1,9 @@
 pub mod Causes
+pub mod Children
 pub mod Disk
+pub mod Log
 pub mod Plan
 pub mod Rounds
+pub mod Starting
 pub mod Sublist
 pub mod Tape

@@ -11,8 +11,11 @@
 #![tactic(auto)]
 
 mod call_plan;
+mod child;
+mod fault_count;
 mod files;
 mod gate;
+mod log;
 mod mem_files;
 mod mem_poll;
 mod mem_sink;
@@ -20,9 +23,13 @@ mod poll_set;
 mod real_files;
 mod real_sink;
 mod sink;
+mod spawner;
 
+pub use child::{Child, Fetched, Offered, StatusGot};
+pub use fault_count::FaultCount;
 pub use files::{FileFault, Files};
 pub use gate::{Gate, OpenGate};
+pub use log::{ByteLog, FileLog};
 pub use mem_files::MemFiles;
 pub use mem_poll::MemPoll;
 pub use mem_sink::MemSink;
@@ -31,6 +38,7 @@ pub use poll_set::{PollFault, PollSet};
 pub use real_files::RealFiles;
 pub use real_sink::RealSink;
 pub use sink::{Sink, SinkFault};
+pub use spawner::{SpawnFault, Spawner};
 
 #[cfg(test)]
 mod tests;

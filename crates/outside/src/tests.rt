@@ -10,8 +10,8 @@ use std::{env, fs, process};
 fn memory_files_give_back_what_was_written(rt: HostRuntime) -> Result<(), Fail> {
     let mut files = MemFiles::new(rt.alloc());
     files.hold("in.txt", b"first")?;
-    files.write("out.txt", b"ab")?;
-    files.write("in.txt", b"second")?;
+    files.write(rt.alloc(), "out.txt", b"ab")?;
+    files.write(rt.alloc(), "in.txt", b"second")?;
     assert_eq!(rt;
         files.read(rt.alloc(), "in.txt", 6)?.as_slice(),
         b"second".as_slice()
@@ -33,8 +33,11 @@ fn memory_files_fail_at_the_calls_that_were_named(rt: HostRuntime) -> Result<(),
     assert!(rt; matches!(&files.read(rt.alloc(), "in.txt", 3), Err(FileFault::Failed)));
     assert_eq!(rt; files.read(rt.alloc(), "in.txt", 3)?.len(), 3);
 
-    assert_eq!(rt; files.write("in.txt", b"z"), Err(FileFault::Failed));
-    assert_eq!(rt; files.write("in.txt", b"z"), Ok(()));
+    assert_eq!(rt;
+        files.write(rt.alloc(), "in.txt", b"z"),
+        Err(FileFault::Failed)
+    );
+    assert_eq!(rt; files.write(rt.alloc(), "in.txt", b"z"), Ok(()));
     Ok(())
 }
 
@@ -78,7 +81,7 @@ fn real_files_give_back_what_was_written(rt: HostRuntime) -> Result<(), Fail> {
     path.push(format!(in rt.alloc(); "outside-test-{id}")?)?;
     let name = path.as_str();
     let mut files = RealFiles::new(rt.clone()?);
-    files.write(name, b"abc")?;
+    files.write(rt.alloc(), name, b"abc")?;
     assert_eq!(rt;
         files.read(rt.alloc(), name, 3)?.as_slice(),
         b"abc".as_slice()
@@ -88,7 +91,10 @@ fn real_files_give_back_what_was_written(rt: HostRuntime) -> Result<(), Fail> {
 
     assert!(rt; matches!(&files.read(rt.alloc(), name, 3), Err(FileFault::Failed)));
     assert!(rt; matches!(&files.read(rt.alloc(), "/", 3), Err(FileFault::Failed)));
-    assert_eq!(rt; files.write("/dev/full", b"abc"), Err(FileFault::Failed));
+    assert_eq!(rt;
+        files.write(rt.alloc(), "/dev/full", b"abc"),
+        Err(FileFault::Failed)
+    );
     Ok(())
 }
 

@@ -4,7 +4,7 @@ use Rattle.std.specs.List.{position}
 use Rattle.std.specs.Str.{bytes_eq}
 use Rattle.outside.specs.Disk.{File}
 use Rattle.outside.proofs.Contents.{Rewrites-set, Rewrites-push}
-use Rattle.outside.proofs.mem_files.MemFiles.hold.Goals as goal
+use Rattle.outside.proofs.mem_files.MemFiles.store.Goals as goal
 
 pub returns-in-Some-clause-ok : goal.returns-in-Some-clause-ok
 returns-in-Some-clause-ok c =
