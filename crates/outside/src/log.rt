@@ -30,13 +30,13 @@ impl Model for FileEntries {
     ghost view = { λ _. [] };
 }
 
-/// The entries of a log of bytes. It is there for snapshots of it alone.
+/// The entries of a log of bytes or of events. It is there for snapshots of it alone.
 #[derive(Drop)]
-struct ByteEntries {
+struct NumberEntries {
     marker: (),
 }
 
-impl Model for ByteEntries {
+impl Model for NumberEntries {
     ghost use Rattle.std.specs.Prelude.{List, ℕ, []};
 
     ghost Value = { List ℕ };
@@ -107,7 +107,7 @@ impl fmt::Debug for FileLog {
 /// Bytes, oldest first: what puts took, what was given to a program, or what was fetched from it.
 #[derive(Drop)]
 pub struct ByteLog {
-    entries: Snapshot<ByteEntries>,
+    entries: Snapshot<NumberEntries>,
 }
 
 impl Model for ByteLog {
@@ -130,14 +130,14 @@ impl ByteLog {
         ensures { result ≡ [] }
     {
         ByteLog {
-            entries: Snapshot::of(&ByteEntries { marker: () }),
+            entries: Snapshot::of(&NumberEntries { marker: () }),
         }
     }
 
     fn with(&self, bytes: &[u8]) -> Self
         ensures { result ≡ self.now ++ bytes.now }
     {
-        let blank = Snapshot::of(&ByteEntries { marker: () });
+        let blank = Snapshot::of(&NumberEntries { marker: () });
         let next = NextBytes { log: self, bytes };
         ByteLog {
             entries: named(blank, &next),
@@ -155,5 +155,59 @@ impl ByteLog {
 impl fmt::Debug for ByteLog {
     fn fmt<W: fmt::Write>(&self, f: &mut fmt::Formatter<W>) -> Result<(), fmt::Error> {
         f.write_str("ByteLog")
+    }
+}
+
+/// Numbers of events, oldest first: what waits answered.
+#[derive(Drop)]
+pub struct EventLog {
+    entries: Snapshot<NumberEntries>,
+}
+
+impl Model for EventLog {
+    ghost use Rattle.std.specs.Prelude.{List, ℕ};
+
+    ghost Value = { List ℕ };
+
+    ghost view = { λ l. l.entries.value };
+}
+
+/// A log with what it is to note.
+#[derive(Drop)]
+struct NextEvents<'a> {
+    log: &'a EventLog,
+    events: &'a [u32],
+}
+
+impl EventLog {
+    pub fn new() -> Self
+        ensures { result ≡ [] }
+    {
+        EventLog {
+            entries: Snapshot::of(&NumberEntries { marker: () }),
+        }
+    }
+
+    fn with(&self, events: &[u32]) -> Self
+        ensures { result ≡ self.now ++ events.now }
+    {
+        let blank = Snapshot::of(&NumberEntries { marker: () });
+        let next = NextEvents { log: self, events };
+        EventLog {
+            entries: named(blank, &next),
+        }
+    }
+
+    /// Notes more events.
+    pub fn note(&mut self, events: &[u32])
+        ensures { self.new ≡ self.old ++ events.now }
+    {
+        *self = self.with(events);
+    }
+}
+
+impl fmt::Debug for EventLog {
+    fn fmt<W: fmt::Write>(&self, f: &mut fmt::Formatter<W>) -> Result<(), fmt::Error> {
+        f.write_str("EventLog")
     }
 }

@@ -1,0 +1,192 @@
+ghost use Rattle.std.specs.Prelude.{◌≡◌, IfOk};
+
+use crate::ends::{InputEnd, OutputEnd};
+use crate::real_child::{Piped, RealChild};
+use crate::real_poll::RealPoll;
+use crate::counts::Counts;
+use crate::threads::{Reading, Writing, read_all, write_all};
+use crossbeam_channel::{Sender, bounded, unbounded};
+use outside::{ByteLog, FaultCount, NoMemory, SpawnFault, Spawner};
+use std::alloc::Global;
+use std::io::ErrorKind;
+use std::process::{self, ChildStdin, ChildStdout, Command, Processes, Stdio, SystemProcess};
+use std::sync::Wait;
+use std::thread;
+use std::thread::Threads;
+use std::time::Clock;
+
+/// How many chunks of an output wait to be fetched before no more is read of it.
+const CHUNKS: usize = 4;
+
+/// Starts programs of the machine, each with piped input and output.
+///
+/// Its two threads are made with it and serve its children in turn, so that a child is served once the
+/// output of the one before it has ended or was given up. Where no thread could be made, every start fails.
+#[derive(Drop)]
+pub struct RealSpawner<R> {
+    rt: R,
+    counts: Counts,
+    read_event: u32,
+    write_event: u32,
+    threads: Option<Threading>,
+    faults: FaultCount,
+}
+
+/// Where the threads of a spawner take the pipes of a child from.
+#[derive(Drop)]
+struct Threading {
+    readings: Sender<Reading>,
+    writings: Sender<Writing>,
+}
+
+impl<R: Threads + Wait + Copy + Send + Sync + Drop + 'static> RealSpawner<R> {
+    /// A spawner whose children have these events of the poll set.
+    pub fn new<C: Clock + Drop>(
+        alloc: Global,
+        rt: R,
+        poll: &RealPoll<C>,
+        read_event: u32,
+        write_event: u32,
+    ) -> Result<Self, NoMemory> {
+        let counts = poll.counts()?;
+        let threads = start_threads(alloc, rt, poll.counts()?, poll.counts()?)?;
+        Ok(RealSpawner {
+            rt,
+            counts,
+            read_event,
+            write_event,
+            threads,
+            faults: FaultCount::new(),
+        })
+    }
+}
+
+/// The two threads of a spawner, or none where one couldn't be made.
+fn start_threads<R: Threads + Wait + Copy + Send + Sync + Drop + 'static>(
+    alloc: Global,
+    rt: R,
+    reading: Counts,
+    writing: Counts,
+) -> Result<Option<Threading>, NoMemory> {
+    let (readings, outputs) = unbounded::<Reading, Global>(alloc)?;
+    let (writings, inputs) = unbounded::<Writing, Global>(alloc)?;
+    let reader = thread::spawn(&rt, move || read_all(&rt, alloc, &reading, &outputs));
+    if reader.is_err() {
+        return Ok(None);
+    }
+    let writer = thread::spawn(&rt, move || write_all(&rt, &writing, &inputs));
+    if writer.is_err() {
+        return Ok(None);
+    }
+    Ok(Some(Threading { readings, writings }))
+}
+
+/// The program that a command text names, started with its further words. The words stand between spaces.
+fn start_program<R: Processes<Started = SystemProcess>>(
+    rt: &R,
+    alloc: Global,
+    command: &[u8],
+) -> Result<process::Child, SpawnFault> {
+    let Ok(text) = str::from_utf8(command) else {
+        return Err(SpawnFault::Failed);
+    };
+    let mut words = text.split(' ').filter(|word| !word.is_empty());
+    let Some(program) = words.next() else {
+        return Err(SpawnFault::Failed);
+    };
+    let mut command = Command::new(alloc, program)?;
+    for word in words {
+        command.arg(word)?;
+    }
+    command.stdin(Stdio::piped());
+    command.stdout(Stdio::piped());
+    match command.spawn(rt) {
+        Ok(program) => Ok(program),
+        Err(error) if error.kind() == ErrorKind::OutOfMemory => Err(SpawnFault::NoMemory),
+        Err(_) => Err(SpawnFault::Failed),
+    }
+}
+
+impl<R: Processes<Started = SystemProcess> + Wait + Copy + Send + Drop> RealSpawner<R> {
+    /// Hands the output of a program to the reading thread.
+    fn read_from(
+        &self,
+        alloc: Global,
+        threads: &Threading,
+        stdout: ChildStdout,
+    ) -> Result<OutputEnd, SpawnFault> {
+        let (messages, outputs) = bounded(alloc, CHUNKS)?;
+        let reading = Reading {
+            stdout,
+            messages,
+            event: self.read_event,
+        };
+        self.counts.set(self.read_event, 0);
+        let counts = self.counts.share().map_err(|_| SpawnFault::NoMemory)?;
+        match threads.readings.send(&self.rt, reading) {
+            Ok(()) => Ok(OutputEnd::new(alloc, outputs, counts, self.read_event)),
+            Err(_) => Err(SpawnFault::Failed),
+        }
+    }
+
+    /// Hands the input of a program to the writing thread.
+    fn write_to(
+        &self,
+        alloc: Global,
+        threads: &Threading,
+        stdin: ChildStdin,
+    ) -> Result<InputEnd, SpawnFault> {
+        let (pieces, inputs) = unbounded(alloc)?;
+        let writing = Writing {
+            stdin,
+            pieces: inputs,
+            event: self.write_event,
+        };
+        self.counts.set(self.write_event, 1);
+        let counts = self.counts.share().map_err(|_| SpawnFault::NoMemory)?;
+        match threads.writings.send(&self.rt, writing) {
+            Ok(()) => Ok(InputEnd::new(pieces, counts, self.write_event)),
+            Err(_) => Err(SpawnFault::Failed),
+        }
+    }
+
+    fn launch(&self, alloc: Global, command: &[u8]) -> Result<Piped, SpawnFault> {
+        let Some(threads) = &self.threads else {
+            return Err(SpawnFault::Failed);
+        };
+        let mut program = start_program(&self.rt, alloc, command)?;
+        let (Some(stdin), Some(stdout)) = (program.stdin.take(), program.stdout.take()) else {
+            return Err(SpawnFault::Failed);
+        };
+        let output = self.read_from(alloc, threads, stdout)?;
+        let input = self.write_to(alloc, threads, stdin)?;
+        Ok(Piped {
+            program,
+            output,
+            input,
+        })
+    }
+}
+
+impl<R: Processes<Started = SystemProcess> + Wait + Copy + Send + Drop> Spawner for RealSpawner<R> {
+    type Program = RealChild<R>;
+
+    ghost faults = { λ s. s.faults };
+
+    fn start(&mut self, alloc: Global, command: &[u8]) -> Result<RealChild<R>, SpawnFault> {
+        match self.launch(alloc, command) {
+            Ok(piped) => Ok(RealChild::new(
+                self.rt,
+                alloc,
+                piped,
+                (self.read_event, self.write_event),
+                command,
+            )),
+            Err(SpawnFault::NoMemory) => Err(SpawnFault::NoMemory),
+            Err(SpawnFault::Failed) => {
+                self.faults.rise();
+                Err(SpawnFault::Failed)
+            }
+        }
+    }
+}
