@@ -30,11 +30,3 @@ pub(crate) struct Ending {
     pub(crate) need: u64,
     pub(crate) status: i32,
 }
-
-impl Ending {
-    pub(crate) fn code(&self) -> i32
-        ensures { result ≡ self.now.status }
-    {
-        self.status
-    }
-}

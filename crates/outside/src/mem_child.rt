@@ -213,7 +213,7 @@ impl Child for MemChild {
         let Some(ending) = self.ending else {
             return StatusGot::Failed;
         };
-        StatusGot::Ended(ending.code())
+        StatusGot::Ended(ending.status)
     }
 
     fn stop(&mut self)
