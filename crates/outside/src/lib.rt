@@ -1,10 +1,13 @@
-//! What a program meets outside itself: files, its output, the readiness of events, and a gate round
-//! each turn of a port. Each is a trait with two kinds of object, one in memory for tests, whose
-//! calls can be made to fail, and a real one.
+//! What a program meets outside itself: files, its output, other programs, the readiness of events, and
+//! a gate round each turn of a port. Each is a trait with two kinds of object, one in memory for tests,
+//! whose calls can be made to fail, and a real one. The real programs and their readiness stand in
+//! `outside_programs`.
 //!
 //! A trait counts its faults, and a call answers `Failed` only where the count rose in that call. So
-//! a caller that blames the outside can be held to it. What an object holds is told where it can be:
-//! the objects in memory tell it, the real ones tell nothing.
+//! a caller that blames the outside can be held to it. What the calls answered is told by every object,
+//! the real ones too: names and bytes of reads and writes, the bytes that puts took, those that a
+//! program was given and those that were fetched from it, the events that waits answered. What an object
+//! holds is told where it can be: the objects in memory tell it, the real ones tell nothing.
 //!
 //! This crate isn't a file system: it has no directories, no positions and no partial writes. It
 //! starts no program and no thread, and waits for nothing but the system's own calls.
@@ -46,6 +49,3 @@ pub use real_files::RealFiles;
 pub use real_sink::RealSink;
 pub use sink::{Sink, SinkFault};
 pub use spawner::{SpawnFault, Spawner};
-
-#[cfg(test)]
-mod tests;

@@ -18,6 +18,3 @@ mod threads;
 pub use real_child::RealChild;
 pub use real_poll::RealPoll;
 pub use real_spawner::RealSpawner;
-
-#[cfg(test)]
-mod tests;

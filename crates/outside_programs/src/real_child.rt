@@ -1,5 +1,4 @@
-ghost use Rattle.std.specs.Prelude.{◌≡◌, None};
-ghost use Rattle.outside.specs.Children.{Starts};
+ghost use Rattle.std.specs.Prelude.{◌≡◌, [], false, None};
 
 use crate::ends::{InputEnd, OutputEnd};
 use outside::{ByteLog, Child, FaultCount, Fetched, Offered, StatusGot};
@@ -37,7 +36,7 @@ pub struct RealChild<R> {
     faults: FaultCount,
 }
 
-impl<R: Wait + Send> RealChild<R> {
+impl<R> RealChild<R> {
     /// A child that was just started with this command text.
     pub(crate) fn new(
         rt: R,
@@ -46,8 +45,10 @@ impl<R: Wait + Send> RealChild<R> {
         events: (u32, u32),
         command: &[u8],
     ) -> Self
-        ensures faults { ⟦<RealChild<R> as Child>⟧.faults result ≡ 0 }
-        ensures starts { Starts command.now (⟦<RealChild<R> as Child>⟧.shows result) }
+        ensures faults { result.faults ≡ 0 }
+        ensures command { result.command ≡ command.now }
+        ensures logs { (result.given ≡ []) × (result.fetched ≡ []) }
+        ensures flags { (result.at_end ≡ false) × (result.stopped ≡ false) }
     {
         let mut text = ByteLog::new();
         text.note(command);

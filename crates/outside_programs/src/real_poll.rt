@@ -46,11 +46,25 @@ impl<R: Clock + Drop> RealPoll<R> {
     fn ready(&self, alloc: Global, armed: &[u32]) -> Result<Vec<u32>, AllocError>
         ensures { IfOk result (λ events. IsSublist events.items armed.now) }
     {
-        armed
-            .iter()
-            .copied()
-            .filter(|event| self.counts.is_ready(*event))
-            .collect(alloc)
+        let mut events = Vec::new(alloc);
+        for event in armed {
+            if self.counts.is_ready(*event) {
+                events.push(*event)?;
+            }
+        }
+        Ok(events)
+    }
+
+    /// The ready events. Where there are none, those that are ready after a pause.
+    fn ready_soon(&self, alloc: Global, armed: &[u32]) -> Result<Vec<u32>, AllocError>
+        ensures { IfOk result (λ events. IsSublist events.items armed.now) }
+    {
+        let events = self.ready(alloc, armed)?;
+        if !events.is_empty() {
+            return Ok(events);
+        }
+        thread::sleep(&self.rt, Duration::from_millis(PAUSE));
+        self.ready(alloc, armed)
     }
 }
 
@@ -60,11 +74,7 @@ impl<R: Clock + Drop> PollSet for RealPoll<R> {
     ghost answered = { λ p. p.answered };
 
     fn wait(&mut self, alloc: Global, armed: &[u32]) -> Result<Vec<u32>, PollFault> {
-        let mut events = self.ready(alloc, armed)?;
-        if events.is_empty() {
-            thread::sleep(&self.rt, Duration::from_millis(PAUSE));
-            events = self.ready(alloc, armed)?;
-        }
+        let events = self.ready_soon(alloc, armed)?;
         self.answered.note(events.as_slice());
         Ok(events)
     }

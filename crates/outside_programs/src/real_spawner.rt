@@ -5,7 +5,7 @@ use crate::real_child::{Piped, RealChild};
 use crate::real_poll::RealPoll;
 use crate::counts::Counts;
 use crate::threads::{Reading, Writing, read_all, write_all};
-use crossbeam_channel::{Sender, bounded, unbounded};
+use crossbeam_channel::{Receiver, Sender, bounded, unbounded};
 use outside::{ByteLog, FaultCount, NoMemory, SpawnFault, Spawner};
 use std::alloc::Global;
 use std::io::ErrorKind;
@@ -25,9 +25,7 @@ const CHUNKS: usize = 4;
 #[derive(Drop)]
 pub struct RealSpawner<R> {
     rt: R,
-    counts: Counts,
-    read_event: u32,
-    write_event: u32,
+    events: (u32, u32),
     threads: Option<Threading>,
     faults: FaultCount,
 }
@@ -37,48 +35,57 @@ pub struct RealSpawner<R> {
 struct Threading {
     readings: Sender<Reading>,
     writings: Sender<Writing>,
+    counts: Counts,
+    read_event: u32,
+    write_event: u32,
 }
 
-impl<R: Threads + Wait + Copy + Send + Sync + Drop + 'static> RealSpawner<R> {
-    /// A spawner whose children have these events of the poll set.
+impl<R: Processes<Started = SystemProcess> + Threads + Wait + Copy + Send + Sync + Drop + 'static>
+    RealSpawner<R> {
+    /// A spawner whose children have these events of the poll set, that of their output first.
     pub fn new<C: Clock + Drop>(
         alloc: Global,
         rt: R,
         poll: &RealPoll<C>,
         read_event: u32,
         write_event: u32,
-    ) -> Result<Self, NoMemory> {
-        let counts = poll.counts()?;
-        let threads = start_threads(alloc, rt, poll.counts()?, poll.counts()?)?;
-        Ok(RealSpawner {
-            rt,
-            counts,
+    ) -> Result<Self, NoMemory>
+        ensures { IfOk result (λ spawner. ⟦<RealSpawner<R> as Spawner>⟧.faults spawner ≡ 0) }
+    {
+        let (readings, outputs) = unbounded::<Reading, Global>(alloc)?;
+        let (writings, inputs) = unbounded::<Writing, Global>(alloc)?;
+        let are_made = start_threads(alloc, rt, poll, outputs, inputs)?;
+        let threading = Threading {
+            readings,
+            writings,
+            counts: poll.counts()?,
             read_event,
             write_event,
+        };
+        let threads = if are_made { Some(threading) } else { None };
+        Ok(RealSpawner {
+            rt,
+            events: (read_event, write_event),
             threads,
             faults: FaultCount::new(),
         })
     }
 }
 
-/// The two threads of a spawner, or none where one couldn't be made.
-fn start_threads<R: Threads + Wait + Copy + Send + Sync + Drop + 'static>(
+/// Starts the two threads of a spawner. Answers whether both could be made.
+fn start_threads<R: Threads + Wait + Copy + Send + Sync + Drop + 'static, C: Clock + Drop>(
     alloc: Global,
     rt: R,
-    reading: Counts,
-    writing: Counts,
-) -> Result<Option<Threading>, NoMemory> {
-    let (readings, outputs) = unbounded::<Reading, Global>(alloc)?;
-    let (writings, inputs) = unbounded::<Writing, Global>(alloc)?;
-    let reader = thread::spawn(&rt, move || read_all(&rt, alloc, &reading, &outputs));
-    if reader.is_err() {
-        return Ok(None);
+    poll: &RealPoll<C>,
+    outputs: Receiver<Reading>,
+    inputs: Receiver<Writing>,
+) -> Result<bool, NoMemory> {
+    let reading = poll.counts()?;
+    let writing = poll.counts()?;
+    if thread::spawn(&rt, move || read_all(&rt, alloc, &reading, &outputs)).is_err() {
+        return Ok(false);
     }
-    let writer = thread::spawn(&rt, move || write_all(&rt, &writing, &inputs));
-    if writer.is_err() {
-        return Ok(None);
-    }
-    Ok(Some(Threading { readings, writings }))
+    Ok(thread::spawn(&rt, move || write_all(&rt, &writing, &inputs)).is_ok())
 }
 
 /// The program that a command text names, started with its further words. The words stand between spaces.
@@ -107,59 +114,61 @@ fn start_program<R: Processes<Started = SystemProcess>>(
     }
 }
 
-impl<R: Processes<Started = SystemProcess> + Wait + Copy + Send + Drop> RealSpawner<R> {
+impl Threading {
     /// Hands the output of a program to the reading thread.
-    fn read_from(
+    fn read_from<R: Wait>(
         &self,
+        rt: &R,
         alloc: Global,
-        threads: &Threading,
         stdout: ChildStdout,
     ) -> Result<OutputEnd, SpawnFault> {
         let (messages, outputs) = bounded(alloc, CHUNKS)?;
+        let counts = self.counts.share().map_err(|_| SpawnFault::NoMemory)?;
         let reading = Reading {
             stdout,
             messages,
             event: self.read_event,
         };
         self.counts.set(self.read_event, 0);
-        let counts = self.counts.share().map_err(|_| SpawnFault::NoMemory)?;
-        match threads.readings.send(&self.rt, reading) {
+        match self.readings.send(rt, reading) {
             Ok(()) => Ok(OutputEnd::new(alloc, outputs, counts, self.read_event)),
             Err(_) => Err(SpawnFault::Failed),
         }
     }
 
     /// Hands the input of a program to the writing thread.
-    fn write_to(
+    fn write_to<R: Wait>(
         &self,
+        rt: &R,
         alloc: Global,
-        threads: &Threading,
         stdin: ChildStdin,
     ) -> Result<InputEnd, SpawnFault> {
         let (pieces, inputs) = unbounded(alloc)?;
+        let counts = self.counts.share().map_err(|_| SpawnFault::NoMemory)?;
         let writing = Writing {
             stdin,
             pieces: inputs,
             event: self.write_event,
         };
         self.counts.set(self.write_event, 1);
-        let counts = self.counts.share().map_err(|_| SpawnFault::NoMemory)?;
-        match threads.writings.send(&self.rt, writing) {
+        match self.writings.send(rt, writing) {
             Ok(()) => Ok(InputEnd::new(pieces, counts, self.write_event)),
             Err(_) => Err(SpawnFault::Failed),
         }
     }
 
-    fn launch(&self, alloc: Global, command: &[u8]) -> Result<Piped, SpawnFault> {
-        let Some(threads) = &self.threads else {
-            return Err(SpawnFault::Failed);
-        };
-        let mut program = start_program(&self.rt, alloc, command)?;
+    /// Hands both pipes of a program to the threads.
+    fn serve<R: Wait>(
+        &self,
+        rt: &R,
+        alloc: Global,
+        mut program: process::Child,
+    ) -> Result<Piped, SpawnFault> {
         let (Some(stdin), Some(stdout)) = (program.stdin.take(), program.stdout.take()) else {
             return Err(SpawnFault::Failed);
         };
-        let output = self.read_from(alloc, threads, stdout)?;
-        let input = self.write_to(alloc, threads, stdin)?;
+        let output = self.read_from(rt, alloc, stdout)?;
+        let input = self.write_to(rt, alloc, stdin)?;
         Ok(Piped {
             program,
             output,
@@ -174,14 +183,15 @@ impl<R: Processes<Started = SystemProcess> + Wait + Copy + Send + Drop> Spawner 
     ghost faults = { λ s. s.faults };
 
     fn start(&mut self, alloc: Global, command: &[u8]) -> Result<RealChild<R>, SpawnFault> {
-        match self.launch(alloc, command) {
-            Ok(piped) => Ok(RealChild::new(
-                self.rt,
-                alloc,
-                piped,
-                (self.read_event, self.write_event),
-                command,
-            )),
+        let piped = match start_program(&self.rt, alloc, command) {
+            Ok(program) => match &self.threads {
+                Some(threads) => threads.serve(&self.rt, alloc, program),
+                None => Err(SpawnFault::Failed),
+            },
+            Err(fault) => Err(fault),
+        };
+        match piped {
+            Ok(piped) => Ok(RealChild::new(self.rt, alloc, piped, self.events, command)),
             Err(SpawnFault::NoMemory) => Err(SpawnFault::NoMemory),
             Err(SpawnFault::Failed) => {
                 self.faults.rise();

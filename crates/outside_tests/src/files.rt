@@ -1,4 +1,4 @@
-use crate::{
+use outside::{
     FileFault, Files, Gate, MemFiles, MemPoll, MemSink, OpenGate, PollFault, PollSet, RealFiles,
     RealSink, Sink, SinkFault,
 };
