@@ -28,13 +28,13 @@ pub ended-more : (given more : ℕ) (chunks : List Chunk) (ending : Option Endin
 ended-more given more [] None grows some = (refl, refl)
 ended-more given more [] (Some ending) grows some =
     elim (nat_lt given ending.need) as (λ b. nat_lt given ending.need ≡ b → IsSome (cond b None (Some ending.status))
-        → (ready more [] ≡ ready given []) × (ended more [] (Some ending) ≡ cond b None (Some ending.status))) [
+    → (ready more [] ≡ ready given []) × (ended more [] (Some ending) ≡ cond b None (Some ending.status))) [
       | true ↦ λ unmet none. absurd (cc)
       | false ↦ λ met some. (refl, rw (later given more ending.need grows met) refl)
     ] refl some
 ended-more given more (chunk ∷ chunks) ending grows some =
     elim (nat_lt given chunk.need) as (λ b. nat_lt given chunk.need ≡ b → IsSome (cond b None (ended given chunks ending))
-        → (ready more (chunk ∷ chunks) ≡ cond b [] (chunk.bytes.items ++ ready given chunks)) × (ended more (chunk ∷ chunks) ending ≡ cond b None (ended given chunks ending))) [
+    → (ready more (chunk ∷ chunks) ≡ cond b [] (chunk.bytes.items ++ ready given chunks)) × (ended more (chunk ∷ chunks) ending ≡ cond b None (ended given chunks ending))) [
       | true ↦ λ unmet none. absurd (cc)
       | false ↦ λ met some.
           let (same, still) = ended-more given more chunks ending grows some in
@@ -59,10 +59,10 @@ pub has-next : (given : ℕ) (chunks : List Chunk) (chunk : Chunk) → 0 < lengt
     → leb chunk.need given ≡ nat_lt 0 (length (upcoming given chunks))
 has-next given [] chunk some is = absurd (omega (arith, some))
 has-next given (first ∷ rest) chunk some is = rw is (
-      elim (nat_lt given first.need) as (λ b. nat_lt given first.need ≡ b → leb first.need given ≡ nat_lt 0 (length (cond b [] first.bytes.items))) [
-        | true ↦ λ unmet. lt-leb first.need given (ltb-true given first.need unmet)
-        | false ↦ λ met. (le-leb first.need given (ltb-false given first.need met)) ∙ sym (lt-ltb 0 (length first.bytes.items) first.some)
-      ] refl)
+    elim (nat_lt given first.need) as (λ b. nat_lt given first.need ≡ b → leb first.need given ≡ nat_lt 0 (length (cond b [] first.bytes.items))) [
+      | true ↦ λ unmet. lt-leb first.need given (ltb-true given first.need unmet)
+      | false ↦ λ met. (le-leb first.need given (ltb-false given first.need met)) ∙ sym (lt-ltb 0 (length first.bytes.items) first.some)
+    ] refl)
 
 -- a chunk holds some byte
 has_bytes : (chunk : Chunk) → chunk.bytes.items ≡ [] → ⊥
@@ -89,14 +89,14 @@ ended-nothing given (chunk ∷ chunks) ending none some =
 -- a program without an end doesn't end
 pub ended-never : (given : ℕ) (chunks : List Chunk) → ended given chunks None ≡ None
 ended-never given [] = refl
-ended-never given (chunk ∷ chunks) = rw (ended-never given chunks) (elim (nat_lt given chunk.need) as (λ b. cond {A = Option ℤ} b None None ≡ None) [ | true ↦ refl | false ↦ refl ])
+ended-never given (chunk ∷ chunks) = rw (ended-never given chunks) (elim (nat_lt given chunk.need) as (λ b. cond {A = Option ℤ} b None None ≡ None) [ true ↦ refl | false ↦ refl ])
 
 -- to begin a chunk that is ready changes nothing of what comes
 pub ready-begin : (given : ℕ) (chunk : Chunk) (chunks : List Chunk) → nat_lt 0 (length (upcoming given (chunk ∷ chunks))) ≡ true
     → (chunk.bytes.items ++ ready given chunks ≡ ready given (chunk ∷ chunks)) × (chunk.bytes.items ≡ upcoming given (chunk ∷ chunks))
 ready-begin given chunk chunks some =
     elim (nat_lt given chunk.need) as (λ b. nat_lt 0 (length (cond b [] chunk.bytes.items)) ≡ true
-        → (chunk.bytes.items ++ ready given chunks ≡ cond b [] (chunk.bytes.items ++ ready given chunks)) × (chunk.bytes.items ≡ cond b [] chunk.bytes.items)) [
+    → (chunk.bytes.items ++ ready given chunks ≡ cond b [] (chunk.bytes.items ++ ready given chunks)) × (chunk.bytes.items ≡ cond b [] chunk.bytes.items)) [
       | true ↦ λ h. absurd (cc)
       | false ↦ λ h. (refl, refl)
     ] some
@@ -112,7 +112,7 @@ ended-begin given chunk chunks ending some =
 -- to begin a chunk that is ready leaves how the program stands
 pub stands-begin : (takes : Bool) (given : ℕ) (chunk : Chunk) (chunks : List Chunk) (ending : Option Ending) → nat_lt 0 (length (upcoming given (chunk ∷ chunks))) ≡ true
     → (let now : Stand = record { gives = chunk.bytes.items ++ ready given chunks; takes = takes; ended = ended given chunks ending } in
-      let was : Stand = record { gives = ready given (chunk ∷ chunks); takes = takes; ended = ended given (chunk ∷ chunks) ending } in now ≡ was)
+    let was : Stand = record { gives = ready given (chunk ∷ chunks); takes = takes; ended = ended given (chunk ∷ chunks) ending } in now ≡ was)
 stands-begin takes given chunk chunks ending some =
     rw (← (ready-begin given chunk chunks some).0, ← ended-begin given chunk chunks ending some) refl
 

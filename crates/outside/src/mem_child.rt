@@ -57,7 +57,7 @@ impl Model for MemChild {
     } };
 
     ghost invariant = { λ c. (c.given_len ≡ count_of c.given) × (c.used ≤ length c.current.items)
-      × (c.at_end ≡ true → IsOver (drop c.used c.current.items) (count_of c.given) c.chunks.items c.ending) };
+        × (c.at_end ≡ true → IsOver (drop c.used c.current.items) (count_of c.given) c.chunks.items c.ending) };
 }
 
 impl MemChild {

@@ -1,5 +1,6 @@
 -- Sublists of a list that grows.
-use Rattle.std.proofs.Common.{ℕ, inl, inr, List, [], ◌∷◌, ◌++◌, refl}
+use Rattle.std.proofs.Common.{◌≡◌, ℕ, suc, ◌+◌, ◌<◌, inl, inr, List, [], ◌∷◌, ◌++◌, take, get_or, length, refl, arith}
+use Rattle.std.proofs.Math.Seq.{take-suc}
 use Rattle.outside.specs.Sublist.{IsSublist}
 
 -- both get the same one more
@@ -16,3 +17,11 @@ IsSublist-more [] ys y part = tt
 IsSublist-more (x ∷ xs) [] y part = absurd part
 IsSublist-more (x ∷ xs) (z ∷ ys) y (inl (same, part)) = inl (same, IsSublist-more xs ys y part)
 IsSublist-more (x ∷ xs) (z ∷ ys) y (inr part) = inr (IsSublist-more (x ∷ xs) ys y part)
+
+-- one place more was looked at, and its event is taken
+pub IsSublist-taken : (xs ys : List ℕ) (i : ℕ) (d : ℕ) → i < length ys → IsSublist xs (take i ys) → IsSublist (xs ++ get_or ys i d ∷ []) (take (i + 1) ys)
+IsSublist-taken xs ys i d within part = let next : i + 1 ≡ suc i = omega arith in rw (next, take-suc ys i d within) (IsSublist-both xs (take i ys) (get_or ys i d) part)
+
+-- one place more was looked at, and its event is passed over
+pub IsSublist-passed : (xs ys : List ℕ) (i : ℕ) (d : ℕ) → i < length ys → IsSublist xs (take i ys) → IsSublist xs (take (i + 1) ys)
+IsSublist-passed xs ys i d within part = let next : i + 1 ≡ suc i = omega arith in rw (next, take-suc ys i d within) (IsSublist-more xs (take i ys) (get_or ys i d) part)

@@ -1,9 +1,9 @@
 ghost use Rattle.std.specs.Prelude.{◌≡◌, IfOk};
 
+use crate::counts::Counts;
 use crate::ends::{InputEnd, OutputEnd};
 use crate::real_child::{Piped, RealChild};
 use crate::real_poll::RealPoll;
-use crate::counts::Counts;
 use crate::threads::{Reading, Writing, read_all, write_all};
 use crossbeam_channel::{Receiver, Sender, bounded, unbounded};
 use outside::{ByteLog, FaultCount, NoMemory, SpawnFault, Spawner};
@@ -40,8 +40,9 @@ struct Threading {
     write_event: u32,
 }
 
-impl<R: Processes<Started = SystemProcess> + Threads + Wait + Copy + Send + Sync + Drop + 'static>
-    RealSpawner<R> {
+impl<
+    R: Processes<Started = SystemProcess> + Threads + Wait + Copy + Send + Sync + Drop + 'static,
+> RealSpawner<R> {
     /// A spawner whose children have these events of the poll set, that of their output first.
     pub fn new<C: Clock + Drop>(
         alloc: Global,

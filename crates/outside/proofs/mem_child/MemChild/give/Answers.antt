@@ -14,8 +14,7 @@ returns-in-Ok-clause-fetch c =
     let most : c.min-count.result ≤ c.args.max = grind (arith, common_steps) in
     let parts = front rest (ready (count_of c.self.inside.given) c.self.inside.chunks.items) c.min-count.result within in
     let len : length c.in-Ok.bytes.items ≡ c.min-count.result = ap length given ∙ parts.0 in
-    let fetched : c.note.new.self ≡ c.self.inside.fetched ++ c.in-Ok.bytes.items = rw c.as_slice.ensures.value at c.note.ensures in
-    (
+    let fetched : c.note.new.self ≡ c.self.inside.fetched ++ c.in-Ok.bytes.items = rw c.as_slice.ensures.value at c.note.ensures in (
       c.requires.open,
       rw (← c.self.view_is) (record {
         faults = refl;

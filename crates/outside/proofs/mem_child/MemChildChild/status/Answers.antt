@@ -18,6 +18,6 @@ pub returns-clause-status : goal.returns-clause-status
 returns-clause-status c =
     let some = (c.self.invariant.2 (rw (← c.self.view_is) at c.requires)).ends in
     let status : ended (count_of c.self.inside.given) c.self.inside.chunks.items c.self.inside.ending ≡ Some c.in-Some.ending.status =
-        rw c.in-Some.is (ended-status _ c.self.inside.chunks.items c.in-Some.ending (rw c.in-Some.is at some)) in
+    rw c.in-Some.is (ended-status _ c.self.inside.chunks.items c.in-Some.ending (rw c.in-Some.is at some)) in
     let same : to_z w32 (of_z w32 c.in-Some.ending.status) ≡ c.in-Some.ending.status = search rules in
     rw (← c.self.view_is) (record { faults = search rules; status = rw same status; shows = record { shown = refl; stand = goes-on-same _ } })
