@@ -1,3 +1,4 @@
 pub mod Contents
 pub mod Counts
+pub mod Programs
 pub mod Sublists

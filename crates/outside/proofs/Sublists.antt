@@ -1,5 +1,6 @@
 -- Sublists of a list of events.
-use Rattle.std.proofs.Common.{ℕ, zero, suc, ◌≤◌, Bool, true, false, inl, inr, List, [], ◌∷◌, filter, count_by, Contains, cond, refl, sym, ◌∙◌, arith}
+use Rattle.std.proofs.Common.{◌≡◌, ℕ, zero, suc, ◌≤◌, Bool, true, false, inl, inr, List, [], ◌∷◌, filter, count_by, Contains, cond, refl, sym, ◌∙◌, arith}
+use Rattle.std.specs.List.{AllByRecursion, IsDistinct}
 use Rattle.std.proofs.lemmas.List.Sums.{sum_by-cons}
 use Rattle.outside.specs.Sublist.{IsSublist}
 
@@ -42,3 +43,18 @@ IsSublist-Contains (z ∷ zs) (y ∷ ys) x (inl (same, part)) (suc k, within, he
     let (j, below, there) = IsSublist-Contains zs ys x part (k, omega arith, here) in (suc j, omega arith, there)
 IsSublist-Contains (z ∷ zs) (y ∷ ys) x (inr part) found =
     let (j, below, there) = IsSublist-Contains (z ∷ zs) ys x part found in (suc j, omega arith, there)
+
+all-part : (P : ℕ → Type 0) (xs ys : List ℕ) → IsSublist xs ys → AllByRecursion P ys → AllByRecursion P xs
+all-part P [] ys part all = tt
+all-part P (x ∷ xs) [] part all = absurd part
+all-part P (x ∷ xs) (y ∷ ys) (inl (same, part)) all = (rw same all.0, all-part P xs ys part all.1)
+all-part P (x ∷ xs) (y ∷ ys) (inr part) all = all-part P (x ∷ xs) ys part all.1
+
+-- a sublist of distinct events is distinct
+pub IsSublist-distinct : (e : ℕ → ℕ → Bool) (xs ys : List ℕ) → IsSublist xs ys → IsDistinct e ys → IsDistinct e xs
+unfolding IsDistinct
+IsSublist-distinct e [] ys part once = tt
+IsSublist-distinct e (x ∷ xs) [] part once = absurd part
+IsSublist-distinct e (x ∷ xs) (y ∷ ys) (inl (same, part)) once =
+    (rw same (all-part (λ z. e y z ≡ false) xs ys part once.0), IsSublist-distinct e xs ys part once.1)
+IsSublist-distinct e (x ∷ xs) (y ∷ ys) (inr part) once = IsSublist-distinct e (x ∷ xs) ys part once.1

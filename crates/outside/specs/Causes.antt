@@ -1,6 +1,7 @@
 -- Why a call on files, a sink or a poll set answers as it does.
 -- A count of faults is told before and after the call. What an object holds is `None` where it doesn't tell.
-use Rattle.std.specs.Prelude.{◌≡◌, ◌≢◌, ℕ, ◌-◌, ◌^◌, ◌<◌, ◌≤◌, ◌⊎◌, List, ◌++◌, length, Option, None, Some, IfSome, IsSome, IsSomeAnd}
+use Rattle.std.specs.Prelude.{◌≡◌, ◌≢◌, ◌==◌, ℕ, ◌+◌, ◌-◌, ◌^◌, ◌<◌, ◌≤◌, min, List, ◌++◌, length, Option, None, Some, IfSome, IsSome, IsSomeAnd}
+use Rattle.std.specs.List.{IsDistinct}
 use Rattle.std.specs.Option.{option_map}
 use Rattle.outside.specs.declared.files.FileFault.{FileFault}
 use Rattle.outside.specs.declared.files.FileFault.TheVariants.{Failed, Over, NoMemory, Missing}
@@ -14,7 +15,7 @@ Told = Option (List ℕ → Option (List ℕ))
 
 -- a count of faults rose, or stands at its end, the greatest `u64`
 abbrev pub Rose : ℕ → ℕ → Type 0
-Rose before after = (before < after) ⊎ (after ≡ 2 ^ 64 - 1)
+Rose before after = min (before + 1) (2 ^ 64 - 1) ≤ after
 
 -- `read` answered these bytes: the whole file, which has at most max of them
 abbrev pub ReadOk : ℕ → ℕ → Told → List ℕ → ℕ → List ℕ → Type 0
@@ -52,11 +53,11 @@ abbrev pub PutErr : ℕ → ℕ → Option (List ℕ) → Option (List ℕ) → 
 PutErr before after None new bytes = Rose before after × (new ≡ None)
 PutErr before after (Some written) new bytes = Rose before after × ((part : List ℕ) × (rest : List ℕ) × (bytes ≡ part ++ rest) × (new ≡ Some (written ++ part)))
 
--- `wait` answered these events: some of the armed ones, in their order
-abbrev pub WaitOk : ℕ → ℕ → Option (List ℕ) → Option (List ℕ) → List ℕ → List ℕ → Type 0
-WaitOk before after old new armed events = (after ≡ before) × IsSublist events armed × (new ≡ option_map (λ answered. answered ++ events) old)
+-- `wait` answered these events: some of the armed ones, in their order, each once
+abbrev pub WaitOk : ℕ → ℕ → List ℕ → List ℕ → List ℕ → List ℕ → Type 0
+WaitOk before after old new armed events = (after ≡ before) × IsSublist events armed × IsDistinct (λ a b. a == b) events × (new ≡ old ++ events)
 
 -- `wait` answered this fault, and no event
-abbrev pub WaitErr : ℕ → ℕ → Option (List ℕ) → Option (List ℕ) → PollFault → Type 0
+abbrev pub WaitErr : ℕ → ℕ → List ℕ → List ℕ → PollFault → Type 0
 WaitErr before after old new poll.Failed = Rose before after × (new ≡ old)
 WaitErr before after old new poll.NoMemory = (after ≡ before) × (new ≡ old)

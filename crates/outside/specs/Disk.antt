@@ -2,6 +2,7 @@
 use Rattle.std.specs.Prelude.{◌≡◌, ◌≢◌, ℕ, List, Option, Some, find}
 use Rattle.std.specs.Option.{option_map}
 use Rattle.std.specs.Str.{bytes_eq}
+use Rattle.outside.specs.Log.{NamedBytes}
 use Rattle.outside.specs.Plan.{Plan}
 
 -- a file: its name and its bytes
@@ -9,11 +10,15 @@ pub record File : Type 0 where
   pub name : List ℕ
   pub bytes : List ℕ
 
--- the files that are held, and the calls that were made and are to fail
+-- the files that are held, the calls that were made and are to fail, their faults, and what they answered
 pub record Disk : Type 0 where
   pub files : List File
   pub reads : Plan
   pub writes : Plan
+  pub read_faults : ℕ
+  pub write_faults : ℕ
+  pub answered : List NamedBytes
+  pub wrote : List NamedBytes
 
 -- the bytes held under a name
 abbrev pub contents : List File → List ℕ → Option (List ℕ)

@@ -1,6 +1,11 @@
 pub mod Causes
+pub mod Children
 pub mod Disk
+pub mod Log
 pub mod Plan
+pub mod Programs
 pub mod Rounds
+pub mod Spawning
+pub mod Starting
 pub mod Sublist
 pub mod Tape

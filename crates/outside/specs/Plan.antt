@@ -2,19 +2,18 @@
 use Rattle.std.specs.Prelude.{ℕ, ◌+◌, ◌-◌, ◌^◌, min, Bool, ◌==◌, if◌then◌else◌, List, [], ◌∷◌, ◌++◌}
 use Rattle.std.specs.List.{list_any}
 
--- how many calls were made, the numbers of those that are to fail, from 0, and how many failed
+-- how many calls were made, and the numbers of those that are to fail, from 0
 pub record Plan : Type 0 where
   pub calls : ℕ
   pub failing : List ℕ
-  pub faults : ℕ
 
 -- no call was made, and none is to fail
 abbrev pub no_calls : Plan
-no_calls = record { calls = 0; failing = []; faults = 0 }
+no_calls = record { calls = 0; failing = [] }
 
 -- the plan with one more call that is to fail
 abbrev pub with_fault : Plan → ℕ → Plan
-with_fault plan number = record { calls = plan.calls; failing = plan.failing ++ number ∷ []; faults = plan.faults }
+with_fault plan number = record { calls = plan.calls; failing = plan.failing ++ number ∷ [] }
 
 -- one more, up to the greatest `u64`
 abbrev pub counted : ℕ → ℕ
@@ -26,8 +25,8 @@ fails plan = list_any (λ number. number == plan.calls) plan.failing
 
 -- the plan once the next call was made
 abbrev pub after_call : Plan → Plan
-after_call plan = record {
-  calls = counted plan.calls;
-  failing = plan.failing;
-  faults = if fails plan then counted plan.faults else plan.faults;
-}
+after_call plan = record { calls = counted plan.calls; failing = plan.failing }
+
+-- a count of faults once the next call was made
+abbrev pub faults_after : Plan → ℕ → ℕ
+faults_after plan faults = if fails plan then counted faults else faults

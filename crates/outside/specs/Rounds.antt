@@ -3,11 +3,12 @@ use Rattle.std.specs.Prelude.{ℕ, ◌==◌, if◌then◌else◌, List, [], ◌�
 use Rattle.std.specs.List.{list_any}
 use Rattle.outside.specs.Plan.{Plan}
 
--- the rounds that are left, the events answered so far, and the waits made and to fail
+-- the rounds that are left, the events answered so far, the waits made and to fail, and their faults
 pub record Rounds : Type 0 where
   pub rounds : List (List ℕ)
   pub answered : List ℕ
   pub waits : Plan
+  pub faults : ℕ
 
 -- the armed events that are in a round
 abbrev pub ready_of : List ℕ → List ℕ → List ℕ

@@ -1,28 +1,24 @@
 ghost use Rattle.std.specs.Prelude.{◌≡◌, ◌^◌, ◌<◌, ◌≤◌, OnOk, OnErr, MatchBool};
 ghost use Rattle.outside.specs.Causes.{Rose};
-ghost use Rattle.outside.specs.Plan.{counted, fails, after_call, no_calls, with_fault};
+ghost use Rattle.outside.specs.Plan.{fails, after_call, faults_after, no_calls, with_fault};
 
-use crate::NoMemory;
+use crate::{FaultCount, NoMemory};
 use std::alloc::Global;
 use std::marker::Model;
 
-/// The calls of one kind on an object in memory: those that were made, and those that are to fail.
+/// The calls of one kind on an object in memory: how many were made, and which are to fail.
 #[derive(Debug, Drop)]
 pub(crate) struct CallPlan {
     calls: u64,
     failing: Vec<u64>,
-    faults: u64,
 }
 
 impl Model for CallPlan {
-    ghost use Rattle.std.specs.Prelude.{◌<◌, ◌^◌};
     ghost use Rattle.outside.specs.Plan.{Plan};
 
     ghost Value = { Plan };
 
-    ghost view = { λ p. record { calls = p.calls; failing = p.failing.items; faults = p.faults } };
-
-    ghost invariant = { λ p. p.faults < 2 ^ 64 };
+    ghost view = { λ p. record { calls = p.calls; failing = p.failing.items } };
 }
 
 impl CallPlan {
@@ -32,7 +28,6 @@ impl CallPlan {
         CallPlan {
             calls: 0,
             failing: Vec::new(alloc),
-            faults: 0,
         }
     }
 
@@ -47,31 +42,21 @@ impl CallPlan {
         }
     }
 
-    /// Counts the next call, and returns whether it is to fail.
-    pub(crate) fn next_fails(&mut self) -> bool
+    /// Counts the next call, and a fault where it is to fail. Returns whether it is to fail.
+    pub(crate) fn next_fails(&mut self, faults: &mut FaultCount) -> bool
         ensures answer { result ≡ fails self.old }
         ensures after { self.new ≡ after_call self.old }
+        ensures faults { faults.new ≡ faults_after self.old faults.old }
 
         // What the count of faults did.
-        ensures count { MatchBool result (Rose self.old.faults self.new.faults) (self.new.faults ≡ self.old.faults) }
-        ensures rises { self.old.faults ≤ self.new.faults }
-        ensures within { self.new.faults < 2 ^ 64 }
+        ensures count { MatchBool result (Rose faults.old faults.new) (faults.new ≡ faults.old) }
+        ensures rises { faults.old ≤ faults.new }
     {
         let is_failing = self.failing.contains(&self.calls);
         self.calls = self.calls.saturating_add(1);
         if is_failing {
-            self.faults = self.faults.saturating_add(1);
+            faults.rise();
         }
         is_failing
-    }
-
-    /// Counts a fault that wasn't planned.
-    pub(crate) fn count_fault(&mut self)
-        ensures after { self.new ≡ record self.old { faults = counted self.old.faults } }
-        ensures count { Rose self.old.faults self.new.faults }
-        ensures rises { self.old.faults ≤ self.new.faults }
-        ensures within { self.new.faults < 2 ^ 64 }
-    {
-        self.faults = self.faults.saturating_add(1);
     }
 }

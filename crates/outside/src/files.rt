@@ -1,5 +1,6 @@
 ghost use Rattle.std.specs.Prelude.{◌≡◌, ℕ, ◌^◌, ◌<◌, ◌≤◌, List, Option, MatchResult};
 ghost use Rattle.outside.specs.Causes.{ReadOk, ReadErr, WriteOk, WriteErr};
+ghost use Rattle.outside.specs.Log.{NamedBytes, noted};
 
 use std::alloc::{AllocError, Global};
 
@@ -40,24 +41,32 @@ pub trait Files {
     /// What the object tells that each name holds.
     ghost told: { Self → Option (List ℕ → Option (List ℕ)) };
 
+    /// The name and the bytes of each read that answered `Ok`, oldest first.
+    ghost answered: { Self → List NamedBytes };
+
+    /// The name and the bytes of each write that answered `Ok`, oldest first.
+    ghost wrote: { Self → List NamedBytes };
+
     /// Reads the whole named file, if it has at most `max` bytes.
     fn read(&mut self, alloc: Global, name: &str, max: u64) -> Result<Vec<u8>, FileFault>
         ensures read { MatchResult result
             (λ bytes. ReadOk (reads self.old) (reads self.new) (told self.old) name.now max bytes.items)
             (λ fault. ReadErr (reads self.old) (reads self.new) (told self.old) name.now max fault) }
         ensures rises { reads self.old ≤ reads self.new }
-        ensures within { reads self.new < 2 ^ 64 }
         ensures writes { writes self.new ≡ writes self.old }
-        ensures told { told self.new ≡ told self.old };
+        ensures told { told self.new ≡ told self.old }
+        ensures answered { MatchResult result (λ bytes. answered self.new ≡ noted (answered self.old) name.now bytes.items) (λ _. answered self.new ≡ answered self.old) }
+        ensures wrote { wrote self.new ≡ wrote self.old };
 
     /// Makes `bytes` the whole named file, and makes the file where there is none.
     ///
     /// It answers `Failed` or `NoMemory` alone. After `Failed` the named file is unknown.
-    fn write(&mut self, name: &str, bytes: &[u8]) -> Result<(), FileFault>
+    fn write(&mut self, alloc: Global, name: &str, bytes: &[u8]) -> Result<(), FileFault>
         ensures write { MatchResult result
             (λ _. WriteOk (writes self.old) (writes self.new) (told self.old) (told self.new) name.now bytes.now)
             (λ fault. WriteErr (writes self.old) (writes self.new) (told self.old) (told self.new) name.now fault) }
         ensures rises { writes self.old ≤ writes self.new }
-        ensures within { writes self.new < 2 ^ 64 }
-        ensures reads { reads self.new ≡ reads self.old };
+        ensures reads { reads self.new ≡ reads self.old }
+        ensures wrote { MatchResult result (λ _. wrote self.new ≡ noted (wrote self.old) name.now bytes.now) (λ _. wrote self.new ≡ wrote self.old) }
+        ensures answered { answered self.new ≡ answered self.old };
 }

@@ -1,11 +1,12 @@
-ghost use Rattle.std.specs.Prelude.{◌≡◌, ◌^◌, ◌<◌, ◌≤◌, ◌↔◌, [], ◌∷◌, ◌++◌, Some, IsTrue, OnOk, OnErr, IfOk, IsErrOf, MatchResult};
+ghost use Rattle.std.specs.Prelude.{◌≡◌, ◌==◌, ◌^◌, ◌<◌, ◌≤◌, ◌↔◌, [], ◌∷◌, ◌++◌, IsTrue, OnOk, OnErr, IfOk, IsErrOf, MatchResult};
+ghost use Rattle.std.specs.List.{IsDistinct};
 ghost use Rattle.outside.specs.Causes.{WaitOk, WaitErr};
-ghost use Rattle.outside.specs.Plan.{fails, after_call, no_calls, with_fault};
+ghost use Rattle.outside.specs.Plan.{fails, after_call, faults_after, no_calls, with_fault};
 ghost use Rattle.outside.specs.Sublist.{IsSublist};
 ghost use Rattle.outside.specs.Rounds.{found, ready_of, rounds_left};
 
 use crate::call_plan::CallPlan;
-use crate::{NoMemory, PollFault, PollSet};
+use crate::{FaultCount, NoMemory, PollFault, PollSet};
 use std::alloc::{AllocError, Global};
 use std::collections::VecDeque;
 use std::marker::Model;
@@ -53,6 +54,7 @@ pub struct MemPoll {
     rounds: VecDeque<Round>,
     answered: Vec<u32>,
     waits: CallPlan,
+    faults: FaultCount,
 }
 
 impl Model for MemPoll {
@@ -60,7 +62,7 @@ impl Model for MemPoll {
 
     ghost Value = { Rounds };
 
-    ghost view = { λ p. record { rounds = p.rounds.items; answered = p.answered.items; waits = p.waits } };
+    ghost view = { λ p. record { rounds = p.rounds.items; answered = p.answered.items; waits = p.waits; faults = p.faults } };
 }
 
 impl MemPoll {
@@ -70,12 +72,14 @@ impl MemPoll {
           rounds = [];
           answered = [];
           waits = no_calls;
+          faults = 0;
         } }
     {
         MemPoll {
             rounds: VecDeque::new(alloc),
             answered: Vec::new(alloc),
             waits: CallPlan::new(alloc),
+            faults: FaultCount::new(),
         }
     }
 
@@ -104,8 +108,10 @@ impl MemPoll {
     }
 
     fn ready(&self, alloc: Global, armed: &[u32]) -> Result<Vec<u32>, AllocError>
+        requires { IsDistinct (λ a b. a == b) armed.now }
         ensures value { IfOk result (λ events. events.items ≡ found self.now.rounds armed.now) }
         ensures part { IfOk result (λ events. IsSublist events.items armed.now) }
+        ensures once { IfOk result (λ events. IsDistinct (λ a b. a == b) events.items) }
     {
         match self.rounds.front() {
             None => Vec::from_slice(alloc, armed),
@@ -115,25 +121,25 @@ impl MemPoll {
 }
 
 impl PollSet for MemPoll {
-    ghost faults = { λ p. p.waits.faults };
+    ghost faults = { λ p. p.faults };
 
-    ghost answered = { λ p. Some p.answered };
+    ghost answered = { λ p. p.answered };
 
     fn wait(&mut self, alloc: Global, armed: &[u32]) -> Result<Vec<u32>, PollFault>
+        requires { IsDistinct (λ a b. a == b) armed.now }
         ensures wait { MatchResult result
-            (λ events. WaitOk self.old.waits.faults self.new.waits.faults (Some self.old.answered) (Some self.new.answered) armed.now events.items)
-            (λ fault. WaitErr self.old.waits.faults self.new.waits.faults (Some self.old.answered) (Some self.new.answered) fault) }
-        ensures rises { self.old.waits.faults ≤ self.new.waits.faults }
-        ensures within { self.new.waits.faults < 2 ^ 64 }
+            (λ events. WaitOk self.old.faults self.new.faults self.old.answered self.new.answered armed.now events.items)
+            (λ fault. WaitErr self.old.faults self.new.faults self.old.answered self.new.answered fault) }
+        ensures rises { self.old.faults ≤ self.new.faults }
 
         // A wait fails exactly where it is to fail, and answers by the rounds that are left.
         ensures planned { IsErrOf result PollFault.Failed ↔ IsTrue (fails self.old.waits) }
-        ensures after { self.new.waits ≡ after_call self.old.waits }
+        ensures after { (self.new.waits ≡ after_call self.old.waits) × (self.new.faults ≡ faults_after self.old.waits self.old.faults) }
         ensures events { IfOk result (λ events. events.items ≡ found self.old.rounds armed.now) }
         ensures rounds { OnOk result (self.new.rounds ≡ rounds_left self.old.rounds armed.now) }
         ensures err { OnErr result (self.new.rounds ≡ self.old.rounds) }
     {
-        if self.waits.next_fails() {
+        if self.waits.next_fails(&mut self.faults) {
             return Err(PollFault::Failed);
         }
         let events = self.ready(alloc, armed)?;

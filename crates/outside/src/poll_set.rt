@@ -1,4 +1,5 @@
-ghost use Rattle.std.specs.Prelude.{◌≡◌, ℕ, ◌^◌, ◌<◌, ◌≤◌, List, Option, MatchResult};
+ghost use Rattle.std.specs.Prelude.{◌≡◌, ◌==◌, ℕ, ◌^◌, ◌<◌, ◌≤◌, List, MatchResult};
+ghost use Rattle.std.specs.List.{IsDistinct};
 ghost use Rattle.outside.specs.Causes.{WaitOk, WaitErr};
 
 use std::alloc::{AllocError, Global};
@@ -29,15 +30,15 @@ pub trait PollSet {
     /// The waits that failed.
     ghost faults: { Self → ℕ };
 
-    /// All events that waits answered so far, in order, where the object tells it.
-    ghost answered: { Self → Option (List ℕ) };
+    /// All events that waits answered so far, in order.
+    ghost answered: { Self → List ℕ };
 
-    /// Answers some of the armed events, in their order. Where each stands once in `armed`, each is
-    /// answered once at most. An empty answer says nothing.
+    /// Answers some of the armed events, in their order, each once at most. An empty answer says
+    /// nothing.
     fn wait(&mut self, alloc: Global, armed: &[u32]) -> Result<Vec<u32>, PollFault>
+        requires { IsDistinct (λ a b. a == b) armed.now }
         ensures wait { MatchResult result
             (λ events. WaitOk (faults self.old) (faults self.new) (answered self.old) (answered self.new) armed.now events.items)
             (λ fault. WaitErr (faults self.old) (faults self.new) (answered self.old) (answered self.new) fault) }
-        ensures rises { faults self.old ≤ faults self.new }
-        ensures within { faults self.new < 2 ^ 64 };
+        ensures rises { faults self.old ≤ faults self.new };
 }

@@ -1,7 +1,7 @@
-ghost use Rattle.std.specs.Prelude.{◌≡◌, ◌<◌, ◌≤◌, ◌^◌, None, IfOk, IfSome, IsErrOf, length};
+ghost use Rattle.std.specs.Prelude.{◌≡◌, ◌<◌, ◌≤◌, [], None, IfOk, IfSome, IsErrOf, length};
 
 use crate::real_sink::write_out;
-use crate::{FileFault, Files};
+use crate::{FaultCount, FileFault, FileLog, Files};
 use std::alloc::Global;
 use std::io::{ErrorKind, Read};
 use std::{fs, io, rt};
@@ -12,10 +12,10 @@ use std::{fs, io, rt};
 #[derive(Debug, Drop)]
 pub struct RealFiles<R> {
     rt: R,
-    reads: u64,
-    writes: u64,
-    ghost reads_fit: { reads < 2 ^ 64 },
-    ghost writes_fit: { writes < 2 ^ 64 },
+    reads: FaultCount,
+    writes: FaultCount,
+    answered: FileLog,
+    wrote: FileLog,
 }
 
 impl<R: rt::Files> RealFiles<R> {
@@ -23,11 +23,15 @@ impl<R: rt::Files> RealFiles<R> {
     pub fn new(rt: R) -> Self
         ensures reads { ⟦<RealFiles<R> as Files>⟧.reads result ≡ 0 }
         ensures writes { ⟦<RealFiles<R> as Files>⟧.writes result ≡ 0 }
+        ensures answered { ⟦<RealFiles<R> as Files>⟧.answered result ≡ [] }
+        ensures wrote { ⟦<RealFiles<R> as Files>⟧.wrote result ≡ [] }
     {
         RealFiles {
             rt,
-            reads: 0,
-            writes: 0,
+            reads: FaultCount::new(),
+            writes: FaultCount::new(),
+            answered: FileLog::new(),
+            wrote: FileLog::new(),
         }
     }
 
@@ -70,23 +74,31 @@ impl<R: rt::Files> Files for RealFiles<R> {
 
     ghost told = { λ _. None };
 
+    ghost answered = { λ f. f.answered };
+
+    ghost wrote = { λ f. f.wrote };
+
     fn read(&mut self, alloc: Global, name: &str, max: u64) -> Result<Vec<u8>, FileFault> {
         match self.read_file(alloc, name, max) {
-            Ok(bytes) => Ok(bytes),
+            Ok(bytes) => {
+                self.answered.note(name, bytes.as_slice());
+                Ok(bytes)
+            }
             Err(FileFault::Over) => Err(FileFault::Over),
             Err(FileFault::NoMemory) => Err(FileFault::NoMemory),
             Err(_) => {
-                self.reads = self.reads.saturating_add(1);
+                self.reads.rise();
                 Err(FileFault::Failed)
             }
         }
     }
 
-    fn write(&mut self, name: &str, bytes: &[u8]) -> Result<(), FileFault> {
+    fn write(&mut self, _alloc: Global, name: &str, bytes: &[u8]) -> Result<(), FileFault> {
         if self.write_file(name, bytes).is_err() {
-            self.writes = self.writes.saturating_add(1);
+            self.writes.rise();
             return Err(FileFault::Failed);
         }
+        self.wrote.note(name, bytes);
         Ok(())
     }
 }

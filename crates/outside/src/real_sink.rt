@@ -1,7 +1,7 @@
-ghost use Rattle.std.specs.Prelude.{◌≡◌, ◌<◌, ◌^◌, None, OnOk};
+ghost use Rattle.std.specs.Prelude.{◌≡◌, [], None, OnOk};
 ghost use Rattle.std.specs.Io.KnownBytes.{Appends};
 
-use crate::{Sink, SinkFault};
+use crate::{ByteLog, FaultCount, Sink, SinkFault};
 use std::io;
 use std::io::Write;
 
@@ -12,16 +12,21 @@ use std::io::Write;
 #[derive(Debug, Drop)]
 pub struct RealSink<R> {
     rt: R,
-    faults: u64,
-    ghost faults_fit: { faults < 2 ^ 64 },
+    faults: FaultCount,
+    took: ByteLog,
 }
 
 impl<R: Print> RealSink<R> {
     /// The output that `rt` reaches.
     pub fn new(rt: R) -> Self
-        ensures { ⟦<RealSink<R> as Sink>⟧.faults result ≡ 0 }
+        ensures faults { ⟦<RealSink<R> as Sink>⟧.faults result ≡ 0 }
+        ensures took { ⟦<RealSink<R> as Sink>⟧.took result ≡ [] }
     {
-        RealSink { rt, faults: 0 }
+        RealSink {
+            rt,
+            faults: FaultCount::new(),
+            took: ByteLog::new(),
+        }
     }
 }
 
@@ -38,11 +43,14 @@ impl<R: Print> Sink for RealSink<R> {
 
     ghost written = { λ _. None };
 
+    ghost took = { λ s. s.took };
+
     fn put(&mut self, bytes: &[u8]) -> Result<(), SinkFault> {
         if write_out(&mut io::writer(&self.rt), bytes).is_err() {
-            self.faults = self.faults.saturating_add(1);
+            self.faults.rise();
             return Err(SinkFault::Failed);
         }
+        self.took.note(bytes);
         Ok(())
     }
 }

@@ -8,8 +8,8 @@ returns-then-next_fails-clause-put c =
     let part = c.self.inside.part in
     let bytes = c.args.bytes.now in (
       search rules,
-      elim c.append_part.ensures.written [
-        | inl taken ↦ (take part bytes, drop part bytes, sym (take-append-drop part bytes), ap Some (rw (← c.self.view_is) taken))
-        | inr unchanged ↦ ([], bytes, refl, ap Some (rw (← c.self.view_is, append-nil) unchanged))
+      elim c.append_part.ensures.part [
+        | inl took ↦ (take part bytes, drop part bytes, sym (take-append-drop part bytes), ap Some (rw (← c.self.view_is) took.written))
+        | inr none ↦ ([], bytes, refl, ap Some (rw (← c.self.view_is, append-nil) none.written))
       ],
     )
