@@ -3,9 +3,9 @@ ghost use Rattle.std.specs.Prelude.{All, IfOk};
 ghost use Rattle.port_hosts.specs.Hosts.{IsUnused};
 
 use crate::runs::{ABC, echoes, report_of};
-use gateway::{Hosted, PortReport, ProcReport, Report, host_drivers};
 use call_receipts::Receipt;
 use driver_entry::{Driver, Store};
+use gateway::{Hosted, PortReport, ProcReport, Report, host_drivers};
 use port_signal::{Answer, Effect, IoVec, Mail, Piece, Row, Sender, Signal};
 use std::alloc::Global;
 use std::test::Fail;

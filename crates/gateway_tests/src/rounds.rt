@@ -1,11 +1,11 @@
 ghost use Rattle.std.specs.Prelude.{◌≡◌, ◌<◌, length, IfOk};
 ghost use Rattle.process_rounds.specs.Rounds.{AreNew, IsNew};
 
-use process_rounds::{Left, run_processes};
 use call_receipts::Outcome;
 use driver_entry::{Config, Driver, Echo, Life, Tally, Valve};
 use port_engine::{Body, BodyParts};
 use port_signal::{Answer, Mail};
+use process_rounds::{Left, run_processes};
 use script_reader::read_script;
 use std::alloc::{AllocError, Global};
 use std::sync::Wait;

@@ -1,8 +1,8 @@
 ghost use Rattle.std.specs.Prelude.{All, IfOk};
 ghost use Rattle.port_hosts.specs.Hosts.{IsUnused};
 
-use gateway::{Cause, Ended, Hosted, Report, ScriptFault, gateway, host_drivers, script_name};
 use driver_entry::{Driver, Echo, Life, Refuse, Refused, StartRefusal, Store, Tally, Valve};
+use gateway::{Cause, Ended, Hosted, Report, ScriptFault, gateway, host_drivers, script_name};
 use outside::{MemFiles, MemPoll, MemSink, OpenGate};
 use std::alloc::Global;
 use std::sync::Wait;

@@ -5,9 +5,9 @@ ghost use Rattle.port_signal.specs.declared.row.Row.TheVariants.{Handled, Late};
 ghost use Rattle.port_signal.specs.declared.signal.Sender.TheVariants.{Process};
 ghost use Rattle.gateway_report.specs.End.{HasEnded, IsFrom};
 
-use gateway_report::{Cause, PortReport, ProcReport, Report, ScriptFault, cause_text, report_text};
 use call_receipts::{Outcome, Receipt};
 use driver_entry::{Config, StartRefusal};
+use gateway_report::{Cause, PortReport, ProcReport, Report, ScriptFault, cause_text, report_text};
 use io_vector::{Flag, IoVec, Piece};
 use port_signal::{Answer, Items, Journal, Log, Mail, MarkKind, Row, Sender, Signal, Task, reason};
 use std::alloc::Global;

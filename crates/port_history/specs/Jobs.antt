@@ -1,6 +1,5 @@
 -- The jobs of a port: which were submitted, and which were told done.
 use Rattle.std.specs.Prelude.{ℕ, ◌==◌, List, [], ◌∷◌, ◌++◌, Bool, true, false, ◌&&◌, ◌||◌, not, nat_lt, if◌then◌else◌, reverse, sum}
-
 use Rattle.std.specs.List.{list_any, list_all}
 use Rattle.port_model.specs.declared.signal.Signal.{Signal}
 use Rattle.port_model.specs.declared.signal.Signal.TheVariants.{AsyncDone}

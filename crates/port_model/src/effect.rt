@@ -7,7 +7,10 @@ use port_signal::Reason;
 #[derive(Drop)]
 pub enum Effect {
     /// Data for the port's owner, as by `driver_output`.
-    Message { flag: Flag, bytes: Piece },
+    Message {
+        flag: Flag,
+        bytes: Piece,
+    },
     /// The owner is told that the program's output has ended, as by the option `eof` of open_port.
     Eof,
     /// The owner is told the program's status, as by the option `exit_status` of open_port.
@@ -15,7 +18,11 @@ pub enum Effect {
     /// Whether the port takes no commands from now on, as by `set_busy_port`.
     Busy(bool),
     /// Whether the driver is called when this event is ready in this direction, as by `driver_select`.
-    Select { event: u32, dir: Dir, on: bool },
+    Select {
+        event: u32,
+        dir: Dir,
+        on: bool,
+    },
     /// The driver gives this event up, as by `driver_select` with `ERL_DRV_USE` and `on` 0.
     Unuse(u32),
     /// A job for a worker, as by `driver_async`. Jobs of a port are numbered from 0; those of one key are done in order.

@@ -1,5 +1,5 @@
-use script_text::{PartFault, read_io_list, read_number, read_term, read_text};
 use port_terms::{IoList, Term, encode, flatten, term_depth};
+use script_text::{PartFault, read_io_list, read_number, read_term, read_text};
 use std::alloc::{AllocError, Global};
 use std::test::Fail;
 

@@ -1,5 +1,5 @@
-use script_reader::{Act, Script, ScriptFault, read_script};
 use port_terms::{IoList, flatten};
+use script_reader::{Act, Script, ScriptFault, read_script};
 use std::alloc::{AllocError, Global};
 use std::test::Fail;
 

@@ -1,4 +1,7 @@
-use port_terms::{AtomFault, IoList, NoMemory, Term, TermFault, atom, decode, encode, flatten, octets, parts, term_copy, term_depth, term_size, terms};
+use port_terms::{
+    AtomFault, IoList, NoMemory, Term, TermFault, atom, decode, encode, flatten, octets, parts,
+    term_copy, term_depth, term_size, terms,
+};
 use std::alloc::Global;
 use std::test::Fail;
 
