@@ -1,9 +1,8 @@
 -- How often a poller tells of an entry.
-use Rattle.std.proofs.Common.{◌≡◌, ℕ, ◌+◌, ◌≤◌, ◌==◌, Bool, true, false, ◌||◌, ◌&&◌, List, [], ◌∷◌, ◌++◌, length, map, filter, drop, count_by, cond, refl, sym, ap, ◌∙◌, subst, arith, Option, None, Some, eqb-true, append_assoc}
+use Rattle.std.proofs.Common.{◌≡◌, ℕ, ◌+◌, ◌≤◌, ◌==◌, Bool, true, false, ◌||◌, ◌&&◌, List, [], ◌∷◌, ◌++◌, length, map, filter, drop, count_by, cond, refl, sym, ap, ◌∙◌, subst, arith, eqb-true, append_assoc}
 use Rattle.std.specs.List.{list_any, AllByRecursion}
 use Rattle.std.specs.List.Sorted.{IsStrictlySortedBy}
 use Rattle.std.specs.declared.cmp.Ordering.TheVariants.{Less}
-use Rattle.std.specs.Option.{option_map}
 use Rattle.std.proofs.lemmas.List.Sums.{sum_by-cons, sum_by-append}
 use Rattle.ready_select.specs.declared.armed.Armed.{Armed}
 use Rattle.ready_select.specs.declared.ask.PollAsk.{PollAsk}
@@ -98,44 +97,42 @@ drop_front [] ys = refl
 drop_front (x ∷ xs) ys = drop_front xs ys
 
 -- a round that appends the drops and the entries that were answered
-pub answered-round : (before : Option (List ℕ)) (after : Option (List ℕ)) (events : List ℕ) (asks : List PollAsk) (t : List Armed) (found found1 found2 : List PollAsk) → IsStrictlySortedBy armed_cmp t
-    → after ≡ option_map (λ answered. answered ++ events) before → found1 ≡ found ++ filter is_drop asks → found2 ≡ found1 ++ map arm_ask (filter (λ b. has b.event events) t)
+pub answered-round : (before after : List ℕ) (events : List ℕ) (asks : List PollAsk) (t : List Armed) (found found1 found2 : List PollAsk) → IsStrictlySortedBy armed_cmp t
+    → after ≡ before ++ events → found1 ≡ found ++ filter is_drop asks → found2 ≡ found1 ++ map arm_ask (filter (λ b. has b.event events) t)
     → IsAnswered before after (drop (length found) found2)
-answered-round None after events asks t found found1 found2 sorted told given arms = tt
-answered-round (Some before) after events asks t found found1 found2 sorted told given arms =
-    subst (λ now. IsAnswered (Some before) now (drop (length found) found2)) (sym told)
-    (λ a. subst (λ added. count_by (tells a) added + times a.event before ≤ times a.event (before ++ events)) (sym whole)
-    (let zero_drops = drops_tell_nothing a asks in
-    let few = once a (λ e. has e events) t sorted in
-    let some = at_least_once a.event events in
-    rw (count-append (tells a) (filter is_drop asks) (map arm_ask (filter (λ b. has b.event events) t)), count-append (λ e. e == a.event) before events, zero_drops, count-arm_asks a (filter (λ b. has b.event events) t)) (omega arith)))
+answered-round before after events asks t found found1 found2 sorted told given arms =
+    subst (λ now. IsAnswered before now (drop (length found) found2)) (sym told)
+    (record {
+      each = λ a. subst (λ added. count_by (tells a) added + times a.event before ≤ times a.event (before ++ events)) (sym whole)
+          (let zero_drops = drops_tell_nothing a asks in
+          let few = once a (λ e. has e events) t sorted in
+          let some = at_least_once a.event events in
+          rw (count-append (tells a) (filter is_drop asks) (map arm_ask (filter (λ b. has b.event events) t)), count-append (λ e. e == a.event) before events, zero_drops, count-arm_asks a (filter (λ b. has b.event events) t)) (omega arith));
+    })
   where
     whole : drop (length found) found2 ≡ filter is_drop asks ++ map arm_ask (filter (λ b. has b.event events) t)
     whole = ap (drop (length found)) (arms ∙ ap (λ xs. xs ++ map arm_ask (filter (λ b. has b.event events) t)) given ∙ append_assoc found _ _) ∙ drop_front found _
 
 -- a round that appends the drops alone
-pub answered-none : (before : Option (List ℕ)) (after : Option (List ℕ)) (asks : List PollAsk) (found found1 : List PollAsk) → after ≡ before → found1 ≡ found ++ filter is_drop asks → IsAnswered before after (drop (length found) found1)
-answered-none None after asks found found1 told given = tt
-answered-none (Some before) after asks found found1 told given =
-    subst (λ now. IsAnswered (Some before) now (drop (length found) found1)) (sym told)
-    (λ a. subst (λ added. count_by (tells a) added + times a.event before ≤ times a.event before) (sym (ap (drop (length found)) given ∙ drop_front found _))
-    (rw (drops_tell_nothing a asks) (omega arith)))
+pub answered-none : (before after : List ℕ) (asks : List PollAsk) (found found1 : List PollAsk) → after ≡ before → found1 ≡ found ++ filter is_drop asks → IsAnswered before after (drop (length found) found1)
+answered-none before after asks found found1 told given =
+    subst (λ now. IsAnswered before now (drop (length found) found1)) (sym told)
+    (record {
+      each = λ a. subst (λ added. count_by (tells a) added + times a.event before ≤ times a.event before) (sym (ap (drop (length found)) given ∙ drop_front found _))
+          (rw (drops_tell_nothing a asks) (omega arith));
+    })
 
-answered-chain : (x y z : Option (List ℕ)) (f g : List PollAsk) → IsAnswered x y f → IsAnswered y z g → IsAnswered x z (f ++ g)
-answered-chain None y z f g left right = tt
-answered-chain (Some x) None z f g left right = absurd left
-answered-chain (Some x) (Some y) None f g left right = right
-answered-chain (Some x) (Some y) (Some z) f g left right = λ a. let l = left a in let r = right a in rw (count-append (tells a) f g) (omega arith)
+answered-chain : (x y z : List ℕ) (f g : List PollAsk) → IsAnswered x y f → IsAnswered y z g → IsAnswered x z (f ++ g)
+answered-chain x y z f g left right = record { each = λ a. let l = left.each a in let r = right.each a in rw (count-append (tells a) f g) (omega arith) }
 
-answered-nothing : (x : Option (List ℕ)) → IsAnswered x x []
-answered-nothing None = tt
-answered-nothing (Some x) = λ a. omega arith
+answered-nothing : (x : List ℕ) → IsAnswered x x []
+answered-nothing x = record { each = λ a. omega arith }
 
 pub answered-rounds : RoundsAreAnswered
 answered-rounds before [] all = answered-nothing before
 answered-rounds before (round ∷ rounds) all = answered-chain before round.after (last_answers round.after rounds) round.found (all_found rounds) all.0 (answered-rounds round.after rounds all.1)
 
 -- a wait that gave no events answered none
-pub none_answered : (faults faults' : ℕ) (before after : Option (List ℕ)) (fault : PollFault) → WaitErr faults faults' before after fault → after ≡ before
+pub none_answered : (faults faults' : ℕ) (before after : List ℕ) (fault : PollFault) → WaitErr faults faults' before after fault → after ≡ before
 none_answered faults faults' before after Failed err = err.1
 none_answered faults faults' before after NoMemory err = err.1

@@ -1,6 +1,6 @@
 -- Sets of events: what a search in the list finds, and what an insert and a removal leave.
 use Rattle.std.proofs.Common.{◌≡◌, ℕ, suc, ◌<◌, ◌≤◌, ◌==◌, Bool, true, false, ◌||◌, ◌&&◌, not, List, [], ◌∷◌, length, refl, sym, ◌∙◌, subst, arith, Result, Ok, Err, is_ok, inl, inr, eqb-true, eq-eqb}
-use Rattle.std.specs.List.{insert, remove, HoldsAt, slice_index_or, AllByRecursion}
+use Rattle.std.specs.List.{insert, remove, HoldsAt, slice_index_or, AllByRecursion, IsDistinct}
 use Rattle.std.specs.List.Sorted.{IsStrictlySortedBy, IsStrictlyIncreasing, IsBinarySearchResult, IsSearchInRange}
 use Rattle.std.proofs.lemmas.Map.Keys.{IsStrictlyIncreasing-from_sorted, sorted_from_strictly_increasing}
 use Rattle.outside.specs.Sublist.{IsSublist}
@@ -139,3 +139,22 @@ sorted-sublist (x ∷ xs) (y ∷ ys) (inr part) sorted = sorted-sublist (x ∷ x
 -- some of rising events rise
 pub rising-sublist : (xs ys : List ℕ) → IsSublist xs ys → IsStrictlyIncreasing ys → IsStrictlyIncreasing xs
 rising-sublist xs ys part rising = IsStrictlyIncreasing-from_sorted xs (sorted-sublist xs ys part (sorted_from_strictly_increasing ys rising))
+
+differs : (x y : ℕ) → nat_cmp x y ≡ Less → (x == y) ≡ false
+differs x y less = elim (x == y) as (λ b. (x == y) ≡ b → b ≡ false) [
+  | true ↦ λ equal. absurd (let tie : nat_cmp x y ≡ Equal = same y x equal in cc)
+  | false ↦ λ _. refl
+] refl
+
+differ_all : (x : ℕ) (xs : List ℕ) → AllByRecursion (λ y. nat_cmp x y ≡ Less) xs → AllByRecursion (λ y. (x == y) ≡ false) xs
+differ_all x [] all = tt
+differ_all x (y ∷ ys) all = (differs x y all.0, differ_all x ys all.1)
+
+distinct-sorted : (xs : List ℕ) → IsStrictlySortedBy nat_cmp xs → IsDistinct (λ a b. a == b) xs
+unfolding IsStrictlySortedBy IsDistinct
+distinct-sorted [] sorted = tt
+distinct-sorted (x ∷ xs) sorted = (differ_all x xs sorted.0, distinct-sorted xs sorted.1)
+
+-- rising events are distinct
+pub rising-distinct : (xs : List ℕ) → IsStrictlyIncreasing xs → IsDistinct (λ a b. a == b) xs
+rising-distinct xs rising = distinct-sorted xs (sorted_from_strictly_increasing xs rising)

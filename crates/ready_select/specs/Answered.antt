@@ -1,5 +1,5 @@
 -- What a poller tells, beside what its poll set answered.
-use Rattle.std.specs.Prelude.{ℕ, ◌+◌, ◌≤◌, ◌==◌, Bool, false, List, [], ◌∷◌, ◌++◌, Option, None, Some, count_by}
+use Rattle.std.specs.Prelude.{ℕ, ◌+◌, ◌≤◌, ◌==◌, Bool, false, List, [], ◌∷◌, ◌++◌, count_by}
 use Rattle.ready_select.specs.declared.armed.Armed.{Armed}
 use Rattle.ready_select.specs.declared.ask.PollAsk.{PollAsk}
 use Rattle.ready_select.specs.declared.ask.PollAsk.TheVariants.{Arm}
@@ -14,18 +14,16 @@ tells a _ = false
 abbrev pub times : ℕ → List ℕ → ℕ
 times event events = count_by (λ e. e == event) events
 
--- Where the answers are told, no port was told of an event and a direction more often than the event was answered meanwhile
-abbrev pub IsAnswered : Option (List ℕ) → Option (List ℕ) → List PollAsk → Type 0
-IsAnswered None after found = Unit {0}
-IsAnswered (Some before) None found = ⊥
-IsAnswered (Some before) (Some after) found = (a : Armed) → count_by (tells a) found + times a.event before ≤ times a.event after
+-- No port was told of an event and a direction more often than the event was answered meanwhile
+pub record IsAnswered (before after : List ℕ) (found : List PollAsk) : Type 0 where
+  pub each : (a : Armed) → count_by (tells a) found + times a.event before ≤ times a.event after
 
--- what a round found, and the answers told after it
+-- what a round found, and all answers after it
 pub record ToldRound : Type 0 where
   pub found : List PollAsk
-  pub after : Option (List ℕ)
+  pub after : List ℕ
 
-abbrev pub AreRounds : Option (List ℕ) → List ToldRound → Type 0
+abbrev pub AreRounds : List ℕ → List ToldRound → Type 0
 AreRounds before [] = Unit {0}
 AreRounds before (round ∷ rounds) = IsAnswered before round.after round.found × AreRounds round.after rounds
 
@@ -33,10 +31,10 @@ abbrev pub all_found : List ToldRound → List PollAsk
 all_found [] = []
 all_found (round ∷ rounds) = round.found ++ all_found rounds
 
-abbrev pub last_answers : Option (List ℕ) → List ToldRound → Option (List ℕ)
+abbrev pub last_answers : List ℕ → List ToldRound → List ℕ
 last_answers before [] = before
 last_answers before (round ∷ rounds) = last_answers round.after rounds
 
 -- the same of any list of rounds
 abbrev pub RoundsAreAnswered : Type 0
-RoundsAreAnswered = (before : Option (List ℕ)) (rounds : List ToldRound) → AreRounds before rounds → IsAnswered before (last_answers before rounds) (all_found rounds)
+RoundsAreAnswered = (before : List ℕ) (rounds : List ToldRound) → AreRounds before rounds → IsAnswered before (last_answers before rounds) (all_found rounds)

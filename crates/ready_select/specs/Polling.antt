@@ -67,7 +67,7 @@ pub record TookAsks (items : List (Item PollAsk)) (lane lane' : Asks) (table tab
 
 -- A wait for the armed events, each once, by rising number, answered some of them. Their entries leave the table and are found, and
 -- nothing else is
-pub record IsWaited (faults faults' : ℕ) (answered answered' : Option (List ℕ)) (table table' : List Armed) (found found' : List PollAsk) : Type 0 where
+pub record IsWaited (faults faults' : ℕ) (answered answered' : List ℕ) (table table' : List Armed) (found found' : List PollAsk) : Type 0 where
   pub events : List ℕ
   pub armed : List ℕ
   pub each : (event : ℕ) → has event armed ≡ list_any (λ a. a.event == event) table
@@ -101,10 +101,10 @@ EndsTaking taken.All items lane = HasNoFinish items × AreAll items lane
 EndsTaking taken.Finished items lane = EndsInFinish items
 EndsTaking taken.NoMemory items lane = HasNoFinish items
 
--- what a round works on: the poll set's count of faults and what it tells of its answers, the table, what was found, and the lane of asks
+-- what a round works on: the poll set's count of faults and its answers so far, the table, what was found, and the lane of asks
 pub record Poller : Type 0 where
   pub faults : ℕ
-  pub answered : Option (List ℕ)
+  pub answered : List ℕ
   pub table : List Armed
   pub found : List PollAsk
   pub lane : Asks
