@@ -1,4 +1,4 @@
-//! Tests of whole runs, of the rounds, and of the texts of reports, over the contracts of gateway, process_rounds and gateway_report.
+//! Tests of whole runs, over the contract of gateway.
 #![tactic(auto)]
 
 #[cfg(test)]
@@ -6,10 +6,6 @@ mod processes;
 #[cfg(test)]
 mod reports;
 #[cfg(test)]
-mod rounds;
-#[cfg(test)]
 mod runs;
 #[cfg(test)]
 mod scripts;
-#[cfg(test)]
-mod texts;
