@@ -2,10 +2,6 @@
 use Rattle.std.proofs.Common.{◌≡◌, ℕ, ◌==◌, false, List, [], ◌∷◌, refl}
 use Rattle.std.specs.List.{IsDistinct}
 
-pub distinct-one : (a : ℕ) → IsDistinct (λ x y. x == y) (a ∷ [])
-unfolding IsDistinct
-distinct-one a = (tt, tt)
-
 pub distinct-two : (a b : ℕ) → (a == b) ≡ false → IsDistinct (λ x y. x == y) (a ∷ b ∷ [])
 unfolding IsDistinct
 distinct-two a b ab = ((ab, tt), (tt, tt))
