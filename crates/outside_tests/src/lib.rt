@@ -3,5 +3,3 @@
 
 #[cfg(test)]
 mod files;
-#[cfg(test)]
-mod memory_programs;
