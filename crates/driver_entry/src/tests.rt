@@ -1,6 +1,6 @@
 ghost use Rattle.std.specs.Prelude.{◌≡◌, IfOk};
 
-use driver_entry::{
+use crate::{
     Config, Driver, DriverCtx, Echo, Life, Refuse, Refused, ReplyTo, StartRefusal, Store, Tally,
     Valve, ValveSoft,
 };

@@ -1,7 +1,7 @@
 ghost use Rattle.std.specs.Prelude.{◌≡◌, ◌<◌, length, IfOk};
 
+use crate::{Body, BodyParts, Turn};
 use driver_entry::{Config, Echo};
-use port_engine::{Body, BodyParts, Turn};
 use port_signal::{Answer, IoVec, Mail, MarkKind, Piece, Row, Sender, Signal, Task};
 use std::alloc::Global;
 use std::test::Fail;

@@ -1,7 +1,7 @@
 ghost use Rattle.std.specs.Prelude.{◌≡◌, ◌<◌, length, IfOk};
 
+use crate::{Body, BodyParts, Turn};
 use driver_entry::{Config, Driver, Life, Store, Tally};
-use port_engine::{Body, BodyParts, Turn};
 use port_signal::{IoVec, Mail, Piece, Sender, Signal, Task, reason};
 use std::alloc::Global;
 use std::test::Fail;
