@@ -1,5 +1,6 @@
 -- The calls of a driver, and what it keeps. Lists of calls are read newest call first.
 use Rattle.std.specs.Prelude.{ℕ, List, [], ◌∷◌, ◌++◌, length, Bool, true, false}
+use Rattle.port_config.specs.declared.config.Config.{Config}
 use Rattle.port_model.specs.declared.event.Dir.{Dir}
 use Rattle.port_signal.specs.declared.row.Outside.{Outside}
 use Rattle.port_model.specs.declared.effect.Effect.{Effect}
@@ -37,14 +38,18 @@ cut_of (effect ∷ effects) = cut_of effects
 abbrev pub call_of : Callback → ℕ → List Outside → List Effect → DriverCall
 call_of callback caller outside effects = record { callback = callback; caller = caller; outside = outside; cut = cut_of effects }
 
--- what the driver of a program keeps beside its queue: the program's two events, the bytes that no message has yet, how many bytes were
--- taken from the program, and whether it holds its port busy
+-- what the driver of a program keeps beside its queue: the options of its port, the program's two events, the bytes that no message has
+-- yet, whether no more messages are found, how many bytes were taken from the program, whether it holds its port busy, and whether a call
+-- of the program has failed
 pub record Program : Type 0 where
+  pub config : Config
   pub read : ℕ
   pub write : ℕ
   pub rest : List ℕ
+  pub refused : Bool
   pub taken : ℕ
   pub busy : Bool
+  pub failed : Bool
 
 -- what a driver keeps beside its queue: nothing, how many commands it had and how many bytes these had, how many jobs it submitted, or a
 -- program
@@ -68,8 +73,8 @@ is_empty (byte ∷ bytes) = false
 pub data Kind : Type 0 where
   Echo : Kind
   Tally : Kind
-  Valve : Kind
-  ValveSoft : Kind
+  -- whether it is soft-busy
+  Valve : Bool → Kind
   Store : Kind
   Digest : Kind
   Spawn : Kind

@@ -19,7 +19,7 @@ abbrev pub job_count : Callback → ℕ
 job_count (Outputv bytes) = if is_job bytes then 1 else 0
 job_count callback = 0
 
--- how many jobs were submitted
+-- how many jobs were submitted: this is the number of the next one
 abbrev pub submitted : List DriverCall → ℕ
 submitted [] = 0
 submitted (call ∷ earlier) = submitted earlier + job_count call.callback

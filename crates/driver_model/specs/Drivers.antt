@@ -1,10 +1,11 @@
 -- The table of the kinds of driver: their names, which refuse to start, and what each holds and does, as functions of all calls so far.
-use Rattle.std.specs.Prelude.{◌==◌, ℕ, List, [], ◌∷◌, Bool, true, false, if◌then◌else◌, Option, Some, None, codes, nat_eq}
-use Rattle.std.specs.List.{list_all}
+use Rattle.std.specs.Prelude.{◌==◌, ◌+◌, ℕ, List, [], ◌∷◌, ◌++◌, Bool, true, false, not, filter, if◌then◌else◌, Option, Some, None, codes, nat_eq}
+use Rattle.std.specs.List.{list_all, list_any}
 use Rattle.port_config.specs.declared.config.Config.{Config}
 use Rattle.port_signal.specs.declared.row.Outside.{Outside}
 use Rattle.port_model.specs.declared.effect.Effect.{Effect}
-use Rattle.driver_model.specs.Calls.{Callback, DriverCall, Own, Nothing, Counted, Submitted, Running, Held, Kind, Echo, Tally, Valve, ValveSoft, Store, Digest, Spawn, Refuse1, Refuse2, Refuse3}
+use Rattle.port_model.specs.declared.effect.Effect.TheVariants.{Select, Unuse, Async}
+use Rattle.driver_model.specs.Calls.{Callback, Start, DriverCall, Own, Nothing, Counted, Submitted, Running, Held, Kind, Echo, Tally, Valve, Store, Digest, Spawn, Refuse1, Refuse2, Refuse3}
 use Rattle.driver_model.specs.Echo.{echo_effects}
 use Rattle.driver_model.specs.Tally.{commands, command_bytes, tally_effects}
 use Rattle.driver_model.specs.Valve.{valve_effects}
@@ -16,8 +17,8 @@ use Rattle.driver_model.specs.Spawn.{is_none, spawn_queue, program, spawn_effect
 abbrev pub kind_name : Kind → List ℕ
 kind_name Echo = codes "echo"
 kind_name Tally = codes "tally"
-kind_name Valve = codes "valve"
-kind_name ValveSoft = codes "valve_soft"
+kind_name (Valve false) = codes "valve"
+kind_name (Valve true) = codes "valve_soft"
 kind_name Store = codes "store"
 kind_name Digest = codes "digest"
 kind_name Spawn = codes "spawn"
@@ -27,7 +28,7 @@ kind_name Refuse3 = codes "refuse3"
 
 -- a driver of this kind takes forced commands while its port is busy
 abbrev pub is_soft : Kind → Bool
-is_soft ValveSoft = true
+is_soft (Valve soft) = soft
 is_soft kind = false
 
 -- how a driver refuses to start, but for a failure of the outside and want of memory: `driver_entry` names these three
@@ -69,8 +70,7 @@ holds kind config calls = record { own = own_of kind config calls; queue = queue
 abbrev pub call_effects : Kind → Config → List DriverCall → DriverCall → List Effect
 call_effects Echo config earlier call = echo_effects call.callback
 call_effects Tally config earlier call = tally_effects call.caller (commands earlier) (command_bytes earlier) call.callback
-call_effects Valve config earlier call = valve_effects call.callback
-call_effects ValveSoft config earlier call = valve_effects call.callback
+call_effects (Valve soft) config earlier call = valve_effects call.callback
 call_effects Store config earlier call = store_effects (stored earlier) call.callback
 call_effects Digest config earlier call = digest_effects (submitted earlier) call.callback
 call_effects Spawn config earlier call = spawn_effects config earlier call
@@ -90,3 +90,49 @@ call_answered kind config earlier call = is_none call.outside
 abbrev pub is_answered : Kind → Config → List DriverCall → Bool
 is_answered kind config [] = true
 is_answered kind config (call ∷ earlier) = call_answered kind config earlier call
+
+abbrev pub is_held : ℕ → List ℕ → Bool
+is_held event held = list_any (λ other. other == event) held
+
+-- with an event that is used, and without one that was given up
+abbrev pub with_event : ℕ → List ℕ → List ℕ
+with_event event held = if is_held event held then held else held ++ event ∷ []
+
+abbrev pub without_event : ℕ → List ℕ → List ℕ
+without_event event held = filter (λ other. not (other == event)) held
+
+-- the events that these effects leave held, in the order in which they were first used
+abbrev pub held_by : List Effect → List ℕ → List ℕ
+held_by [] held = held
+held_by (Select event dir on ∷ effects) held = held_by effects (with_event event held)
+held_by (Unuse event ∷ effects) held = held_by effects (without_event event held)
+held_by (effect ∷ effects) held = held_by effects held
+
+-- the events that the driver holds after the calls, each once
+abbrev pub held_events : Kind → Config → List DriverCall → List ℕ
+held_events kind config [] = []
+held_events kind config (call ∷ earlier) = held_by (effects_of kind config (call ∷ earlier)) (held_events kind config earlier)
+
+-- how many jobs these effects submit
+abbrev pub jobs_by : List Effect → ℕ
+jobs_by [] = 0
+jobs_by (Async number key code input ∷ effects) = 1 + jobs_by effects
+jobs_by (effect ∷ effects) = jobs_by effects
+
+-- how many jobs the driver submitted in the calls
+abbrev pub job_count : Kind → Config → List DriverCall → ℕ
+job_count kind config [] = 0
+job_count kind config (call ∷ earlier) = job_count kind config earlier + jobs_by (effects_of kind config (call ∷ earlier))
+
+-- the two events that a driver keeps of its program, 0 and 0 without one
+abbrev pub read_event_of : Own → ℕ
+read_event_of (Running program) = program.read
+read_event_of own = 0
+
+abbrev pub write_event_of : Own → ℕ
+write_event_of (Running program) = program.write
+write_event_of own = 0
+
+-- the callback of `start`, with these two events
+abbrev pub start_of : Own → Callback
+start_of own = Start (read_event_of own) (write_event_of own)

@@ -7,3 +7,4 @@ pub mod Store
 pub mod Digest
 pub mod Spawn
 pub mod Drivers
+pub mod Programs

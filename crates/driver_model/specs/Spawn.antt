@@ -57,15 +57,26 @@ has_failed [] = false
 has_failed (Failed ∷ answers) = true
 has_failed (answer ∷ answers) = has_failed answers
 
--- how many bytes the program was given
-abbrev pub given : List DriverCall → ℕ
-given [] = 0
-given (call ∷ earlier) = given earlier + took_by call.outside
+-- the program told the end of its output
+abbrev pub has_end : List Outside → Bool
+has_end [] = false
+has_end (End ∷ answers) = true
+has_end (answer ∷ answers) = has_end answers
+
+-- how many bytes the program was given: no more than there are
+abbrev pub given : Config → List DriverCall → ℕ
+given config [] = 0
+given config (call ∷ earlier) = min (given config earlier + took_by call.outside) (length (asked config (call ∷ earlier)))
 
 -- the bytes that were taken from the program, in their order
 abbrev pub taken_bytes : List DriverCall → List ℕ
 taken_bytes [] = []
 taken_bytes (call ∷ earlier) = taken_bytes earlier ++ got_by call.outside
+
+-- those of them that came since its output last ended
+abbrev pub unended_bytes : List DriverCall → List ℕ
+unended_bytes [] = []
+unended_bytes (call ∷ earlier) = if has_end call.outside then [] else unended_bytes earlier ++ got_by call.outside
 
 -- a call of the program has failed
 abbrev pub program_failed : List DriverCall → Bool
@@ -74,7 +85,7 @@ program_failed (call ∷ earlier) = has_failed call.outside || program_failed ea
 
 -- the driver queue: the frames but for what the program was given, and nothing once a call of the program failed
 abbrev pub spawn_queue : Config → List DriverCall → List ℕ
-spawn_queue config calls = if program_failed calls then [] else drop (given calls) (asked config calls)
+spawn_queue config calls = if program_failed calls then [] else drop (given config calls) (asked config calls)
 
 -- whether the port is held busy after a callback that left a queue of this size: a command's frame sets busy at the high limit, and what
 -- the program takes frees it below the low limit
@@ -108,20 +119,40 @@ abbrev pub write_event : List DriverCall → ℕ
 write_event [] = 0
 write_event (call ∷ earlier) = write_after call.callback (write_event earlier)
 
+-- a header in front of the rest tells more than 262,143 bytes
+abbrev pub is_oversize : Mode → List ℕ → Bool
+is_oversize (Line limit) rest = false
+is_oversize Stream rest = false
+is_oversize mode rest = nat_le (header_len mode) (length rest) && nat_lt 262143 (told_len mode rest)
+
+-- no more messages are found: more bytes were taken than may be, or a header told too many
+abbrev pub is_refused : Config → List DriverCall → Bool
+is_refused config [] = false
+is_refused config (call ∷ earlier) =
+    is_refused config earlier || (nat_lt most_taken (length (taken_bytes (call ∷ earlier)))
+    || is_oversize config.mode (rest_of config.mode (unended_bytes (call ∷ earlier))))
+
+-- the bytes that no message has yet, as long as messages are found
+abbrev pub rest : Config → List DriverCall → List ℕ
+rest config calls = if is_refused config calls then [] else rest_of config.mode (unended_bytes calls)
+
 -- what the driver keeps beside its queue
 abbrev pub program : Config → List DriverCall → Program
 program config calls = record {
+  config = config;
   read = read_event calls;
   write = write_event calls;
-  rest = rest_of config.mode (taken_bytes calls);
+  rest = rest config calls;
+  refused = is_refused config calls;
   taken = length (taken_bytes calls);
   busy = holds_busy config calls;
+  failed = program_failed calls;
 }
 
--- the effects of a command
-abbrev pub output_effects : Config → List DriverCall → List ℕ → List ℕ → List Effect
-output_effects config earlier frame queue =
-    (if is_empty (spawn_queue config earlier) && not (is_empty frame) then Select (write_event earlier) Write true ∷ [] else [])
+-- the effects of a command whose frame left this queue
+abbrev pub output_effects : Config → List DriverCall → List ℕ → List Effect
+output_effects config earlier queue =
+    (if is_empty (spawn_queue config earlier) && not (is_empty queue) then Select (write_event earlier) Write true ∷ [] else [])
     ++ (if nat_le config.busy_high (length queue) && not (holds_busy config earlier) then Busy true ∷ [] else [])
 
 -- the effects of what the program took of the queue, or of a failure
@@ -143,12 +174,6 @@ pieces (len ∷ lens) bytes = take len bytes ∷ pieces lens (drop len bytes)
 abbrev pub cut_into : List ℕ → List ℕ → List (List ℕ)
 cut_into lens bytes = if is_cut lens (length bytes) then pieces lens bytes else bytes ∷ []
 
--- a header in front of the rest tells more than 262,143 bytes
-abbrev pub is_oversize : Mode → List ℕ → Bool
-is_oversize (Line limit) rest = false
-is_oversize Stream rest = false
-is_oversize mode rest = nat_le (header_len mode) (length rest) && nat_lt 262143 (told_len mode rest)
-
 abbrev pub sent : Unframed → Effect
 sent m = Message m.flag m.bytes
 
@@ -160,12 +185,12 @@ abbrev pub brought : Mode → List ℕ → List ℕ → List ℕ → List Effect
 brought Stream cut before bytes = map plain_message (cut_into cut bytes)
 brought mode cut before bytes = map sent (drop (length (messages_of mode before)) (messages_of mode (before ++ bytes)))
 
--- the effects of bytes that the program gave
-abbrev pub got_effects : Config → List ℕ → List ℕ → List ℕ → List Effect
-got_effects config cut before bytes =
-    if nat_lt most_taken (length before + length bytes) then Fail (codes "enospc") ∷ []
-    else (if is_oversize config.mode (rest_of config.mode (before ++ bytes)) then Fail (codes "emsgsize") ∷ []
-    else brought config.mode cut before bytes)
+-- the effects of bytes that the program gave, after earlier calls
+abbrev pub got_effects : Config → List DriverCall → DriverCall → List ℕ → List Effect
+got_effects config earlier call bytes =
+    if nat_lt most_taken (length (taken_bytes (call ∷ earlier))) then Fail (codes "enospc") ∷ []
+    else (if is_refused config (call ∷ earlier) then Fail (codes "emsgsize") ∷ []
+    else brought config.mode call.cut (unended_bytes earlier) bytes)
 
 -- the effects of the answer to a question for the program's status: the status, or a failure
 abbrev pub status_effects : List Outside → List Effect
@@ -177,26 +202,26 @@ status_effects answers = []
 -- port unless the option eof keeps it
 abbrev pub end_effects : Config → List DriverCall → List Outside → List Effect
 end_effects config earlier answers =
-    map sent (last_message config.mode (rest_of config.mode (taken_bytes earlier)))
+    map sent (last_message config.mode (rest config earlier))
     ++ (if config.eof then Eof ∷ [] else [])
     ++ (if config.exit_status then status_effects answers else [])
     ++ Select (read_event earlier) Read false ∷ []
     ++ (if config.eof || has_failed answers then [] else Fail (codes "normal") ∷ [])
 
--- the effects of a fetch
-abbrev pub fetch_effects : Config → List DriverCall → List ℕ → List Outside → List Effect
-fetch_effects config earlier cut (Got bytes ∷ answers) = got_effects config cut (taken_bytes earlier) bytes
-fetch_effects config earlier cut (Failed ∷ answers) = Fail (codes "eio") ∷ []
-fetch_effects config earlier cut (End ∷ answers) = end_effects config earlier answers
-fetch_effects config earlier cut answers = []
+-- the effects of a fetch that was answered so
+abbrev pub fetch_effects : Config → List DriverCall → DriverCall → List Outside → List Effect
+fetch_effects config earlier call (Got bytes ∷ answers) = got_effects config earlier call bytes
+fetch_effects config earlier call (Failed ∷ answers) = Fail (codes "eio") ∷ []
+fetch_effects config earlier call (End ∷ answers) = end_effects config earlier answers
+fetch_effects config earlier call answers = []
 
 -- the effects of a callback after earlier calls, which left this queue
 abbrev pub callback_effects : Config → List DriverCall → DriverCall → List ℕ → Callback → List Effect
 callback_effects config earlier call queue (Start read write) = Select read Read true ∷ []
 callback_effects config earlier call queue (Outputv bytes) =
-    if fits config.mode (length bytes) then output_effects config earlier (frame_of config.mode bytes) queue else Fail (codes "einval") ∷ []
+    if fits config.mode (length bytes) then output_effects config earlier queue else Fail (codes "einval") ∷ []
 callback_effects config earlier call queue (ReadyOutput event) = offer_effects config earlier queue call.outside
-callback_effects config earlier call queue (ReadyInput event) = fetch_effects config earlier call.cut call.outside
+callback_effects config earlier call queue (ReadyInput event) = fetch_effects config earlier call call.outside
 callback_effects config earlier call queue (Control op bytes) = ReplyBadarg ∷ []
 callback_effects config earlier call queue (Call op bytes) = ReplyBadarg ∷ []
 callback_effects config earlier call queue callback = []

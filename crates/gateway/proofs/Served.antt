@@ -39,7 +39,8 @@ use Rattle.gateway_report.specs.End.{HasEnded, IsFrom, opening_of}
 use Rattle.gateway_report.proofs.Ends.{HasEnded-closed}
 use Rattle.gateway.specs.Wanted.{plain, wanted_by, wanted_of}
 use Rattle.gateway.specs.Headline as H
-use Rattle.gateway.specs.Headline.{PortHolds, PairHolds, ProcessHolds, Serves, Headline, asks_of}
+use Rattle.gateway.specs.Back.{HasServed, AllServed}
+use Rattle.gateway.specs.Headline.{PortHolds, PairHolds, ProcessHolds, Serves, Headline, Made, asks_of}
 use Rattle.gateway.specs.Reported.{port_report, ArePorts, AreProcesses}
 use Rattle.gateway.proofs.Rows.{from-senders}
 
@@ -329,8 +330,8 @@ module _ {D : Type 0} (kind : D → Kind) (stage : D → Life) (faults : D → �
       pair-holds plan bodies journals lefts report l k s q port d (some lefts {n = s} (rw l.processes inside)) within inside rows opening
   pair-if plan bodies journals lefts report l k s q port d within h rows opening (inr past) = absurd (omega arith)
 
-  pub headline : (plan : Plan) (places : List ℕ) (old mid new : List (Hosted D)) (bodies afters : List View) (journals : List Journal) (lefts : List Left) (report : Report)
-      → Served-by plan places old mid new bodies afters → Left-by plan afters journals lefts report → Headline kind own plan new report
+  headline : (plan : Plan) (places : List ℕ) (old mid new : List (Hosted D)) (bodies afters : List View) (journals : List Journal) (lefts : List Left) (report : Report)
+      → Served-by plan places old mid new bodies afters → Left-by plan afters journals lefts report → Headline kind own plan places new report
   headline plan places old mid new bodies afters journals lefts report v l = record {
     ports = ports-len plan afters journals lefts report l;
     processes = l.told_processes.len ∙ l.processes;
@@ -345,7 +346,6 @@ module _ {D : Type 0} (kind : D → Kind) (stage : D → Life) (faults : D → �
         let place : k < length places = rw (v.found.len, length-map plan.ports wanted_by) inside in
         let within : slice_index places k < length new = rw (v.returned.len, v.opened.len) (v.found.within k 0 place) in
         rw told (record {
-          at = slice_index places k;
           driver = leaves.returned.driver;
           within = within;
           host = λ h. get_or_default new (slice_index places k) h no-host within ∙ host-at plan k (slice_index places k) _ _ _ _ _ _ leaves;
@@ -355,6 +355,44 @@ module _ {D : Type 0} (kind : D → Kind) (stage : D → Life) (faults : D → �
               (ap reverse rows) (opening-at plan k (slice_index places k) _ _ _ _ _ _ leaves journal) (cases_lt s (length plan.processes));
         });
     told = λ s decl d inside. told-if plan afters journals lefts report l s decl d inside (cases_lt s (length plan.processes));
+  }
+
+  host-of : (host : Hosted D) (port : Option ℕ) (driver : Option D) → host.port ≡ port → host.driver ≡ driver → host ≡ record { port = port; driver = driver }
+  host-of host port driver e f = ap (λ p. record { port = p; driver = host.driver }) e ∙ ap (λ d. record { port = port; driver = d }) f
+
+  served-at : (plan : Plan) (k at : ℕ) (decl : PortDecl) (old mid new : Hosted D) (body after : View) → (p : Leaves-port plan k at decl old mid new body after)
+      → old.port ≡ None → HasServed kind stage faults k old new
+  served-at plan k at decl old mid new body after p unserving = record {
+    before = p.opened.driver;
+    after = p.returned.driver;
+    handed = host-of old None (Some p.opened.driver) unserving p.opened.handed;
+    returned = host-at plan k at decl old mid new body after p;
+    same_kind = kind-at plan k at decl old mid new body after p;
+    no_fewer_faults = let a = p.opened.opened.risen in let b = p.same.faults in let c = p.returned.no_fewer_faults in omega arith;
+    stopped = p.returned.at_rest;
+  }
+
+  -- the drivers that served are back with their ports, and the others weren't touched
+  all-served : (plan : Plan) (places : List ℕ) (old mid new : List (Hosted D)) (bodies afters : List View) → Served-by plan places old mid new bodies afters
+      → HaveStopped afters → length afters ≡ length plan.ports → AllServed kind stage faults places old new
+  all-served plan places old mid new bodies afters v stop count =
+      let ports : length places ≡ length plan.ports = v.found.len ∙ length-map plan.ports wanted_by in
+      record {
+        len = v.returned.len ∙ v.opened.len;
+        served = λ k d place. served-at plan k (slice_index places k) _ _ _ _ _ _
+            (leaves-at plan places old mid new bodies afters v stop count k no-decl d (rw ports at place))
+            (v.unused (slice_index places k) d (v.found.within k 0 place)).0;
+        others = λ at d none. v.returned.others at d (λ k l. none k (rw (ports, ← count) l)) ∙ v.opened.others at d (λ k l. none k (rw (ports, ← count, v.same.len) l));
+      }
+
+  -- the run of the plan was made
+  pub made : (plan : Plan) (places : List ℕ) (old mid new : List (Hosted D)) (bodies afters : List View) (journals : List Journal) (lefts : List Left) (report : Report)
+      → Served-by plan places old mid new bodies afters → Left-by plan afters journals lefts report → Made kind stage faults own plan old new report
+  made plan places old mid new bodies afters journals lefts report v l = record {
+    places = places;
+    found = v.found;
+    back = all-served plan places old mid new bodies afters v l.stopped l.ports;
+    headline = headline plan places old mid new bodies afters journals lefts report v l;
   }
 
   -- the reported ports have ended

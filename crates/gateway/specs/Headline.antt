@@ -1,8 +1,9 @@
--- What a report promises of each port and each process of the script.
-use Rattle.std.specs.Prelude.{◌≡◌, ℕ, ◌<◌, List, length, reverse, map, All, Some, None, slice_index_or}
+-- What a report promises of each port and each process of the script, and when a run was made.
+use Rattle.std.specs.Prelude.{◌≡◌, ℕ, ◌<◌, List, length, reverse, map, All, Some, None, Ok, slice_index, slice_index_or}
 use Rattle.task_queue.specs.Items.{of}
 use Rattle.port_signal.specs.declared.row.Row.{Row}
 use Rattle.port_signal.specs.History.{items, marks}
+use Rattle.driver_entry.specs.declared.life.Life.{Life}
 use Rattle.driver_entry.specs.Drivers.{Kind, Own, kind_name, holds}
 use Rattle.driver_entry.specs.Owners.{Opening}
 use Rattle.driver_entry.specs.Refusals.{refusal_of}
@@ -15,13 +16,16 @@ use Rattle.script_reader.specs.Plan.{Plan}
 use Rattle.call_receipts.specs.Asks.{Ask}
 use Rattle.call_receipts.specs.Receipts.{accepted, AreReceipts}
 use Rattle.port_hosts.specs.declared.hosted.Hosted.{Hosted}
+use Rattle.port_hosts.specs.Finding.{Found}
 use Rattle.process_rounds.specs.Asks.{asks}
 use Rattle.process_rounds.specs.Mails.{Came, mail_from, own_mails}
 use Rattle.gateway_report.specs.declared.report.PortReport.{PortReport}
 use Rattle.gateway_report.specs.declared.report.ProcReport.{ProcReport}
 use Rattle.gateway_report.specs.declared.report.Report.{Report}
 use Rattle.gateway_report.specs.End.{opening_of}
-use Rattle.gateway.specs.Wanted.{plain}
+use Rattle.gateway.specs.Wanted.{plain, wanted_of}
+use Rattle.gateway.specs.Back.{AllServed}
+use Rattle.gateway.specs.Run.{Run, ScriptRead}
 
 -- the history of a reported port, newest row first
 abbrev pub history_of : PortReport → List Row
@@ -66,10 +70,9 @@ pub record ProcessHolds (plan : Plan) (decl : ProcessDecl) (process : ℕ) (port
   pub within : (port : ℕ) → All (λ c. c.from ≡ Some port → port < length ports) came
 
 module _ {D : Type 0} where
-  -- the driver at a place of the list served the port of this number, and what is reported of the port holds of that driver
-  pub record Serves (kind : D → Kind) (own : D → Own) (plan : Plan) (hosts : List (Hosted D)) (number : ℕ) (decl : PortDecl) (port : PortReport)
+  -- the driver at this place of the list, and no other, served the port of this number, and what is reported of the port holds of that driver
+  pub record Serves (kind : D → Kind) (own : D → Own) (plan : Plan) (hosts : List (Hosted D)) (at number : ℕ) (decl : PortDecl) (port : PortReport)
       (processes : List ProcReport) (came : ℕ → List Came) : Type 0 where
-    pub at : ℕ
     pub driver : D
     pub within : at < length hosts
     pub host : (d : Hosted D) → slice_index_or hosts at d ≡ record { port = Some number; driver = Some driver }
@@ -78,12 +81,26 @@ module _ {D : Type 0} where
     pub pairs : (process : ℕ) (d : ProcReport) → process < length plan.processes
         → PairHolds plan process number (kind driver) port (slice_index_or processes process d) (came process)
 
-  -- the report is that of the script: for each port and each process of it. `came` is the mail of each process, each with its source
-  pub record Headline (kind : D → Kind) (own : D → Own) (plan : Plan) (hosts : List (Hosted D)) (report : Report) : Type 0 where
+  -- the report is that of the script: for each port, which the driver at its place served, and each process of it. `came` is the mail of each
+  -- process, each with its source
+  pub record Headline (kind : D → Kind) (own : D → Own) (plan : Plan) (places : List ℕ) (hosts : List (Hosted D)) (report : Report) : Type 0 where
     pub ports : length report.ports ≡ length plan.ports
     pub processes : length report.processes ≡ length plan.processes
     pub came : ℕ → List Came
     pub served : (k : ℕ) (decl : PortDecl) (d : PortReport) → k < length plan.ports
-        → Serves kind own plan hosts k (slice_index_or plan.ports k decl) (slice_index_or report.ports k d) report.processes came
+        → Serves kind own plan hosts (slice_index places k) k (slice_index_or plan.ports k decl) (slice_index_or report.ports k d) report.processes came
     pub told : (s : ℕ) (decl : ProcessDecl) (d : ProcReport) → s < length plan.processes
         → ProcessHolds plan (slice_index_or plan.processes s decl) s report.ports (slice_index_or report.processes s d) (came s)
+
+  -- a plan was run: each port was served by the driver that the search finds for it, the drivers are back, and the report holds
+  pub record Made (kind : D → Kind) (stage : D → Life) (faults : D → ℕ) (own : D → Own) (plan : Plan) (old new : List (Hosted D)) (report : Report) : Type 0 where
+    pub places : List ℕ
+    pub found : Found kind old (wanted_of plan.ports) places
+    pub back : AllServed kind stage faults places old new
+    pub headline : Headline kind own plan places new report
+
+  -- a run was made: one read answered the script, its plan was run, and this is reported
+  pub record Ran (kind : D → Kind) (stage : D → Life) (faults : D → ℕ) (own : D → Own) (run : Run D) (report : Report) : Type 0 where
+    pub plan : Plan
+    pub read : ScriptRead run.words run.files run.files_after (Ok plan)
+    pub made : Made kind stage faults own plan run.hosts run.hosts_after report

@@ -1,6 +1,8 @@
 pub mod Words
 pub mod Fresh
 pub mod Wanted
+pub mod Run
+pub mod Back
 pub mod Headline
 pub mod Reported
 pub mod Causes

@@ -3,7 +3,7 @@ ghost use Rattle.script_reader.specs.Plan.{IsPlan};
 ghost use Rattle.gateway_report.specs.End.{HasEnded};
 ghost use Rattle.port_hosts.specs.Hosts.{AllCameBack, IsUnused};
 ghost use Rattle.port_hosts.specs.Finding.{Found};
-ghost use Rattle.gateway.specs.Headline.{Headline};
+ghost use Rattle.gateway.specs.Headline.{Made};
 ghost use Rattle.gateway.specs.Causes.{MakeFails, unserved_cause};
 ghost use Rattle.gateway.specs.Wanted.{wanted_of};
 
@@ -44,9 +44,9 @@ fn serve_ports<D: Driver, R: Wait>(
     requires wanted { wanted.now ≡ wanted_of script.now.ports }
     requires found { Found D.kind hosts.old.items wanted.now places.now }
     ensures back { AllCameBack D.kind D.stage D.faults hosts.old.items hosts.new.items }
-    ensures headline { IfOk result (λ report. Headline D.kind D.own script.now hosts.new.items report) }
+    ensures made { IfOk result (Made D.kind D.stage D.faults D.own script.now hosts.old.items hosts.new.items) }
     ensures ended { IfOk result (λ report. All (HasEnded (length report.processes)) report.ports) }
-    ensures cause { IfErr result (MakeFails D.kind hosts.old.items script.now) }
+    ensures cause { IfErr result (MakeFails D.kind script.now hosts.old.items hosts.new.items) }
 {
     let processes = script.processes().len() as u32;
     let mut bodies = match open_ports(alloc, hosts, places, wanted, processes) {
@@ -77,9 +77,9 @@ pub fn make_report<D: Driver, R: Wait>(
     requires unused { All (IsUnused D.stage) hosts.old.items }
     requires plan { IsPlan script.now }
     ensures back { AllCameBack D.kind D.stage D.faults hosts.old.items hosts.new.items }
-    ensures headline { IfOk result (λ report. Headline D.kind D.own script.now hosts.new.items report) }
+    ensures made { IfOk result (Made D.kind D.stage D.faults D.own script.now hosts.old.items hosts.new.items) }
     ensures ended { IfOk result (λ report. All (HasEnded (length report.processes)) report.ports) }
-    ensures cause { IfErr result (MakeFails D.kind hosts.old.items script.now) }
+    ensures cause { IfErr result (MakeFails D.kind script.now hosts.old.items hosts.new.items) }
 {
     let Ok(wanted) = wanted_of(alloc, script.ports()) else {
         return Err(Cause::NoMemory);

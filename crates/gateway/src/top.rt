@@ -1,11 +1,11 @@
-ghost use Rattle.std.specs.Prelude.{◌≡◌, List, map, string_bytes, All, Some, IfSome, IfOk, IfErr, length};
-ghost use Rattle.script_reader.specs.Plan.{IsPlan, Plan};
+ghost use Rattle.std.specs.Prelude.{◌≡◌, map, string_bytes, All, Some, Ok, IfOk, IfErr, length};
+ghost use Rattle.script_reader.specs.Plan.{IsPlan};
 ghost use Rattle.gateway_report.specs.Cause.{status_of};
 ghost use Rattle.gateway_report.specs.End.{HasEnded};
-ghost use Rattle.port_hosts.specs.Hosts.{AllCameBack, IsUnused};
+ghost use Rattle.port_hosts.specs.Hosts.{IsUnused};
 ghost use Rattle.gateway.specs.Words.{asked};
-ghost use Rattle.gateway.specs.Headline.{Headline};
-ghost use Rattle.gateway.specs.Causes.{CauseComes, Completes, IsReported, LoadErr, LoadOk, Says, WriteComes, Wrote};
+ghost use Rattle.gateway.specs.Run.{files_view, sink_view, NothingWritten, ScriptRead};
+ghost use Rattle.gateway.specs.Causes.{Ends, LoadErr, WriteEnds};
 
 use crate::serving::make_report;
 use crate::{Hosted, script_name};
@@ -21,11 +21,13 @@ const MAX_SCRIPT: u64 = 1_048_576;
 
 /// Reads the script of this name.
 fn load<F: Files>(alloc: Global, files: &mut F, name: &str) -> Result<Script, Cause>
-    ensures writes { F.writes files.new ≡ F.writes files.old }
-    ensures told { F.told files.new ≡ F.told files.old }
-    ensures ok { IfOk result (λ s. LoadOk (F.told files.old) (F.reads files.old) (F.reads files.new) name.now s) }
+    ensures ok { IfOk result (λ plan. ScriptRead (Ok name.now) (files_view F.told F.answered F.wrote F.reads F.writes files.old)
+        (files_view F.told F.answered F.wrote F.reads F.writes files.new) (Ok plan)) }
     ensures plan { IfOk result IsPlan }
-    ensures err { IfErr result (λ cause. LoadErr (F.told files.old) (F.reads files.old) (F.reads files.new) name.now cause) }
+    ensures err { IfErr result (LoadErr (Ok name.now) (files_view F.told F.answered F.wrote F.reads F.writes files.old)
+        (files_view F.told F.answered F.wrote F.reads F.writes files.new)) }
+    ensures files { NothingWritten (files_view F.told F.answered F.wrote F.reads F.writes files.old)
+        (files_view F.told F.answered F.wrote F.reads F.writes files.new) }
 {
     let bytes = match files.read(alloc, name, MAX_SCRIPT) {
         Ok(bytes) => bytes,
@@ -63,10 +65,7 @@ impl Outcome {
 /// Writes the text of a report.
 fn write_report<K: Sink>(alloc: Global, out: &mut K, report: Report) -> Outcome
     requires { All (HasEnded (length report.processes)) report.ports }
-    ensures cause { WriteComes (K.faults out.old) (K.faults out.new) result.cause }
-    ensures reported { IsReported result.cause result.report }
-    ensures same { IfSome result.report (λ r. r ≡ report) }
-    ensures wrote { Wrote (K.written out.old) (K.written out.new) result.cause result.report }
+    ensures { WriteEnds (sink_view K.written K.took K.faults out.old) (sink_view K.written K.took K.faults out.new) report result.cause result.report }
 {
     let Ok(text) = report_text(alloc, &report) else {
         return Outcome::without_report(Cause::NoMemory);
@@ -84,6 +83,7 @@ fn write_report<K: Sink>(alloc: Global, out: &mut K, report: Report) -> Outcome
 }
 
 /// Runs the script that the words ask for, over drivers of any one type.
+#[tactic(auto, using(crate::proofs::Ending::ends_usage, crate::proofs::Ending::ends_unread, crate::proofs::Ending::ends_unmade, crate::proofs::Ending::ends_made))]
 fn run_words<D: Driver, F: Files, K: Sink, R: Wait>(
     rt: &R,
     alloc: Global,
@@ -93,14 +93,16 @@ fn run_words<D: Driver, F: Files, K: Sink, R: Wait>(
     hosts: &mut Vec<Hosted<D>>,
 ) -> Outcome
     requires { All (IsUnused D.stage) hosts.old.items }
-    ensures cause { CauseComes (asked (map (λ w. string_bytes w) words.now)) (F.told files.old) D.kind hosts.old.items
-        (record { reads = F.reads files.old; writes = F.writes files.old; puts = K.faults out.old })
-        (record { reads = F.reads files.new; writes = F.writes files.new; puts = K.faults out.new }) result.cause }
-    ensures reported { IsReported result.cause result.report }
-    ensures wrote { Wrote (K.written out.old) (K.written out.new) result.cause result.report }
-    ensures back { AllCameBack D.kind D.stage D.faults hosts.old.items hosts.new.items }
-    ensures headline { IfSome result.report (λ report. (plan : Plan) → Says (asked (map (λ w. string_bytes w) words.now)) (F.told files.old) plan
-        → Headline D.kind D.own plan hosts.new.items report) }
+    ensures { Ends D.kind D.stage D.faults D.own
+        (record {
+          words = asked (map (λ w. string_bytes w) words.now);
+          files = files_view F.told F.answered F.wrote F.reads F.writes files.old;
+          files_after = files_view F.told F.answered F.wrote F.reads F.writes files.new;
+          sink = sink_view K.written K.took K.faults out.old;
+          sink_after = sink_view K.written K.took K.faults out.new;
+          hosts = hosts.old.items;
+          hosts_after = hosts.new.items;
+        }) result.cause result.report }
 {
     let name = match script_name(words) {
         Ok(name) => name,
@@ -139,17 +141,16 @@ fn run_hosted<D: Driver, F: Files, K: Sink, P, R: Wait>(
 ) -> Ended<P, D>
     requires { All (IsUnused D.stage) drivers.items }
     ensures status { result.status ≡ status_of result.cause }
-    ensures cause { CauseComes (asked (map (λ w. string_bytes w) words.now)) (F.told files.old) D.kind drivers.items
-        (record { reads = F.reads files.old; writes = F.writes files.old; puts = K.faults out.old })
-        (record { reads = F.reads files.new; writes = F.writes files.new; puts = K.faults out.new }) result.cause }
-    ensures complete { Completes (asked (map (λ w. string_bytes w) words.now)) (F.told files.old) D.kind drivers.items
-        (record { reads = F.reads files.old; writes = F.writes files.old; puts = K.faults out.old })
-        (record { reads = F.reads files.new; writes = F.writes files.new; puts = K.faults out.new }) result.cause }
-    ensures reported { IsReported result.cause result.report }
-    ensures wrote { Wrote (K.written out.old) (K.written out.new) result.cause result.report }
-    ensures back { AllCameBack D.kind D.stage D.faults drivers.items result.drivers.items }
-    ensures headline { IfSome result.report (λ report. (plan : Plan) → Says (asked (map (λ w. string_bytes w) words.now)) (F.told files.old) plan
-        → Headline D.kind D.own plan result.drivers.items report) }
+    ensures run { Ends D.kind D.stage D.faults D.own
+        (record {
+          words = asked (map (λ w. string_bytes w) words.now);
+          files = files_view F.told F.answered F.wrote F.reads F.writes files.old;
+          files_after = files_view F.told F.answered F.wrote F.reads F.writes files.new;
+          sink = sink_view K.written K.took K.faults out.old;
+          sink_after = sink_view K.written K.took K.faults out.new;
+          hosts = drivers.items;
+          hosts_after = result.drivers.items;
+        }) result.cause result.report }
     ensures poll { result.poll ≡ Some poll }
 {
     let mut drivers = drivers;
@@ -185,17 +186,16 @@ pub fn gateway<F: Files, K: Sink, P: PollSet + Send, G: Gate + Sync, R: Sync + W
 ) -> Ended<P>
     requires { All (IsUnused (λ b. stage b)) drivers.items }
     ensures status { result.status ≡ status_of result.cause }
-    ensures cause { CauseComes (asked (map (λ w. string_bytes w) words.now)) (F.told files.old) (λ b. kind b) drivers.items
-        (record { reads = F.reads files.old; writes = F.writes files.old; puts = K.faults out.old })
-        (record { reads = F.reads files.new; writes = F.writes files.new; puts = K.faults out.new }) result.cause }
-    ensures complete { Completes (asked (map (λ w. string_bytes w) words.now)) (F.told files.old) (λ b. kind b) drivers.items
-        (record { reads = F.reads files.old; writes = F.writes files.old; puts = K.faults out.old })
-        (record { reads = F.reads files.new; writes = F.writes files.new; puts = K.faults out.new }) result.cause }
-    ensures reported { IsReported result.cause result.report }
-    ensures wrote { Wrote (K.written out.old) (K.written out.new) result.cause result.report }
-    ensures back { AllCameBack (λ b. kind b) (λ b. stage b) (λ b. (Driver-box b).faults b.value) drivers.items result.drivers.items }
-    ensures headline { IfSome result.report (λ report. (plan : Plan) → Says (asked (map (λ w. string_bytes w) words.now)) (F.told files.old) plan
-        → Headline (λ b. kind b) (λ b. own b) plan result.drivers.items report) }
+    ensures run { Ends (λ b. kind b) (λ b. stage b) (λ b. (Driver-box b).faults b.value) (λ b. own b)
+        (record {
+          words = asked (map (λ w. string_bytes w) words.now);
+          files = files_view F.told F.answered F.wrote F.reads F.writes files.old;
+          files_after = files_view F.told F.answered F.wrote F.reads F.writes files.new;
+          sink = sink_view K.written K.took K.faults out.old;
+          sink_after = sink_view K.written K.took K.faults out.new;
+          hosts = drivers.items;
+          hosts_after = result.drivers.items;
+        }) result.cause result.report }
     ensures poll { result.poll ≡ Some poll }
 {
     run_hosted(rt, alloc, words, files, out, drivers, poll)

@@ -14,6 +14,29 @@ use std::sync::Wait;
 /// How many drivers of each kind there are: as many as a script may have ports.
 const DRIVERS: usize = 32;
 
+/// The kinds of drivers that the program has.
+#[derive(Clone, Copy)]
+enum Sample {
+    Echo,
+    Tally,
+    Store,
+    Valve,
+    ValveSoft,
+    Refuse(Refused),
+}
+
+/// One of each kind.
+const SAMPLES: [Sample; 8] = [
+    Sample::Echo,
+    Sample::Tally,
+    Sample::Store,
+    Sample::Valve,
+    Sample::ValveSoft,
+    Sample::Refuse(Refused::General),
+    Sample::Refuse(Refused::Errno),
+    Sample::Refuse(Refused::Badarg),
+];
+
 /// The status of a run for which no memory was found.
 const NO_MEMORY: u8 = 8;
 
@@ -61,29 +84,13 @@ fn say(rt: &impl Eprint, alloc: Global, cause: &Cause) {
     }
 }
 
-/// Runs what the command line asks for, and returns the status.
-fn run<R: AllocGlobal + Clone + Drop + Env + Eprint + Files + Print + Sync + Wait>(
+/// Runs what the command line asks for, over these drivers, and returns the status.
+fn run_over<R: AllocGlobal + Clone + Drop + Env + Eprint + Files + Print + Sync + Wait>(
     rt: &R,
+    drivers: Vec<Box<dyn Driver + Send>>,
 ) -> Result<u8, NoMemory> {
     let alloc = rt.alloc();
     let words = words(rt, alloc)?;
-    let mut drivers = Vec::new(alloc);
-    for _ in 0..DRIVERS {
-        let echo: Box<dyn Driver + Send> = Box::new(alloc, Echo::new())?;
-        drivers.push(echo)?;
-        let tally: Box<dyn Driver + Send> = Box::new(alloc, Tally::new())?;
-        drivers.push(tally)?;
-        let store: Box<dyn Driver + Send> = Box::new(alloc, Store::new())?;
-        drivers.push(store)?;
-        let valve: Box<dyn Driver + Send> = Box::new(alloc, Valve::new())?;
-        drivers.push(valve)?;
-        let soft: Box<dyn Driver + Send> = Box::new(alloc, ValveSoft::new())?;
-        drivers.push(soft)?;
-        for refused in [Refused::General, Refused::Errno, Refused::Badarg] {
-            let refuse: Box<dyn Driver + Send> = Box::new(alloc, Refuse::new(refused))?;
-            drivers.push(refuse)?;
-        }
-    }
     let drivers = host_drivers(alloc, drivers)?;
     let mut files = RealFiles::new(rt.clone()?);
     let mut out = RealSink::new(rt.clone()?);
@@ -100,6 +107,28 @@ fn run<R: AllocGlobal + Clone + Drop + Env + Eprint + Files + Print + Sync + Wai
     );
     say(rt, alloc, &cause);
     Ok(status)
+}
+
+/// Runs what the command line asks for, over fresh drivers of each kind, and returns the status.
+fn run<R: AllocGlobal + Clone + Drop + Env + Eprint + Files + Print + Sync + Wait>(
+    rt: &R,
+) -> Result<u8, NoMemory> {
+    let alloc = rt.alloc();
+    let mut drivers = Vec::new(alloc);
+    for sample in SAMPLES {
+        for _ in 0..DRIVERS {
+            let driver: Box<dyn Driver + Send> = match sample {
+                Sample::Echo => Box::new(alloc, Echo::new())?,
+                Sample::Tally => Box::new(alloc, Tally::new())?,
+                Sample::Store => Box::new(alloc, Store::new())?,
+                Sample::Valve => Box::new(alloc, Valve::new())?,
+                Sample::ValveSoft => Box::new(alloc, ValveSoft::new())?,
+                Sample::Refuse(refused) => Box::new(alloc, Refuse::new(refused))?,
+            };
+            drivers.push(driver)?;
+        }
+    }
+    run_over(rt, drivers)
 }
 
 fn main(rt: HostRuntime) -> ExitCode {

@@ -9,8 +9,8 @@ use Rattle.packet_framing.specs.declared.message.Message.{Message}
 use Rattle.packet_framing.specs.declared.fault.UnframeFault.{UnframeFault}
 use Rattle.packet_framing.specs.declared.fault.UnframeFault.TheVariants.{Oversize, NoMemory}
 use Rattle.packet_framing.specs.Messages.{IsServed, rest_of}
-use Rattle.packet_framing.specs.Unframed.{Unframed, Unframes, HasOversize, RefusesFor, FeedFails, RunFails}
-use Rattle.packet_framing.proofs.Laws.{one_more, one_more_refused, stays_refused}
+use Rattle.packet_framing.specs.Unframed.{Unframed, Unframes, HasOversize, RefusesFor, FeedFails, RunFails, fresh}
+use Rattle.packet_framing.proofs.Laws.{one_more, one_more_refused, stays_refused, rest_is}
 
 -- these chunks were fed, and told as these messages
 pub record IsRunning (mode : Mode) (chunks : List (List ℕ)) (u : Unframed) (ms : List Message) : Type 0 where
@@ -56,3 +56,14 @@ running_more mode chunks i chunk u v ms ns all there is running told new joined 
       open' = ap (λ (w : Unframed). w.oversize) new ∙ running.open';
       told = subst R (sym joined) (subst Q (sym bytes) more);
     }
+
+abbrev unframed : Mode → List ℕ → Option ℕ → Unframed
+unframed mode held oversize = record { mode = mode; held = held; oversize = oversize }
+
+-- an unframer that was told of these chunks is fresh but for the rest of their bytes, which it holds
+pub running_holds : (mode : Mode) (chunks : List (List ℕ)) (u : Unframed) (ms : List Message) → IsRunning mode chunks u ms →
+    u ≡ record (fresh mode) { held = rest_of mode (concat chunks) }
+running_holds mode chunks u ms running =
+    ap (λ m. unframed m u.held u.oversize) running.same
+    ∙ (ap (λ held. unframed mode held u.oversize) (rest_is mode (concat chunks) ms u.held running.told)
+    ∙ ap (λ oversize. unframed mode (rest_of mode (concat chunks)) oversize) running.open')

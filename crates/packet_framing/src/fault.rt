@@ -17,7 +17,7 @@ pub enum FrameFault {
 pub enum UnframeFault {
     /// A header tells so many bytes, which are more than 262,143.
     #[error("a frame of {len} bytes is too long")]
-    Oversize { len: u32 },
+    Oversize { len: u64 },
     #[error("out of memory")]
     NoMemory,
 }

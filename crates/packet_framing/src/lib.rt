@@ -22,4 +22,4 @@ pub use io_vector::Flag;
 pub use message::Message;
 pub use mode::Mode;
 pub use sent::frame;
-pub use unframer::{Unframer, unframe};
+pub use unframer::{Unframer, unframe, unframe_so_far};

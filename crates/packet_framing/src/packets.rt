@@ -52,7 +52,9 @@ fn first_packet(
     }
     let len = told_len(mode, joined, at);
     if len > MAX_LEN {
-        return Err(UnframeFault::Oversize { len });
+        return Err(UnframeFault::Oversize {
+            len: u64::from(len),
+        });
     }
     if left - mode.header_len() < len as usize {
         return Ok(None);

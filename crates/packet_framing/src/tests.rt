@@ -1,6 +1,8 @@
 ghost use Rattle.packet_framing.specs.Messages.{IsServed};
 
-use crate::{Flag, FrameFault, Message, Mode, UnframeFault, Unframer, frame, unframe};
+use crate::{
+    Flag, FrameFault, Message, Mode, UnframeFault, Unframer, frame, unframe, unframe_so_far,
+};
 use io_vector::{IoVec, NoMemory, Piece};
 use std::alloc::Global;
 use std::test::Fail;
@@ -134,6 +136,20 @@ fn a_run_of_chunks(rt: HostRuntime) -> Result<(), Fail> {
             &[(Flag::Plain, b"abc"), (Flag::Plain, b"")]
         )
     );
+    Ok(())
+}
+
+#[test]
+fn a_run_goes_on(rt: HostRuntime) -> Result<(), Fail> {
+    let alloc = rt.alloc();
+    let chunks = [
+        Piece::of_slice(alloc, b"ab")?,
+        Piece::of_slice(alloc, b"\nc")?,
+    ];
+    let (mut unframer, lines) = unframe_so_far(alloc, Mode::Line(3), &chunks)?;
+    assert!(rt; are(lines.as_slice(), &[(Flag::Eol, b"ab")]));
+    let more = unframer.feed(b"d\n")?;
+    assert!(rt; are(more.as_slice(), &[(Flag::Eol, b"cd")]));
     Ok(())
 }
 

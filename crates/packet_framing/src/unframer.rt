@@ -1,4 +1,4 @@
-ghost use Rattle.std.specs.Prelude.{◌≡◌, ◌≤◌, ◌++◌, ℕ, [], length, drop, true, IfOk, IfErr, OnOk, OnErr};
+ghost use Rattle.std.specs.Prelude.{◌≡◌, ◌≤◌, ◌++◌, ℕ, [], length, drop, true, false, IfOk, IfErr, OnOk, OnErr};
 ghost use Rattle.std.specs.List.{concat};
 ghost use Rattle.packet_framing.specs.Joined.{bytes_of};
 ghost use Rattle.packet_framing.specs.Messages.{IsServed, IsMessages, StreamMessages, last_message, rest_of};
@@ -29,7 +29,7 @@ pub struct Unframer {
     alloc: Global,
     mode: Mode,
     held: Vec<u8>,
-    oversize: Option<u32>,
+    oversize: Option<u64>,
 }
 
 impl Model for Unframer {
@@ -162,10 +162,16 @@ fn hold(alloc: Global, held: &mut Vec<u8>, chunk: &[u8], from: usize) -> Result<
     Ok(())
 }
 
-/// The messages of a whole run: of these chunks, and then the end.
-pub fn unframe(alloc: Global, mode: Mode, chunks: &[Piece]) -> Result<Vec<Message>, UnframeFault>
+/// The messages of these chunks, fed one after another, while more may come; and the unframer, to which more can be fed.
+pub fn unframe_so_far(
+    alloc: Global,
+    mode: Mode,
+    chunks: &[Piece],
+) -> Result<(Unframer, Vec<Message>), UnframeFault>
     requires { IsServed mode }
-    ensures messages { IfOk result (λ told. IsMessages mode (concat chunks.now) true told.items) }
+    ensures messages { IfOk result (λ fed. IsMessages mode (concat chunks.now) false fed.1.items) }
+    ensures unframer { IfOk result (λ fed. fed.0 ≡ record (fresh mode) { held = rest_of mode (concat chunks.now) }) }
+    ensures told { IfOk result (λ fed. Unframes mode (concat chunks.now) fed.1.items fed.0.held) }
     ensures served { OnOk result ((len : ℕ) → ¬ HasOversize mode (concat chunks.now) len) }
     ensures fault { IfErr result (RunFails mode (concat chunks.now)) }
 {
@@ -174,6 +180,17 @@ pub fn unframe(alloc: Global, mode: Mode, chunks: &[Piece]) -> Result<Vec<Messag
     for chunk in chunks {
         messages.append(&mut unframer.feed(chunk.as_slice())?)?;
     }
+    Ok((unframer, messages))
+}
+
+/// The messages of a whole run: of these chunks, and then the end.
+pub fn unframe(alloc: Global, mode: Mode, chunks: &[Piece]) -> Result<Vec<Message>, UnframeFault>
+    requires { IsServed mode }
+    ensures messages { IfOk result (λ told. IsMessages mode (concat chunks.now) true told.items) }
+    ensures served { OnOk result ((len : ℕ) → ¬ HasOversize mode (concat chunks.now) len) }
+    ensures fault { IfErr result (RunFails mode (concat chunks.now)) }
+{
+    let (mut unframer, mut messages) = unframe_so_far(alloc, mode, chunks)?;
     messages.append(&mut unframer.end()?)?;
     Ok(messages)
 }

@@ -1,5 +1,6 @@
 use crate::{Answer, Reason};
 use io_vector::{Flag, Piece};
+use task_queue::Fits;
 
 /// What a port sends to a process. Ports go by their place in the order of declaration, from 0.
 #[derive(Drop)]
@@ -45,4 +46,11 @@ pub enum Mail {
         word: u64,
         closed: bool,
     },
+}
+
+// Every mail fits, in a mailbox with no key.
+impl Fits for Mail {
+    type Key = ();
+
+    ghost fits = { λ key number mail. Unit {0} };
 }

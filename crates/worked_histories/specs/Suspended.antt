@@ -8,15 +8,15 @@ use Rattle.port_model.specs.declared.mail.Mail.{Mail}
 use Rattle.port_model.specs.declared.mail.Mail.TheVariants as mail
 use Rattle.port_model.specs.declared.row.Row.{Row}
 use Rattle.port_model.specs.declared.row.Row.TheVariants.{Handled, Late, Listed, Resumed}
-use Rattle.driver_model.specs.Calls.{Valve, ValveSoft}
+use Rattle.driver_model.specs.Calls.{Valve}
 use Rattle.port_history.specs.Opening.{Opening}
 use Rattle.worked_histories.specs.Rows.{port_of, suspending, forced, command, control, handled, busy, free, closed}
 
 abbrev pub valve_port : Opening
-valve_port = port_of Valve
+valve_port = port_of (Valve false)
 
 abbrev pub soft_port : Opening
-soft_port = port_of ValveSoft
+soft_port = port_of (Valve true)
 
 abbrev pub sets_busy : Row
 sets_busy = handled 1 0 (control 1) (Busy true ∷ Reply [] ∷ [])

@@ -1,7 +1,7 @@
 use Rattle.std.proofs.Common.{length, ap, ◌∙◌}
 use Rattle.std.proofs.lemmas.List.{length-map}
 use Rattle.gateway.specs.Wanted.{wanted_by}
-use Rattle.gateway.proofs.Served.{owners-of, steps-of, new-bodies, all-back, headline, ended, Served-by, Left-by}
+use Rattle.gateway.proofs.Served.{owners-of, steps-of, new-bodies, all-back, made, ended, Served-by, Left-by}
 use Rattle.gateway.proofs.serving.serve_ports.Goals as goal
 
 pub open_ports-requires-clause-owners : goal.open_ports-requires-clause-owners
@@ -31,8 +31,8 @@ returns-clause-back g c =
     all-back g.D.Driver.kind g.D.Driver.stage g.D.Driver.faults g.D.Driver.own _ c.args.wanted.now c.args.places.now c.args.hosts.now.items c.open_ports.new.hosts.items c.take_back-journals.new.hosts.items
     c.in-Ok.bodies.items c.run_processes-ran.new.bodies.items c.requires.unused c.in-Ok.ensures.opened c.run_processes-ran.ensures.same c.take_back-journals.ensures.returned
 
-pub returns-clause-headline : goal.returns-clause-headline
-returns-clause-headline g c =
+pub returns-clause-made : goal.returns-clause-made
+returns-clause-made g c =
     let served : Served-by g.D.Driver.kind g.D.Driver.stage g.D.Driver.faults g.D.Driver.own c.args.script.now c.args.places.now c.args.hosts.now.items c.open_ports.new.hosts.items
     c.take_back-journals.new.hosts.items c.in-Ok.bodies.items c.run_processes-ran.new.bodies.items = record {
       unused = c.requires.unused;
@@ -50,7 +50,7 @@ returns-clause-headline g c =
       told_ports = c.in-Ok-report_of.ensures.ports;
       told_processes = c.in-Ok-report_of.ensures.processes;
     } in
-    headline g.D.Driver.kind g.D.Driver.stage g.D.Driver.faults g.D.Driver.own c.args.script.now c.args.places.now c.args.hosts.now.items c.open_ports.new.hosts.items
+    made g.D.Driver.kind g.D.Driver.stage g.D.Driver.faults g.D.Driver.own c.args.script.now c.args.places.now c.args.hosts.now.items c.open_ports.new.hosts.items
     c.take_back-journals.new.hosts.items c.in-Ok.bodies.items c.run_processes-ran.new.bodies.items c.in-Ok-Ok.journals.items c.in-Ok-Ok.left.items c.in-Ok-report_of.report served left
 
 pub returns-clause-ended : goal.returns-clause-ended

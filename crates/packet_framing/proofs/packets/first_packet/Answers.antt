@@ -4,7 +4,7 @@ use Rattle.packet_framing.proofs.packets.first_packet.Goals as goal
 
 pub returns-then-len-gt-MAX_LEN-clause-fault : goal.returns-then-len-gt-MAX_LEN-clause-fault
 returns-then-len-gt-MAX_LEN-clause-fault c =
-    large_header c.args.mode _ c.told_len-len.result c.told_len-len.ensures.value c.told_len-len.ensures.below c.if-len-gt-MAX_LEN.true
+    rw c.from.ensures (large_header c.args.mode _ c.told_len-len.result c.told_len-len.ensures.value c.told_len-len.ensures.below c.if-len-gt-MAX_LEN.true)
 
 pub returns-clause-found : goal.returns-clause-found
 returns-clause-found c =

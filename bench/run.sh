@@ -1,0 +1,57 @@
+#!/usr/bin/env bash
+# Times the parts of the project and whole runs of the program, in rows of one form:
+#
+#     name n total_us ns_each growth
+#
+# where n counts parts (tuples, segments, bytes or commands), and growth is in percent of the row before, which has half as many parts.
+# `bench/run.sh NAME [N]` makes one work alone; the names are those that `bench/run.sh` prints. Nothing checks a figure.
+set -u
+here=$(cd "$(dirname "$0")/.." && pwd)
+
+# A script of so many commands of 8 bytes.
+write_script() {
+    printf 'process a\nport p a echo\n'
+    for ((i = 0; i < $1; i++)); do printf 'a command p "abcdefgh"\n'; done
+}
+
+# The best time of five runs of a script, in microseconds.
+best_run() {
+    local best='' from to
+    for _ in 1 2 3 4 5; do
+        from=$(date +%s%N)
+        "$here/gateway" run "$1" >/dev/null || return 1
+        to=$(date +%s%N)
+        if [ -z "$best" ] || [ $(((to - from) / 1000)) -lt "$best" ]; then best=$(((to - from) / 1000)); fi
+    done
+    echo "$best"
+}
+
+# Whole runs of the program, from its start to its end, with so many commands and two, four and eight times as many.
+time_program() {
+    local folder before='' time growth
+    folder=$(mktemp -d)
+    trap 'rm -rf "$folder"' EXIT
+    for count in "$1" $(($1 * 2)) $(($1 * 4)) $(($1 * 8)); do
+        write_script "$count" >"$folder/script.txt"
+        time=$(best_run "$folder/script.txt") || return 1
+        growth=-
+        [ -n "$before" ] && growth=$((time * 100 / before))
+        echo "gateway_run $count $time $((time * 1000 / count)) $growth"
+        before=$time
+    done
+}
+
+if [ "${1:-}" = gateway_run ]; then
+    time_program "${2:-2000}"
+    exit
+fi
+cd "$here/crates/bench" || exit 1
+if ! log=$(rt run 2>&1); then
+    echo "$log"
+    exit 1
+fi
+if [ $# -gt 0 ]; then
+    out/bench "$@"
+    exit
+fi
+out/bench all && time_program 2000

@@ -1,0 +1,75 @@
+//! Frames and lines that are found in streams of bytes.
+use crate::work::ROUNDS;
+use anyhow::{Result, bail};
+use io_vector::{IoVec, Piece};
+use packet_framing::{Mode, Unframer, frame};
+use std::alloc::Global;
+use std::rt::Clock;
+use std::time::{Duration, Instant};
+
+const LARGE_CHUNK: usize = 65_536;
+
+/// At least so many bytes in the longest frames or lines of the mode.
+fn text_of(alloc: Global, mode: Mode, bytes: u32) -> Result<Vec<u8>> {
+    let unit = unit_of(alloc, mode, bytes)?;
+    let mut text = Vec::new(alloc);
+    for _ in 0..bytes as usize / unit.len().max(1) + 1 {
+        text.extend_from_slice(unit.as_slice())?;
+    }
+    Ok(text)
+}
+
+/// One frame or line: the longest of the mode, but for small texts.
+fn unit_of(alloc: Global, mode: Mode, bytes: u32) -> Result<Vec<u8>> {
+    let longest = match mode {
+        Mode::Packet1 => 255,
+        Mode::Packet2 => 65_535,
+        Mode::Packet4 | Mode::Line(_) | Mode::Stream => 262_143,
+    };
+    let mut content = Vec::new(alloc);
+    for _ in 0..longest.min(bytes / 2) {
+        content.push(b'a')?;
+    }
+    if let Mode::Line(_) = mode {
+        content.push(b'\n')?;
+    }
+    let Ok(piece) = Piece::of_vec(content) else {
+        bail!("no memory");
+    };
+    let sent = frame(alloc, mode, &IoVec::of_piece(alloc, piece))?;
+    let Ok(unit) = sent.to_vec() else {
+        bail!("no memory");
+    };
+    Ok(unit)
+}
+
+/// Feeds a text in chunks of so many bytes, and counts the messages.
+fn feed_all(alloc: Global, mode: Mode, text: &[u8], chunk_len: usize) -> Result<usize> {
+    if !mode.is_served() {
+        bail!("no such mode");
+    }
+    let mut unframer = Unframer::new(alloc, mode);
+    let mut messages = 0usize;
+    for chunk in text.chunks(chunk_len.max(1)) {
+        messages = messages.saturating_add(unframer.feed(chunk)?.len());
+    }
+    Ok(messages.saturating_add(unframer.end()?.len()))
+}
+
+/// The shortest time of some rounds to feed so many bytes in the longest frames or lines of the mode, in large chunks or byte by byte.
+pub(crate) fn feed_time<R: Clock + AllocGlobal>(
+    rt: &R,
+    mode: Mode,
+    bytes: u32,
+    bytewise: bool,
+) -> Result<Duration> {
+    let text = text_of(rt.alloc(), mode, bytes)?;
+    let chunk = if bytewise { 1 } else { LARGE_CHUNK };
+    let mut best = Duration::MAX;
+    for _ in 0..ROUNDS {
+        let start = Instant::now(rt)?;
+        feed_all(rt.alloc(), mode, text.as_slice(), chunk)?;
+        best = best.min(start.elapsed(rt)?);
+    }
+    Ok(best)
+}

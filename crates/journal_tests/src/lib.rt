@@ -1,0 +1,5 @@
+//! Tests of the text of a journal, over the contracts of journal_text.
+#![tactic(auto)]
+
+#[cfg(test)]
+mod texts;

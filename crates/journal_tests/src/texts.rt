@@ -1,0 +1,201 @@
+use journal_text::{JournalFault, each_book_has_one_text, print_journal, read_journal};
+use std::alloc::{AllocError, Global};
+use std::test::Fail;
+
+/// The journal of an echo port that handles one command and is closed.
+const ECHO: &str = "journal 1
+processes a
+port p 0 echo msgq 4096 8192
+h p0 0 command - 616263 ; ; data plain 616263
+h p0 1 close ; ;
+m closed
+end
+";
+
+/// The journal of a valve whose owner is suspended until another process frees it.
+const VALVE: &str = "journal 1
+processes a b
+port v 0 valve msgq off
+h p1 0 control 1 - ; ; busy 1, reply -
+m busy
+s p0 0
+h p1 1 control 2 - ; ; busy 0, reply -
+m free
+r p0 0 1
+h p0 0 command s 78 ; ; data plain 78
+end
+";
+
+/// A port of a program, with a row for each signal, answer and effect that no other journal here has.
+const SPAWN: &str = "journal 1
+processes a b
+port c 1 spawn msgq off run 636174 line 80 eof nostatus busy 1 1073741824 events 4294967295 0
+h p0 0 send f - ; ; eof, xstatus -2147483648, select 1 r 1, select 1 w 0, unuse 1, watch 1, reply badarg, fail eio
+h p0 1 call 4294967295 00ff ; took 0, got 0a, again, end, failed, status 2147483647 ; data eol -, data noeol 0d, async 18446744073709551615 7 255 01
+l p1 0 ownerclose
+l p1 1 connect 1
+l p1 2 ownerconnect 0
+l p1 3 link
+l p1 4 unlink
+l p1 5 monitor 18446744073709551615
+l p1 6 demonitor 0
+l p1 7 exit kill
+l p1 8 gone a_1
+h e 0 input 5 ; ;
+h e 1 output 5 ; ;
+l e 2 dropped 5
+h w4294967295 0 done 3 616263 ; ;
+l t 0 close
+end
+port q 0 digest msgq 1 1
+end
+port r 0 spawn msgq 5 6 run - packet 4 noeof status busy 2 3 events 0 1
+end
+port s 0 spawn msgq off run - stream noeof nostatus busy 2 3 events 0 1
+end
+";
+
+/// What reading a text and printing its book gives, or the place of its fault.
+fn printed(alloc: Global, text: &str) -> Result<Vec<u8>, JournalFault> {
+    let book = read_journal(alloc, text.as_bytes())?;
+    match print_journal(alloc, &book) {
+        Ok(text) => Ok(text),
+        Err(_) => Err(JournalFault::NoMemory),
+    }
+}
+
+#[test]
+fn a_journal_is_printed_as_it_was_read(rt: HostRuntime) -> Result<(), Fail> {
+    each_book_has_one_text();
+    for text in ["journal 1\nprocesses\n", ECHO, VALVE, SPAWN] {
+        match printed(rt.alloc(), text) {
+            Ok(again) => assert_eq!(rt; again.as_slice(), text.as_bytes()),
+            Err(fault) => panic!(rt; "{fault:?}"),
+        }
+    }
+    Ok(())
+}
+
+#[test]
+fn a_book_tells_its_names_and_ports(rt: HostRuntime) -> Result<(), Fail> {
+    let book = read_journal(rt.alloc(), VALVE.as_bytes())?;
+    assert_eq!(rt; book.names().len(), 2);
+    assert_eq!(rt; book.ports().len(), 1);
+    assert_eq!(rt; book.ports()[0].driver.as_str(), "valve");
+    assert_eq!(rt; book.ports()[0].journal.rows.as_slice().len(), 7);
+    Ok(())
+}
+
+/// Whether the text has its first bad line at this place.
+fn is_bad_at(alloc: Global, text: &str, at: u64) -> bool {
+    match read_journal(alloc, text.as_bytes()) {
+        Ok(_) => false,
+        Err(fault) => fault == JournalFault::NotAJournal { at },
+    }
+}
+
+#[test]
+fn a_cut_text_is_bad_where_it_was_cut(rt: HostRuntime) {
+    for (text, at) in [
+        ("", 0),
+        ("journal 1", 0),
+        ("journal 1\n", 10),
+        ("journal 1\nprocesses a", 10),
+        ("journal 1\nprocesses a\nport p 0 echo msgq off\n", 45),
+        ("journal 1\nprocesses a\nport p 0 echo msgq off\nend", 45),
+        (
+            "journal 1\nprocesses a\nport p 0 echo msgq off\nend\n\n",
+            49,
+        ),
+        (
+            "journal 1\nprocesses a\nport p 0 echo msgq off\nend\nend\n",
+            49,
+        ),
+    ] {
+        assert!(rt; is_bad_at(rt.alloc(), text, at), "{text:?}");
+    }
+}
+
+#[test]
+fn a_bad_head_is_told(rt: HostRuntime) {
+    for (text, at) in [
+        ("journal 2\nprocesses\n", 0),
+        ("journal 01\nprocesses\n", 0),
+        ("journal  1\nprocesses\n", 0),
+        ("journal 1 \nprocesses\n", 0),
+        ("journal 1\r\nprocesses\n", 0),
+        ("journal 1\nprocesses \n", 10),
+        ("journal 1\nprocesses A\n", 10),
+        ("journal 1\nprocesses a  b\n", 10),
+        ("journal 1\nprocesses a1234567890123456\n", 10),
+    ] {
+        assert!(rt; is_bad_at(rt.alloc(), text, at), "{text:?}");
+    }
+}
+
+/// Whether this line is bad where a port's line belongs.
+fn is_bad_port(alloc: Global, line: &str) -> Result<bool, AllocError> {
+    let text = format!(in alloc; "journal 1\nprocesses a\n{line}\nend\n")?;
+    Ok(is_bad_at(alloc, text.as_str(), 22))
+}
+
+#[test]
+fn a_bad_port_is_told(rt: HostRuntime) -> Result<(), Fail> {
+    for line in [
+        "port p 1 echo msgq off",
+        "port p 00 echo msgq off",
+        "port p 0 refuse1 msgq off",
+        "port p 0 echo",
+        "port p 0 echo msgq 2 1",
+        "port p 0 echo msgq 0 1",
+        "port p 0 echo msgq 1 1073741825",
+        "port p 0 echo msgq off run - stream eof status busy 1 1 events 0 0",
+        "port p 0 spawn msgq off",
+        "port p 0 spawn msgq off run - packet 3 eof status busy 1 1 events 0 0",
+        "port p 0 spawn msgq off run - line 0 eof status busy 1 1 events 0 0",
+        "port p 0 spawn msgq off run - stream eof status busy 1 1 events 0 4294967296",
+        "port p 0 spawn msgq off run FF stream eof status busy 1 1 events 0 0",
+    ] {
+        assert!(rt; is_bad_port(rt.alloc(), line)?, "{line:?}");
+    }
+    Ok(())
+}
+
+/// Whether this line is bad where a row's line belongs.
+fn is_bad_row(alloc: Global, line: &str) -> Result<bool, AllocError> {
+    let text = format!(in alloc; "journal 1\nprocesses a\nport p 0 echo msgq off\n{line}\nend\n")?;
+    Ok(is_bad_at(alloc, text.as_str(), 45))
+}
+
+#[test]
+fn a_bad_row_is_told(rt: HostRuntime) -> Result<(), Fail> {
+    for line in [
+        "",
+        "m",
+        "m open",
+        "m busy ",
+        "s p1 0",
+        "s p 0",
+        "s p0 18446744073709551616",
+        "r p0 0 01",
+        "l p0 0 command x -",
+        "l p0 0 command s 6",
+        "l p0 0 command s 6A",
+        "l p0 0 close s",
+        "l p0 0 connect 1",
+        "h p0 0 close",
+        "h p0 0 close ;",
+        "h p0 0 close ; ; ",
+        "h p0 0 close ;  ;",
+        "h p0 0 close ; ; eof,eof",
+        "h p0 0 close ; ; eof, ",
+        "h p0 0 close ; status -0 ;",
+        "h p0 0 close ; status 2147483648 ;",
+        "h p0 0 close ; ; async 0 0 256 -",
+        "h p0 0 close ; ; busy 2",
+        "h p0 0 timeout 0 ; ;",
+    ] {
+        assert!(rt; is_bad_row(rt.alloc(), line)?, "{line:?}");
+    }
+    Ok(())
+}

@@ -1,0 +1,11 @@
+use Rattle.std.proofs.Common.{◌∙◌, rules, tests}
+use Rattle.std.proofs.lemmas.Iterator.{YieldsList-from_slice}
+use Rattle.std.proofs.lemmas.Iterator.Consumers.{count_from_yields_List}
+use Rattle.std.proofs.lemmas.Iterator.Search.{YieldsList-from_take_while}
+use Rattle.std.proofs.lemmas.List.Folds.{length-prefix_len}
+use Rattle.journal_text.specs.Words.{is_line_byte}
+use Rattle.journal_text.proofs.lines.line_len.Goals as goal
+
+pub returns-clause-count : goal.returns-clause-count
+returns-clause-count c =
+    count_from_yields_List c.take_while.result _ c.count.ensures.ran (YieldsList-from_take_while _ is_line_byte (YieldsList-from_slice c.args.bytes.now (cc)) c.take_while.ensures.closure c.take_while.ensures.done (λ x b q k. search (rules, tests))) ∙ length-prefix_len is_line_byte c.args.bytes.now

@@ -1,0 +1,13 @@
+pub mod LineFault
+pub mod TextFault
+pub mod Words
+pub mod Signals
+pub mod Effects
+pub mod Rows
+pub mod Ports
+pub mod Books
+pub mod Told
+pub mod Reading
+pub mod ReadingRows
+pub mod ReadingPorts
+pub mod ReadingBooks

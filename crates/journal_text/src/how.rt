@@ -1,0 +1,7 @@
+/// The flags of a command: whether it suspends its sender, or is forced on a busy port.
+#[derive(Clone, Copy, Debug, PartialEq, Eq)]
+pub(crate) enum How {
+    Plain,
+    Suspends,
+    Forced,
+}

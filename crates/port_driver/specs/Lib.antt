@@ -1,0 +1,4 @@
+pub mod Context
+pub mod Replies
+pub mod Starting
+pub mod Driven

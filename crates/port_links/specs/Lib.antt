@@ -1,0 +1,4 @@
+pub mod Table
+pub mod Posts
+pub mod Flags
+pub mod Indexed

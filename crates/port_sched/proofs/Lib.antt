@@ -1,0 +1,2 @@
+pub mod HomeSteps
+pub mod Looks

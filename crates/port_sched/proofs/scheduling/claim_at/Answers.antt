@@ -1,0 +1,12 @@
+use Rattle.std.proofs.Common.{sym, ◌∙◌}
+use Rattle.port_sched.proofs.HomeSteps.{step_at, home_at}
+use Rattle.port_sched.proofs.scheduling.claim_at.Goals as goal
+
+pub claim_turn-requires-clause-port : goal.claim_turn-requires-clause-port
+claim_turn-requires-clause-port g c = c.requires.port.1 ∙ sym (home_at c.args.homes.now.items c.args.port _ c.requires.port.0 c.index_mut.ensures.value c.requires.homes).0
+
+pub claim_turn-requires-clause-rests : goal.claim_turn-requires-clause-rests
+claim_turn-requires-clause-rests g c = (home_at c.args.homes.now.items c.args.port _ c.requires.port.0 c.index_mut.ensures.value c.requires.homes).1
+
+pub returns : goal.returns
+returns g c = step_at c.args.homes.now.items c.args.port _ _ _ _ c.requires.port.0 c.index_mut.ensures.value c.requires.homes c.claim_turn.ensures

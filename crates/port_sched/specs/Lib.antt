@@ -1,0 +1,3 @@
+pub mod Lodging
+pub mod Homes
+pub mod Running

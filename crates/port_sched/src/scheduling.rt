@@ -1,0 +1,229 @@
+ghost use Rattle.std.specs.Prelude.{◌≡◌, ◌+◌, ◌<◌, ◌≤◌, ◌/◌, ◌%◌, ◌^◌, [], ◌∷◌, length, slice_get, Some, None, IfSome, IfNone, IsTrue, true, All};
+ghost use Rattle.port_words.specs.over.Over.{OverKnown, over_known, looked, stopped_view, TellsOver, HasNotStopped, finished_part, stopped_part};
+ghost use Rattle.port_words.specs.home.Seats.{HomeKnown};
+ghost use Rattle.port_sched.specs.Homes.{HomeStep, AreHomes, HomesStep};
+ghost use Rattle.port_sched.specs.Running.{Looked, Stopped, SawTheEnd, IsDone, IsNoMemory};
+
+use crate::body::{PortBody, Turn};
+use crate::idle::Idle;
+use crate::turns::{Home, claim_turn, idle_turn, next_ticket};
+use no_memory::NoMemory;
+use outside::Gate;
+use port_words::home::Ticket;
+use port_words::over::OverSeat;
+use run_queue::RunSeat;
+use std::sync::Wait;
+
+/// How a scheduler ended.
+#[derive(Clone, Copy, Debug, PartialEq, Eq)]
+pub enum SchedEnd {
+    /// The run was over: all had finished, or somebody had stopped it.
+    Done,
+    /// A turn or a push found no memory, and this scheduler stopped the run.
+    NoMemory,
+}
+
+/// What one scheduler has: a seat of each port's home, in the order of ports, its seat of the queues, and its seat of OVER.
+#[derive(Drop)]
+pub struct SchedSeats<B: PortBody> {
+    pub homes: Vec<Home<B>>,
+    pub run: RunSeat,
+    pub over: OverSeat,
+}
+
+const ONE_STOP: u64 = 1 << 32;
+
+// Whether all have finished, or somebody has stopped the run.
+fn is_over(over: &mut OverSeat) -> bool
+    ensures looked { Looked over.old over.new }
+    ensures over { IsTrue result → SawTheEnd over.old over.new }
+{
+    let word = over.look();
+    word / ONE_STOP > 0 || word % ONE_STOP == u64::from(over.counted())
+}
+
+// The ticket's turn, on the home of its port.
+fn claim_at<B: PortBody, G: Gate, R: Wait>(
+    rt: &R,
+    homes: &mut Vec<Home<B>>,
+    port: usize,
+    ticket: Ticket,
+    gate: &G,
+) -> Option<Turn>
+    requires homes { AreHomes homes.old.items }
+    requires port { (port < length homes.old.items) × (ticket.port ≡ port) }
+    ensures { AreHomes homes.new.items × HomesStep homes.old.items homes.new.items }
+{
+    claim_turn(rt, &mut homes[port], ticket, gate)
+}
+
+// A turn without a ticket.
+fn idle_at<B: PortBody, G: Gate, R: Wait>(
+    rt: &R,
+    homes: &mut Vec<Home<B>>,
+    port: usize,
+    gate: &G,
+) -> Option<Turn>
+    requires homes { AreHomes homes.old.items }
+    requires port { (port < length homes.old.items) × (port < 2 ^ 32) }
+    ensures { AreHomes homes.new.items × HomesStep homes.old.items homes.new.items }
+{
+    idle_turn(rt, &mut homes[port], port as u32, gate)
+}
+
+// The ticket of the next turn of this port.
+fn ticket_at<B: PortBody>(homes: &mut Vec<Home<B>>, port: usize) -> Option<Ticket>
+    requires homes { AreHomes homes.old.items }
+    requires port { port < length homes.old.items }
+    ensures { AreHomes homes.new.items × HomesStep homes.old.items homes.new.items }
+{
+    next_ticket(&mut homes[port])
+}
+
+// What follows a turn: where there may be more to do, the next turn is queued. Answers whether there may be.
+fn follow<B: PortBody>(
+    homes: &mut Vec<Home<B>>,
+    run: &mut RunSeat,
+    port: usize,
+    turn: Option<Turn>,
+) -> Result<bool, NoMemory>
+    requires homes { AreHomes homes.old.items }
+    requires port { port < length homes.old.items }
+    ensures { AreHomes homes.new.items × HomesStep homes.old.items homes.new.items }
+{
+    match turn {
+        None | Some(Turn::Idle) => Ok(false),
+        Some(Turn::NoMemory) => Err(NoMemory),
+        Some(Turn::More) => {
+            queue_next(homes, run, port)?;
+            Ok(true)
+        }
+    }
+}
+
+// Queues the next turn of this port, where it is idle.
+fn queue_next<B: PortBody>(
+    homes: &mut Vec<Home<B>>,
+    run: &mut RunSeat,
+    port: usize,
+) -> Result<(), NoMemory>
+    requires homes { AreHomes homes.old.items }
+    requires port { port < length homes.old.items }
+    ensures { AreHomes homes.new.items × HomesStep homes.old.items homes.new.items }
+{
+    if let Some(ticket) = ticket_at(homes, port) {
+        if run.push(ticket).is_err() {
+            return Err(NoMemory);
+        }
+    }
+    Ok(())
+}
+
+// The turn of a ticket. A ticket of no port of this run is dropped.
+fn serve_ticket<B: PortBody, G: Gate, R: Wait>(
+    rt: &R,
+    homes: &mut Vec<Home<B>>,
+    run: &mut RunSeat,
+    ticket: Ticket,
+    gate: &G,
+) -> Result<bool, NoMemory>
+    requires homes { AreHomes homes.old.items }
+    ensures { AreHomes homes.new.items × HomesStep homes.old.items homes.new.items }
+{
+    let port = ticket.port as usize;
+    if port >= homes.len() {
+        return Ok(true);
+    }
+    let turn = claim_at(rt, homes, port, ticket, gate);
+    follow(homes, run, port, turn)?;
+    Ok(true)
+}
+
+// A turn of each idle port, for tasks that came while a body was put home. Answers whether one may have more to do.
+fn serve_idle<B: PortBody, G: Gate, R: Wait>(
+    rt: &R,
+    homes: &mut Vec<Home<B>>,
+    run: &mut RunSeat,
+    gate: &G,
+) -> Result<bool, NoMemory>
+    requires homes { AreHomes homes.old.items }
+    requires few { length homes.old.items ≤ 2 ^ 32 }
+    ensures { AreHomes homes.new.items × HomesStep homes.old.items homes.new.items }
+{
+    let mut more = false;
+    'ports: for port in 0..homes.len() {
+        let turn = idle_at(rt, homes, port, gate);
+        if follow(homes, run, port, turn)? {
+            more = true;
+        }
+    }
+    Ok(more)
+}
+
+// One ticket, or else each idle port. Answers whether there was something to do.
+fn serve<B: PortBody, G: Gate, R: Wait>(
+    rt: &R,
+    homes: &mut Vec<Home<B>>,
+    run: &mut RunSeat,
+    gate: &G,
+) -> Result<bool, NoMemory>
+    requires homes { AreHomes homes.old.items }
+    requires few { length homes.old.items ≤ 2 ^ 32 }
+    ensures { AreHomes homes.new.items × HomesStep homes.old.items homes.new.items }
+{
+    match run.next(rt) {
+        Some(ticket) => serve_ticket(rt, homes, run, ticket, gate),
+        None => serve_idle(rt, homes, run, gate),
+    }
+}
+
+// Serves until the run is over, or there is no memory.
+fn serve_all<B: PortBody, G: Gate, R: Wait>(
+    rt: &R,
+    homes: &mut Vec<Home<B>>,
+    run: &mut RunSeat,
+    over: &mut OverSeat,
+    gate: &G,
+) -> SchedEnd
+    requires homes { AreHomes homes.old.items }
+    requires few { length homes.old.items ≤ 2 ^ 32 }
+    ensures homes { AreHomes homes.new.items × HomesStep homes.old.items homes.new.items }
+    ensures over { Looked over.old over.new }
+    ensures done { IsDone result → SawTheEnd over.old over.new }
+{
+    let idle = Idle::new();
+    'rounds: for _ in rt.forever() {
+        if is_over(over) {
+            return SchedEnd::Done;
+        }
+        match serve(rt, homes, run, gate) {
+            Ok(true) => idle.reset(),
+            Ok(false) => idle.wait(rt),
+            Err(NoMemory) => return SchedEnd::NoMemory,
+        }
+    }
+    unreachable!()
+}
+
+/// Runs turns until the run is over. It answers Done only where its last look found that all counted seats had finished, or a stop, and stops the run itself where a
+/// turn or a push found no memory. Every body is home when it returns. It may wait, and sleeps for short times while it finds nothing to do.
+pub fn scheduler<B: PortBody, G: Gate, R: Wait>(
+    rt: &R,
+    seats: &mut SchedSeats<B>,
+    gate: &G,
+) -> SchedEnd
+    requires homes { AreHomes seats.old.homes.items × (length seats.old.homes.items ≤ 2 ^ 32) }
+    requires stop { HasNotStopped seats.old.over.known.places }
+    ensures homes { AreHomes seats.new.homes.items × HomesStep seats.old.homes.items seats.new.homes.items }
+    ensures done { IsDone result → Looked seats.old.over seats.new.over × SawTheEnd seats.old.over seats.new.over }
+    ensures stopped { IsNoMemory result → Stopped seats.old.over seats.new.over }
+{
+    let end = serve_all(rt, &mut seats.homes, &mut seats.run, &mut seats.over, gate);
+    match end {
+        SchedEnd::Done => {}
+        SchedEnd::NoMemory => {
+            seats.over.stop();
+        }
+    }
+    end
+}

@@ -1,0 +1,5 @@
+pub mod Recut
+pub mod Calls
+pub mod Rows
+pub mod Watched
+pub mod Begun

@@ -1,0 +1,12 @@
+pub mod Adds
+pub mod Stats
+pub mod Keeps
+pub mod Made
+pub mod Lanes
+pub mod Causes
+pub mod Called
+pub mod Opening
+pub mod Answered
+pub mod Heard
+pub mod Going
+pub mod Gone

@@ -1,0 +1,11 @@
+pub mod Views
+pub mod Steps
+pub mod Calls
+pub mod Ports
+pub mod Added
+pub mod Laws
+pub mod Commanded
+pub mod Mailbox
+pub mod Looked
+pub mod Resumed
+pub mod Ended

@@ -1,0 +1,4 @@
+pub mod Accounts
+pub mod EndLemmas
+pub mod SeatLemmas
+pub mod OpeningLemmas

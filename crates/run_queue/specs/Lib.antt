@@ -1,0 +1,4 @@
+pub mod Account
+pub mod Ends
+pub mod Seats
+pub mod Laws

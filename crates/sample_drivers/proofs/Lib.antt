@@ -1,0 +1,4 @@
+pub mod Nothing
+pub mod Queued
+pub mod Jobs
+pub mod Tallies

@@ -1,0 +1,14 @@
+pub mod Rests
+pub mod Oversize
+pub mod Lists
+pub mod Recorded
+pub mod Histories
+pub mod Quiet
+pub mod Plain
+pub mod Commands
+pub mod Offers
+pub mod Messages
+pub mod Fetches
+pub mod Endings
+pub mod Starts
+pub mod Callbacks

@@ -1,0 +1,4 @@
+pub mod Recorded
+pub mod Serving
+pub mod Steps
+pub mod Answered
