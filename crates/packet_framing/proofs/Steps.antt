@@ -1,7 +1,9 @@
 -- One byte of a line, or one frame, more.
-use Rattle.std.proofs.Common.{◌≡◌, ◌≢◌, ◌+◌, ◌-◌, ◌<◌, ◌≤◌, ℕ, List, [], ◌∷◌, ◌++◌, length, take, drop, get_or, All, refl, sym, ◌∙◌, ap, subst, arith, append_assoc, length-append, length-drop}
-use Rattle.std.specs.Prelude.{slice_range}
-use Rattle.std.proofs.lemmas.List.{append-nil, take_at, drop_at, take_more, drop_more, drop-drop, get_or-drop, length-take-le, take-append-drop}
+use Rattle.std.proofs.Common.{◌≡◌, ◌≢◌, ◌+◌, ◌-◌, ◌<◌, ◌≤◌, ℕ, zero, suc, List, [], ◌∷◌, ◌++◌, length, take, drop, get_or, All, refl, sym, ◌∙◌, ap, subst, arith, append_assoc, length-append, length-drop}
+use Rattle.std.specs.Prelude.{slice_range, Some, None}
+use Rattle.std.proofs.lemmas.Bool.{eq-eqb}
+use Rattle.memchr.specs.Find.{IsFirstByte, is_byte}
+use Rattle.std.proofs.lemmas.List.{append-nil, take_at, drop_at, take_more, drop_more, drop-drop, get_or-drop, get_or-append_right, take_all, length-take-le, take-append-drop}
 use Rattle.std.proofs.lemmas.List.Elements.{All-push}
 use Rattle.io_vector.specs.declared.flag.Flag.{Flag}
 use Rattle.io_vector.specs.declared.flag.Flag.TheVariants.{Plain, Eol, Noeol}
@@ -12,7 +14,7 @@ use Rattle.packet_framing.specs.Lines.{message, line_messages, line_rest}
 use Rattle.packet_framing.specs.Packets.{frames_of}
 use Rattle.packet_framing.specs.declared.fault.UnframeFault.{UnframeFault}
 use Rattle.packet_framing.specs.declared.fault.UnframeFault.TheVariants.{Oversize, NoMemory}
-use Rattle.packet_framing.specs.Reading.{FoundPacket, IsLargeHeader, PacketFails, ReadsOversize, ReadsTo}
+use Rattle.packet_framing.specs.Reading.{FoundPacket, IsLargeHeader, PacketFails, ReadsOversize, ReadsTo, ReadsInLine}
 use Rattle.packet_framing.specs.Unframed.{IsServedPacket, IsOpenLine, IsOversize}
 use Rattle.packet_framing.proofs.Headers.{length-frame_of}
 use Rattle.packet_framing.proofs.LineRuns.{told_after, left_after, told-end, told-on, told-full, left-end, left-on, left-full, line_messages-append, line_rest-append, rest_open, open_messages, open_rest}
@@ -104,6 +106,87 @@ step_on limit bytes at from ms some there reads not part =
       left = range_more bytes from at reads.within there ∙ ap (λ xs. xs ++ get_or bytes at 0 ∷ []) reads.left
           ∙ sym (left-on limit rest (get_or bytes at 0) [] not room) ∙ sym (more_left limit bytes at some there);
       within = omega (arith, reads.within);
+    }
+
+-- bytes that go on in the piece
+on_run : (limit : ℕ) (bytes : List ℕ) (n at from : ℕ) (ms : List Message) → 0 < limit → at + n ≤ length bytes → ReadsTo limit bytes at from ms →
+    ((i : ℕ) → at ≤ i → i < at + n → get_or bytes i 0 ≢ 10) → at + n ≤ from + limit → ReadsTo limit bytes (at + n) from ms
+on_run limit bytes zero at from ms some within reads unbroken fits =
+    let P : ℕ → Type 0 = λ to. ReadsTo limit bytes to from ms in
+    let none : at ≡ at + 0 = omega arith in
+    subst P none reads
+on_run limit bytes (suc n) at from ms some within reads unbroken fits =
+    let next : at + 1 + n ≡ at + suc n = omega arith in
+    let part : at - from ≢ limit = λ is. absurd (omega (arith, reads.within)) in
+    let one : ReadsTo limit bytes (at + 1) from ms =
+    step_on limit bytes at from ms some (omega arith) reads (unbroken at (omega arith) (omega arith)) part in
+    let P : ℕ → Type 0 = λ to. ReadsTo limit bytes to from ms in
+    subst P next
+    (on_run limit bytes n (at + 1) from ms some (omega arith) one (λ i low high. unbroken i (omega arith) (omega arith)) (omega arith))
+
+-- a line is read up to a place where its last piece isn't too long
+pub in_line_read : (limit : ℕ) (bytes : List ℕ) (end from to : ℕ) (ms : List Message) → 0 < limit → end ≤ length bytes →
+    (line : ReadsInLine limit bytes end from ms) → line.at ≤ to → to ≤ end → to ≤ from + limit → ReadsTo limit bytes to from ms
+in_line_read limit bytes end from to ms some within line after before fits =
+    let n : ℕ = to - line.at in
+    let is : line.at + n ≡ to = omega arith in
+    let P : ℕ → Type 0 = λ place. ReadsTo limit bytes place from ms in
+    subst P is
+    (on_run limit bytes n line.at from ms some (omega arith) line.reads (λ i low high. line.unbroken i low (omega arith)) (omega arith))
+
+-- what was read of a line fits into a piece
+pub in_line_fits : (limit : ℕ) (bytes : List ℕ) (end from : ℕ) (ms : List Message) → 0 < limit → end ≤ length bytes →
+    (line : ReadsInLine limit bytes end from ms) → line.at ≤ from + limit
+in_line_fits limit bytes end from ms some within line =
+    let size : length (slice_range bytes from line.at) ≡ line.at - from =
+    length-range bytes from line.at line.reads.within (omega (arith, line.before)) in
+    let short : length (line_rest limit (take line.at bytes)) ≤ limit = (rest_open limit (take line.at bytes) some).short in
+    omega (arith, size, ap length line.reads.left, short, line.reads.within)
+
+-- one full piece of a line more
+pub in_line_more : (limit : ℕ) (bytes : List ℕ) (end from cut : ℕ) (ms ns : List Message) (m : Message) → 0 < limit → end ≤ length bytes →
+    ReadsInLine limit bytes end from ms → cut ≡ from + limit → cut < end → m.flag ≡ Noeol → m.bytes ≡ slice_range bytes from cut →
+    ns ≡ ms ++ m ∷ [] → ReadsInLine limit bytes end cut ns
+in_line_more limit bytes end from cut ms ns m some within line is inside flag content pushed =
+    let after : line.at ≤ cut = omega (arith, in_line_fits limit bytes end from ms some within line) in
+    let full : ReadsTo limit bytes cut from ms = in_line_read limit bytes end from cut ms some within line after (omega arith) (omega arith) in
+    record {
+      at = cut + 1;
+      reads = step_full limit bytes cut from ms ns m some (omega arith) full (line.unbroken cut after inside) (omega arith) flag content pushed;
+      before = omega arith;
+      unbroken = λ i low high. line.unbroken i (omega arith) high;
+    }
+
+pub range_to_end : (bytes : List ℕ) (from : ℕ) → slice_range bytes from (length bytes) ≡ drop from bytes
+range_to_end bytes from = take_all (length bytes - from) (drop from bytes) (omega (arith, length-drop from bytes))
+
+-- no line end stands before the first one that was found
+pub no_end_before : (bytes : List ℕ) (from at : ℕ) → IsFirstByte (is_byte 10) (drop from bytes) (Some at) →
+    (i : ℕ) → from ≤ i → i < from + at → get_or bytes i 0 ≢ 10
+no_end_before bytes from at found i low high ends =
+    let place : from + (i - from) ≡ i = omega arith in
+    found.0.before (i - from) (omega arith) (omega arith)
+    (eq-eqb _ 10 (get_or-drop from bytes (i - from) 0 ∙ ap (λ n. get_or bytes n 0) place ∙ ends))
+
+-- nor anywhere where none was found
+pub no_end : (bytes : List ℕ) (from : ℕ) → IsFirstByte (is_byte 10) (drop from bytes) None →
+    (i : ℕ) → from ≤ i → i < length bytes → get_or bytes i 0 ≢ 10
+no_end bytes from found i low high ends =
+    let place : from + (i - from) ≡ i = omega arith in
+    found (i - from) (omega arith) (omega (arith, length-drop from bytes))
+    (eq-eqb _ 10 (get_or-drop from bytes (i - from) 0 ∙ ap (λ n. get_or bytes n 0) place ∙ ends))
+
+-- the bytes of a chunk before its first line end
+pub in_line_found : (limit : ℕ) (held chunk : List ℕ) (at to end from : ℕ) (ms : List Message) → ReadsTo limit (held ++ chunk) at from ms →
+    length held ≤ at → end ≡ length held + to → at ≤ end → ((i : ℕ) → at - length held ≤ i → i < to → get_or chunk i 0 ≢ 10) →
+    ReadsInLine limit (held ++ chunk) end from ms
+in_line_found limit held chunk at to end from ms reads past is ordered free =
+    record {
+      at = at;
+      reads = reads;
+      before = ordered;
+      unbroken = λ i low high ends. free (i - length held) (omega arith) (omega arith)
+          (sym (get_or-append_right held chunk (length held) i 0 refl (omega arith)) ∙ ends);
     }
 
 -- before the chunk nothing is told, and what is held is the rest

@@ -1,5 +1,5 @@
 -- What the steps of an unframer find.
-use Rattle.std.specs.Prelude.{◌≡◌, ◌<◌, ◌≤◌, ◌++◌, ℕ, List, take, slice_range}
+use Rattle.std.specs.Prelude.{◌≡◌, ◌≢◌, ◌<◌, ◌≤◌, ◌++◌, ℕ, List, take, slice_index, slice_range}
 use Rattle.packet_framing.specs.declared.mode.Mode.{Mode}
 use Rattle.packet_framing.specs.declared.message.Message.{Message}
 use Rattle.packet_framing.specs.declared.fault.UnframeFault.{UnframeFault}
@@ -13,6 +13,13 @@ pub record ReadsTo (limit : ℕ) (bytes : List ℕ) (at from : ℕ) (ms : List M
   pub told : ms ≡ line_messages limit (take at bytes)
   pub left : slice_range bytes from at ≡ line_rest limit (take at bytes)
   pub within : from ≤ at
+
+-- the bytes are read so far up to some place, and none from there to place `end` ends a line
+pub record ReadsInLine (limit : ℕ) (bytes : List ℕ) (end from : ℕ) (ms : List Message) : Type 0 where
+  pub at : ℕ
+  pub reads : ReadsTo limit bytes at from ms
+  pub before : at ≤ end
+  pub unbroken : (i : ℕ) → at ≤ i → i < end → slice_index bytes i ≢ 10
 
 -- the bytes begin with the frame of this message, which is served
 pub record FoundPacket (mode : Mode) (bytes : List ℕ) (m : Message) : Type 0 where
