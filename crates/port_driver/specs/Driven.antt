@@ -7,6 +7,8 @@ use Rattle.driver_model.specs.Calls.{Callback, Stop, DriverCall, call_of, Own, H
 use Rattle.driver_model.specs.Drivers.{holds, job_count, held_events, effects_of, is_answered, start_of}
 use Rattle.driver_model.specs.Programs.{ToldProgram, Tells}
 use Rattle.port_driver.specs.Context.{Context, SameEvents}
+use Rattle.port_driver.specs.declared.life.Life.{Life}
+use Rattle.port_driver.specs.declared.life.Life.TheVariants.{Started}
 
 -- what a driver holds, by what it keeps and the bytes of its queue
 abbrev pub held_of : Own → List ℕ → Held
@@ -53,3 +55,17 @@ pub record KeepsRoom (old new : Context) : Type 0 where
   pub caller : new.caller ≡ old.caller
   pub outside : length new.outside ≤ length old.outside + 131072
   pub effects : length new.effects ≤ length old.effects + 131072
+
+-- a callback of a started driver may be called: each list of its context holds at most 524,288 entries
+pub record MayCall (stage : Life) (context : Context) : Type 0 where
+  pub started : stage ≡ Started
+  pub outside : length context.outside ≤ 524288
+  pub effects : length context.effects ≤ 524288
+
+-- what a callback of a started driver keeps, also where it finds no memory: its kind, its stage and the room of its context; its count of faults doesn't
+-- fall
+pub record Keeps (old_kind new_kind : Kind) (old_faults new_faults : ℕ) (stage : Life) (old new : Context) : Type 0 where
+  pub kind : new_kind ≡ old_kind
+  pub faults : old_faults ≤ new_faults
+  pub stage_is : stage ≡ Started
+  pub room : KeepsRoom old new

@@ -3,7 +3,7 @@ ghost use Rattle.std.specs.List.{concat};
 ghost use Rattle.driver_model.specs.Calls.{Kind, Own, Outputv, Control, Call, ReadyInput, ReadyOutput, ReadyAsync, ProcessExit, Flush};
 ghost use Rattle.driver_model.specs.Drivers.{is_soft, kind_name, read_event_of, refusal_of, write_event_of};
 ghost use Rattle.driver_model.specs.Programs.{ToldProgram};
-ghost use Rattle.port_driver.specs.Driven.{Did, Began, Ended, KeepsRoom};
+ghost use Rattle.port_driver.specs.Driven.{Did, Began, Ended, Keeps, KeepsRoom, MayCall};
 ghost use Rattle.port_driver.specs.Replies.{reply_effect};
 ghost use Rattle.port_driver.specs.Starting.{Refuses};
 
@@ -81,13 +81,8 @@ pub trait Driver: Drop {
         ctx: &mut DriverCtx,
         payload: &IoVec,
     ) -> Result<(), NoMemory>
-        requires started { stage self.old ≡ Life.Started }
-        requires outside { length ctx.old.outside ≤ 524288 }
-        requires effects { length ctx.old.effects ≤ 524288 }
-        ensures kind { kind self.new ≡ kind self.old }
-        ensures faults { faults self.old ≤ faults self.new }
-        ensures stage { stage self.new ≡ Life.Started }
-        ensures room { KeepsRoom ctx.old ctx.new }
+        requires called { MayCall (stage self.old) ctx.old }
+        ensures kept { Keeps (kind self.old) (kind self.new) (faults self.old) (faults self.new) (stage self.new) ctx.old ctx.new }
         ensures did { OnOk result (Did (kind self.old) (Outputv (concat payload.now)) (own self.old) (own self.new) (program self.old) (program self.new) ctx.old ctx.new []) };
 
     /// Makes an operation on some bytes, and answers: `control` of driver_entry.
@@ -98,13 +93,8 @@ pub trait Driver: Drop {
         op: u32,
         bytes: &Piece,
     ) -> Result<ReplyTo, NoMemory>
-        requires started { stage self.old ≡ Life.Started }
-        requires outside { length ctx.old.outside ≤ 524288 }
-        requires effects { length ctx.old.effects ≤ 524288 }
-        ensures kind { kind self.new ≡ kind self.old }
-        ensures faults { faults self.old ≤ faults self.new }
-        ensures stage { stage self.new ≡ Life.Started }
-        ensures room { KeepsRoom ctx.old ctx.new }
+        requires called { MayCall (stage self.old) ctx.old }
+        ensures kept { Keeps (kind self.old) (kind self.new) (faults self.old) (faults self.new) (stage self.new) ctx.old ctx.new }
         ensures did { IfOk result (λ answer. Did (kind self.old) (Control op bytes.now) (own self.old) (own self.new) (program self.old) (program self.new) ctx.old ctx.new (reply_effect answer ∷ [])) };
 
     /// Makes an operation on the external form of a term, and answers with one: `call` of driver_entry.
@@ -115,13 +105,8 @@ pub trait Driver: Drop {
         op: u32,
         bytes: &Piece,
     ) -> Result<ReplyTo, NoMemory>
-        requires started { stage self.old ≡ Life.Started }
-        requires outside { length ctx.old.outside ≤ 524288 }
-        requires effects { length ctx.old.effects ≤ 524288 }
-        ensures kind { kind self.new ≡ kind self.old }
-        ensures faults { faults self.old ≤ faults self.new }
-        ensures stage { stage self.new ≡ Life.Started }
-        ensures room { KeepsRoom ctx.old ctx.new }
+        requires called { MayCall (stage self.old) ctx.old }
+        ensures kept { Keeps (kind self.old) (kind self.new) (faults self.old) (faults self.new) (stage self.new) ctx.old ctx.new }
         ensures did { IfOk result (λ answer. Did (kind self.old) (Call op bytes.now) (own self.old) (own self.new) (program self.old) (program self.new) ctx.old ctx.new (reply_effect answer ∷ [])) };
 
     /// Is told that there is something to read: `ready_input` of driver_entry.
@@ -131,13 +116,8 @@ pub trait Driver: Drop {
         ctx: &mut DriverCtx,
         event: u32,
     ) -> Result<(), NoMemory>
-        requires started { stage self.old ≡ Life.Started }
-        requires outside { length ctx.old.outside ≤ 524288 }
-        requires effects { length ctx.old.effects ≤ 524288 }
-        ensures kind { kind self.new ≡ kind self.old }
-        ensures faults { faults self.old ≤ faults self.new }
-        ensures stage { stage self.new ≡ Life.Started }
-        ensures room { KeepsRoom ctx.old ctx.new }
+        requires called { MayCall (stage self.old) ctx.old }
+        ensures kept { Keeps (kind self.old) (kind self.new) (faults self.old) (faults self.new) (stage self.new) ctx.old ctx.new }
         ensures did { OnOk result (Did (kind self.old) (ReadyInput event) (own self.old) (own self.new) (program self.old) (program self.new) ctx.old ctx.new []) };
 
     /// Is told that there is room to write: `ready_output` of driver_entry.
@@ -147,13 +127,8 @@ pub trait Driver: Drop {
         ctx: &mut DriverCtx,
         event: u32,
     ) -> Result<(), NoMemory>
-        requires started { stage self.old ≡ Life.Started }
-        requires outside { length ctx.old.outside ≤ 524288 }
-        requires effects { length ctx.old.effects ≤ 524288 }
-        ensures kind { kind self.new ≡ kind self.old }
-        ensures faults { faults self.old ≤ faults self.new }
-        ensures stage { stage self.new ≡ Life.Started }
-        ensures room { KeepsRoom ctx.old ctx.new }
+        requires called { MayCall (stage self.old) ctx.old }
+        ensures kept { Keeps (kind self.old) (kind self.new) (faults self.old) (faults self.new) (stage self.new) ctx.old ctx.new }
         ensures did { OnOk result (Did (kind self.old) (ReadyOutput event) (own self.old) (own self.new) (program self.old) (program self.new) ctx.old ctx.new []) };
 
     /// Is told that its job of this number was done, with this output: `ready_async` of driver_entry.
@@ -164,13 +139,8 @@ pub trait Driver: Drop {
         number: u64,
         output: &Piece,
     ) -> Result<(), NoMemory>
-        requires started { stage self.old ≡ Life.Started }
-        requires outside { length ctx.old.outside ≤ 524288 }
-        requires effects { length ctx.old.effects ≤ 524288 }
-        ensures kind { kind self.new ≡ kind self.old }
-        ensures faults { faults self.old ≤ faults self.new }
-        ensures stage { stage self.new ≡ Life.Started }
-        ensures room { KeepsRoom ctx.old ctx.new }
+        requires called { MayCall (stage self.old) ctx.old }
+        ensures kept { Keeps (kind self.old) (kind self.new) (faults self.old) (faults self.new) (stage self.new) ctx.old ctx.new }
         ensures did { OnOk result (Did (kind self.old) (ReadyAsync number output.now) (own self.old) (own self.new) (program self.old) (program self.new) ctx.old ctx.new []) };
 
     /// Is told of the end of a process that it watches: `process_exit` of driver_entry.
@@ -180,24 +150,14 @@ pub trait Driver: Drop {
         ctx: &mut DriverCtx,
         process: u32,
     ) -> Result<(), NoMemory>
-        requires started { stage self.old ≡ Life.Started }
-        requires outside { length ctx.old.outside ≤ 524288 }
-        requires effects { length ctx.old.effects ≤ 524288 }
-        ensures kind { kind self.new ≡ kind self.old }
-        ensures faults { faults self.old ≤ faults self.new }
-        ensures stage { stage self.new ≡ Life.Started }
-        ensures room { KeepsRoom ctx.old ctx.new }
+        requires called { MayCall (stage self.old) ctx.old }
+        ensures kept { Keeps (kind self.old) (kind self.new) (faults self.old) (faults self.new) (stage self.new) ctx.old ctx.new }
         ensures did { OnOk result (Did (kind self.old) (ProcessExit process) (own self.old) (own self.new) (program self.old) (program self.new) ctx.old ctx.new []) };
 
     /// Sends or puts away what is queued, as its port closes: `flush` of driver_entry.
     fn flush(&mut self, alloc: Global, ctx: &mut DriverCtx) -> Result<(), NoMemory>
-        requires started { stage self.old ≡ Life.Started }
-        requires outside { length ctx.old.outside ≤ 524288 }
-        requires effects { length ctx.old.effects ≤ 524288 }
-        ensures kind { kind self.new ≡ kind self.old }
-        ensures faults { faults self.old ≤ faults self.new }
-        ensures stage { stage self.new ≡ Life.Started }
-        ensures room { KeepsRoom ctx.old ctx.new }
+        requires called { MayCall (stage self.old) ctx.old }
+        ensures kept { Keeps (kind self.old) (kind self.new) (faults self.old) (faults self.new) (stage self.new) ctx.old ctx.new }
         ensures did { OnOk result (Did (kind self.old) Flush (own self.old) (own self.new) (program self.old) (program self.new) ctx.old ctx.new []) };
 
     /// Is told that an event that it gave up is waited for no more: `stop_select` of driver_entry.

@@ -9,3 +9,4 @@ pub mod State
 pub mod Laws
 pub mod Lawful
 pub mod Mail
+pub mod Counts

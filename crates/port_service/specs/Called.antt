@@ -1,15 +1,33 @@
 -- What the callback of a signal left.
-use Rattle.std.specs.Prelude.{◌≡◌, ℕ, List, [], ◌∷◌, ◌++◌, true, Option, Some, None}
+use Rattle.std.specs.Prelude.{◌≡◌, ◌≤◌, ℕ, List, [], ◌∷◌, ◌++◌, length, true, Option, Some, None}
 use Rattle.port_signal.specs.declared.row.Outside.{Outside}
 use Rattle.port_model.specs.declared.effect.Effect.{Effect}
 use Rattle.driver_model.specs.Calls.{Callback, DriverCall, call_of, Own, Kind}
 use Rattle.driver_model.specs.Programs.{ToldProgram}
 use Rattle.port_driver.specs.Context.{Context}
+use Rattle.port_driver.specs.declared.life.Life.{Life}
+use Rattle.port_driver.specs.declared.life.Life.TheVariants.{Started}
 use Rattle.port_driver.specs.Driven.{Stands}
 use Rattle.port_history.specs.Opening.{Opening}
 use Rattle.port_history.specs.Service.{effects_after}
 use Rattle.port_history.specs.State.{State}
 use Rattle.port_history.specs.Laws.{is_answered_by}
+
+-- a driver is started, and its context is one in which nothing was done
+pub record IsUncalled (stage : Life) (context : Context) : Type 0 where
+  pub started : stage ≡ Started
+  pub outside : context.outside ≡ []
+  pub effects : context.effects ≡ []
+
+-- what the callback of a signal keeps, also where it finds no memory: the driver's kind, its stage, and who calls; its count of faults doesn't fall,
+-- and it records little
+pub record KeepsFew (old_kind new_kind : Kind) (old_faults new_faults : ℕ) (stage : Life) (old new : Context) : Type 0 where
+  pub kind : new_kind ≡ old_kind
+  pub faults : old_faults ≤ new_faults
+  pub stage_is : stage ≡ Started
+  pub caller : new.caller ≡ old.caller
+  pub outside : length new.outside ≤ 262144
+  pub effects : length new.effects ≤ 262144
 
 -- the call of a callback, if there is one
 abbrev pub made : Option Callback → ℕ → List Outside → List Effect → List DriverCall

@@ -1,11 +1,11 @@
 //! The callback of a signal.
-ghost use Rattle.std.specs.Prelude.{◌≡◌, ◌≤◌, ◌∷◌, [], Some, None, length, OnOk, if◌then◌else◌};
+ghost use Rattle.std.specs.Prelude.{Some, None, OnOk, if◌then◌else◌};
 ghost use Rattle.std.specs.List.{concat};
 ghost use Rattle.driver_model.specs.Calls.{Outputv, ProcessExit};
 ghost use Rattle.port_service.specs.Callbacks.{callback_by};
-ghost use Rattle.port_service.specs.Called.{Called};
+ghost use Rattle.port_service.specs.Called.{Called, IsUncalled, KeepsFew};
 
-use port_driver::{Driver, DriverCtx, Life};
+use port_driver::{Driver, DriverCtx};
 use port_model::{Dir, IoVec, NoMemory, Signal};
 use std::alloc::Global;
 
@@ -17,15 +17,8 @@ fn call_outputv<D: Driver>(
     owns: bool,
     payload: &IoVec,
 ) -> Result<(), NoMemory>
-    requires started { D.stage driver.old ≡ Life.Started }
-    requires outside { ctx.old.outside ≡ [] }
-    requires effects { ctx.old.effects ≡ [] }
-    ensures kind { D.kind driver.new ≡ D.kind driver.old }
-    ensures faults { D.faults driver.old ≤ D.faults driver.new }
-    ensures stage { D.stage driver.new ≡ Life.Started }
-    ensures caller { ctx.new.caller ≡ ctx.old.caller }
-    ensures outside { length ctx.new.outside ≤ 262144 }
-    ensures effects { length ctx.new.effects ≤ 262144 }
+    requires fresh { IsUncalled (D.stage driver.old) ctx.old }
+    ensures kept { KeepsFew (D.kind driver.old) (D.kind driver.new) (D.faults driver.old) (D.faults driver.new) (D.stage driver.new) ctx.old ctx.new }
     ensures called { OnOk result (Called (D.kind driver.old) (if owns then Some (Outputv (concat payload.now)) else None) (D.own driver.old) (D.own driver.new) (D.program driver.old) (D.program driver.new) ctx.old ctx.new) }
 {
     if !owns {
@@ -41,15 +34,8 @@ fn call_process_exit<D: Driver>(
     ctx: &mut DriverCtx,
     watched: bool,
 ) -> Result<(), NoMemory>
-    requires started { D.stage driver.old ≡ Life.Started }
-    requires outside { ctx.old.outside ≡ [] }
-    requires effects { ctx.old.effects ≡ [] }
-    ensures kind { D.kind driver.new ≡ D.kind driver.old }
-    ensures faults { D.faults driver.old ≤ D.faults driver.new }
-    ensures stage { D.stage driver.new ≡ Life.Started }
-    ensures caller { ctx.new.caller ≡ ctx.old.caller }
-    ensures outside { length ctx.new.outside ≤ 262144 }
-    ensures effects { length ctx.new.effects ≤ 262144 }
+    requires fresh { IsUncalled (D.stage driver.old) ctx.old }
+    ensures kept { KeepsFew (D.kind driver.old) (D.kind driver.new) (D.faults driver.old) (D.faults driver.new) (D.stage driver.new) ctx.old ctx.new }
     ensures called { OnOk result (Called (D.kind driver.old) (if watched then Some (ProcessExit ctx.old.caller) else None) (D.own driver.old) (D.own driver.new) (D.program driver.old) (D.program driver.new) ctx.old ctx.new) }
 {
     if !watched {
@@ -68,15 +54,8 @@ pub(crate) fn call_driver<D: Driver>(
     watched: bool,
     signal: &Signal,
 ) -> Result<(), NoMemory>
-    requires started { D.stage driver.old ≡ Life.Started }
-    requires outside { ctx.old.outside ≡ [] }
-    requires effects { ctx.old.effects ≡ [] }
-    ensures kind { D.kind driver.new ≡ D.kind driver.old }
-    ensures faults { D.faults driver.old ≤ D.faults driver.new }
-    ensures stage { D.stage driver.new ≡ Life.Started }
-    ensures caller { ctx.new.caller ≡ ctx.old.caller }
-    ensures outside { length ctx.new.outside ≤ 262144 }
-    ensures effects { length ctx.new.effects ≤ 262144 }
+    requires fresh { IsUncalled (D.stage driver.old) ctx.old }
+    ensures kept { KeepsFew (D.kind driver.old) (D.kind driver.new) (D.faults driver.old) (D.faults driver.new) (D.stage driver.new) ctx.old ctx.new }
     ensures called { OnOk result (Called (D.kind driver.old) (callback_by owns watched ctx.old.caller signal.now) (D.own driver.old) (D.own driver.new) (D.program driver.old) (D.program driver.new) ctx.old ctx.new) }
 {
     match signal {

@@ -1,6 +1,7 @@
 //! How a row ends the service of a port's driver.
 ghost use Rattle.std.specs.Prelude.{◌≡◌, ◌≤◌, ◌+◌, true, false, length, OnOk, if◌then◌else◌};
 ghost use Rattle.driver_model.specs.Calls.{is_empty};
+ghost use Rattle.port_driver.specs.Driven.{Keeps, MayCall};
 ghost use Rattle.port_history.specs.Ties.{failure};
 ghost use Rattle.port_service.specs.Closing.{ends_driver, is_flushed, Flushed, Halted};
 
@@ -37,13 +38,8 @@ pub(crate) fn flush_queued<D: Driver>(
     ctx: &mut DriverCtx,
     reason: &Option<Reason>,
 ) -> Result<(), NoMemory>
-    requires started { D.stage driver.old ≡ Life.Started }
-    requires outside { length ctx.old.outside ≤ 524288 }
-    requires effects { length ctx.old.effects ≤ 524288 }
-    ensures kind { D.kind driver.new ≡ D.kind driver.old }
-    ensures faults { D.faults driver.old ≤ D.faults driver.new }
-    ensures stage { D.stage driver.new ≡ Life.Started }
-    ensures caller { ctx.new.caller ≡ ctx.old.caller }
+    requires called { MayCall (D.stage driver.old) ctx.old }
+    ensures kept { Keeps (D.kind driver.old) (D.kind driver.new) (D.faults driver.old) (D.faults driver.new) (D.stage driver.new) ctx.old ctx.new }
     ensures flushed { OnOk result (Flushed (D.kind driver.old) reason.now (D.own driver.old) (D.own driver.new) (D.program driver.old) (D.program driver.new) ctx.old ctx.new) }
 {
     if !is_flushed(ctx, reason) {

@@ -1,3 +1,4 @@
 pub mod Asks
 pub mod Receipts
 pub mod Ledgers
+pub mod Counts

@@ -4,3 +4,4 @@ pub mod Owners
 pub mod Suspended
 pub mod Jobs
 pub mod Programs
+pub mod Counts

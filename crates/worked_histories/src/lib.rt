@@ -4,6 +4,7 @@
 #![tactic(auto)]
 
 mod commands;
+mod counts;
 mod jobs;
 mod owners;
 mod programs;
@@ -13,6 +14,7 @@ pub use commands::{
     a_late_control_is_answered_badarg, a_store_is_flushed_as_it_closes,
     commands_and_a_close_are_lawful,
 };
+pub use counts::{commands_are_counted_where_they_call_the_driver, data_is_saved_port_by_port};
 pub use jobs::results_of_a_key_come_in_order;
 pub use owners::{
     a_connected_port_outlives_its_opener, a_killed_port_tells_killed,
