@@ -1,3 +1,5 @@
 pub mod Lodging
 pub mod Homes
 pub mod Running
+pub mod Jobs
+pub mod Schedulers
