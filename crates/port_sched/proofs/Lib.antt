@@ -1,2 +1,3 @@
 pub mod HomeSteps
 pub mod Looks
+pub mod Closings

@@ -3,3 +3,4 @@ pub mod Homes
 pub mod Running
 pub mod Jobs
 pub mod Schedulers
+pub mod Closing

@@ -6,6 +6,7 @@
 #![tactic(auto)]
 
 mod body;
+mod closing;
 mod idle;
 mod jobs;
 mod lodger;
@@ -14,6 +15,7 @@ mod scheduling;
 mod turns;
 
 pub use body::{PortBody, Turn};
+pub use closing::{close_homes, join_homes};
 pub use jobs::{Job, run_jobs};
 pub use lodger::Lodger;
 pub use no_memory::NoMemory;
