@@ -1,2 +1,5 @@
 pub mod HomeSteps
+pub mod QueueSteps
+pub mod Served
 pub mod Looks
+pub mod Closings

@@ -1,7 +1,10 @@
 -- A seat of OVER that looks again and again.
-use Rattle.std.proofs.Common.{◌++◌, ap, ◌∙◌, append_assoc}
+use Rattle.std.proofs.Common.{[], ◌++◌, sym, ap, ◌∙◌, append_assoc, append-nil}
 use Rattle.port_words.specs.over.Over.{OverKnown, over_known, over_view}
 use Rattle.port_sched.specs.Running.{Looked}
+
+pub looked_none : (k : OverKnown) → Looked k k
+looked_none k = ([], ap (λ found. over_known k.word (over_view k.known.size k.known.places found)) (sym (append-nil k.known.found)))
 
 pub looked_then : (first second third : OverKnown) → Looked first second → Looked second third → Looked first third
 looked_then first second third one two = (

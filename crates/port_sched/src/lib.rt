@@ -6,12 +6,18 @@
 #![tactic(auto)]
 
 mod body;
+mod closing;
 mod idle;
+mod jobs;
 mod lodger;
+mod schedulers;
 mod scheduling;
 mod turns;
 
 pub use body::{PortBody, Turn};
+pub use closing::{close_homes, join_homes};
+pub use jobs::{Job, run_jobs};
 pub use lodger::Lodger;
 pub use no_memory::NoMemory;
+pub use schedulers::{Scheduler, run};
 pub use scheduling::{SchedEnd, SchedSeats, scheduler};

@@ -1,8 +1,10 @@
-ghost use Rattle.std.specs.Prelude.{◌≡◌, ◌+◌, ◌<◌, ◌≤◌, ◌/◌, ◌%◌, ◌^◌, [], ◌∷◌, length, slice_get, Some, None, IfSome, IfNone, IsTrue, true, All};
-ghost use Rattle.port_words.specs.over.Over.{OverKnown, over_known, looked, stopped_view, TellsOver, HasNotStopped, finished_part, stopped_part};
-ghost use Rattle.port_words.specs.home.Seats.{HomeKnown};
-ghost use Rattle.port_sched.specs.Homes.{HomeStep, AreHomes, HomesStep};
+ghost use Rattle.std.specs.Prelude.{◌≡◌, ◌<◌, ◌≤◌, ◌^◌, List, [], ◌∷◌, length, IfSome, IfNone, OnOk, OnErr, IsTrue, option_to_list};
+ghost use Rattle.port_words.specs.over.Over.{HasNotStopped};
+ghost use Rattle.port_words.specs.declared.home.homes.Ticket.{Ticket};
+ghost use Rattle.port_sched.specs.Homes.{AreHomes, HomesUse, FoundNotIdleAt};
 ghost use Rattle.port_sched.specs.Running.{Looked, Stopped, SawTheEnd, IsDone, IsNoMemory};
+ghost use Rattle.port_sched.specs.Serving.{GoesOn, IsMore, KeptBy, KeptAtEnd, QueuedNext, KeptNext};
+ghost use Rattle.port_sched.specs.Tickets.{Serves};
 
 use crate::body::{PortBody, Turn};
 use crate::idle::Idle;
@@ -52,7 +54,7 @@ fn claim_at<B: PortBody, G: Gate, R: Wait>(
 ) -> Option<Turn>
     requires homes { AreHomes homes.old.items }
     requires port { (port < length homes.old.items) × (ticket.port ≡ port) }
-    ensures { AreHomes homes.new.items × HomesStep homes.old.items homes.new.items }
+    ensures { AreHomes homes.new.items × HomesUse (ticket ∷ []) [] homes.old.items homes.new.items }
 {
     claim_turn(rt, &mut homes[port], ticket, gate)
 }
@@ -66,7 +68,7 @@ fn idle_at<B: PortBody, G: Gate, R: Wait>(
 ) -> Option<Turn>
     requires homes { AreHomes homes.old.items }
     requires port { (port < length homes.old.items) × (port < 2 ^ 32) }
-    ensures { AreHomes homes.new.items × HomesStep homes.old.items homes.new.items }
+    ensures { AreHomes homes.new.items × HomesUse [] [] homes.old.items homes.new.items }
 {
     idle_turn(rt, &mut homes[port], port as u32, gate)
 }
@@ -75,7 +77,9 @@ fn idle_at<B: PortBody, G: Gate, R: Wait>(
 fn ticket_at<B: PortBody>(homes: &mut Vec<Home<B>>, port: usize) -> Option<Ticket>
     requires homes { AreHomes homes.old.items }
     requires port { port < length homes.old.items }
-    ensures { AreHomes homes.new.items × HomesStep homes.old.items homes.new.items }
+    ensures homes { AreHomes homes.new.items × HomesUse [] (option_to_list result) homes.old.items homes.new.items }
+    ensures port { IfSome result (λ t. t.port ≡ port) }
+    ensures busy { IfNone result (FoundNotIdleAt port homes.new.items) }
 {
     next_ticket(&mut homes[port])
 }
@@ -89,7 +93,10 @@ fn follow<B: PortBody>(
 ) -> Result<bool, NoMemory>
     requires homes { AreHomes homes.old.items }
     requires port { port < length homes.old.items }
-    ensures { AreHomes homes.new.items × HomesStep homes.old.items homes.new.items }
+    ensures answer { GoesOn turn result }
+    ensures next { IsMore turn → OnOk result (QueuedNext port homes.old.items run.old homes.new.items run.new) }
+    ensures homes { AreHomes homes.new.items }
+    ensures tickets { (kept : List Ticket) × KeptBy result kept × Serves [] kept homes.old.items run.old homes.new.items run.new }
 {
     match turn {
         None | Some(Turn::Idle) => Ok(false),
@@ -109,14 +116,17 @@ fn queue_next<B: PortBody>(
 ) -> Result<(), NoMemory>
     requires homes { AreHomes homes.old.items }
     requires port { port < length homes.old.items }
-    ensures { AreHomes homes.new.items × HomesStep homes.old.items homes.new.items }
+    ensures homes { AreHomes homes.new.items }
+    ensures ok { OnOk result (QueuedNext port homes.old.items run.old homes.new.items run.new) }
+    ensures refused { OnErr result (KeptNext port homes.old.items run.old homes.new.items run.new) }
 {
-    if let Some(ticket) = ticket_at(homes, port) {
-        if run.push(ticket).is_err() {
-            return Err(NoMemory);
-        }
+    let Some(ticket) = ticket_at(homes, port) else {
+        return Ok(());
+    };
+    match run.push(ticket) {
+        Ok(()) => Ok(()),
+        Err((_, no_memory)) => Err(no_memory),
     }
-    Ok(())
 }
 
 // The turn of a ticket. A ticket of no port of this run is dropped.
@@ -128,7 +138,8 @@ fn serve_ticket<B: PortBody, G: Gate, R: Wait>(
     gate: &G,
 ) -> Result<bool, NoMemory>
     requires homes { AreHomes homes.old.items }
-    ensures { AreHomes homes.new.items × HomesStep homes.old.items homes.new.items }
+    ensures homes { AreHomes homes.new.items }
+    ensures tickets { (kept : List Ticket) × KeptBy result kept × Serves (ticket ∷ []) kept homes.old.items run.old homes.new.items run.new }
 {
     let port = ticket.port as usize;
     if port >= homes.len() {
@@ -148,7 +159,8 @@ fn serve_idle<B: PortBody, G: Gate, R: Wait>(
 ) -> Result<bool, NoMemory>
     requires homes { AreHomes homes.old.items }
     requires few { length homes.old.items ≤ 2 ^ 32 }
-    ensures { AreHomes homes.new.items × HomesStep homes.old.items homes.new.items }
+    ensures homes { AreHomes homes.new.items }
+    ensures tickets { (kept : List Ticket) × KeptBy result kept × Serves [] kept homes.old.items run.old homes.new.items run.new }
 {
     let mut more = false;
     'ports: for port in 0..homes.len() {
@@ -169,7 +181,8 @@ fn serve<B: PortBody, G: Gate, R: Wait>(
 ) -> Result<bool, NoMemory>
     requires homes { AreHomes homes.old.items }
     requires few { length homes.old.items ≤ 2 ^ 32 }
-    ensures { AreHomes homes.new.items × HomesStep homes.old.items homes.new.items }
+    ensures homes { AreHomes homes.new.items }
+    ensures tickets { (kept : List Ticket) × KeptBy result kept × Serves [] kept homes.old.items run.old homes.new.items run.new }
 {
     match run.next(rt) {
         Some(ticket) => serve_ticket(rt, homes, run, ticket, gate),
@@ -187,7 +200,8 @@ fn serve_all<B: PortBody, G: Gate, R: Wait>(
 ) -> SchedEnd
     requires homes { AreHomes homes.old.items }
     requires few { length homes.old.items ≤ 2 ^ 32 }
-    ensures homes { AreHomes homes.new.items × HomesStep homes.old.items homes.new.items }
+    ensures homes { AreHomes homes.new.items }
+    ensures tickets { (kept : List Ticket) × KeptAtEnd result kept × Serves [] kept homes.old.items run.old homes.new.items run.new }
     ensures over { Looked over.old over.new }
     ensures done { IsDone result → SawTheEnd over.old over.new }
 {
@@ -214,7 +228,8 @@ pub fn scheduler<B: PortBody, G: Gate, R: Wait>(
 ) -> SchedEnd
     requires homes { AreHomes seats.old.homes.items × (length seats.old.homes.items ≤ 2 ^ 32) }
     requires stop { HasNotStopped seats.old.over.known.places }
-    ensures homes { AreHomes seats.new.homes.items × HomesStep seats.old.homes.items seats.new.homes.items }
+    ensures homes { AreHomes seats.new.homes.items }
+    ensures tickets { (kept : List Ticket) × KeptAtEnd result kept × Serves [] kept seats.old.homes.items seats.old.run seats.new.homes.items seats.new.run }
     ensures done { IsDone result → Looked seats.old.over seats.new.over × SawTheEnd seats.old.over seats.new.over }
     ensures stopped { IsNoMemory result → Stopped seats.old.over seats.new.over }
 {

@@ -1,7 +1,7 @@
 // One turn of one port.
 ghost use Rattle.std.specs.Prelude.{◌≡◌, ◌+◌, ◌<◌, ◌≤◌, [], ◌∷◌, length, Some, None, IfSome, IfNone};
 ghost use Rattle.port_words.specs.home.Seats.{HomeKnown};
-ghost use Rattle.port_sched.specs.Homes.{HomeStep, turns_of};
+ghost use Rattle.port_sched.specs.Homes.{HomeStep, turns_of, FoundNotIdle};
 
 use crate::body::{PortBody, Turn};
 use crate::lodger::Lodger;
@@ -59,11 +59,12 @@ pub(crate) fn idle_turn<B: PortBody, G: Gate, R: Wait>(
     }
 }
 
-/// The ticket of the next turn of an idle port.
+/// The ticket of the next turn of an idle port. None where it isn't idle.
 pub(crate) fn next_ticket<B: PortBody>(home: &mut Home<B>) -> Option<Ticket>
     requires { home.old.known.running ≡ None }
     ensures port { IfSome result (λ t. t.port ≡ home.old.port) }
     ensures step { HomeStep [] (turns_of result) home.old home.new }
+    ensures busy { IfNone result (FoundNotIdle home.new) }
 {
     match home.schedule() {
         Ok(ticket) => Some(ticket),

@@ -1,5 +1,5 @@
-use Rattle.std.proofs.Common.{sym, ◌∙◌}
-use Rattle.port_sched.proofs.HomeSteps.{step_at, home_at}
+use Rattle.std.proofs.Common.{[], ◌∷◌, sym, ◌∙◌}
+use Rattle.port_sched.proofs.HomeSteps.{use_at, home_at, no_tickets, one_ticket}
 use Rattle.port_sched.proofs.scheduling.claim_at.Goals as goal
 
 pub claim_turn-requires-clause-port : goal.claim_turn-requires-clause-port
@@ -9,4 +9,5 @@ pub claim_turn-requires-clause-rests : goal.claim_turn-requires-clause-rests
 claim_turn-requires-clause-rests g c = (home_at c.args.homes.now.items c.args.port _ c.requires.port.0 c.index_mut.ensures.value c.requires.homes).1
 
 pub returns : goal.returns
-returns g c = step_at c.args.homes.now.items c.args.port _ _ _ _ c.requires.port.0 c.index_mut.ensures.value c.requires.homes c.claim_turn.ensures
+returns g c = use_at c.args.homes.now.items c.args.port _ _ (c.args.ticket.turn ∷ []) [] (c.args.ticket ∷ []) []
+    (one_ticket c.args.ticket c.args.port c.requires.port.1) (no_tickets c.args.port) c.requires.port.0 c.index_mut.ensures.value c.requires.homes c.claim_turn.ensures

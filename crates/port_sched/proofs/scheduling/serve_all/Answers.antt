@@ -1,12 +1,28 @@
-use Rattle.port_sched.proofs.HomeSteps.{steps_then}
-use Rattle.port_sched.proofs.Looks.{looked_then}
+use Rattle.std.proofs.Common.{[]}
+use Rattle.port_sched.proofs.Looks.{looked_none, looked_then}
+use Rattle.port_sched.proofs.Served.{served_none, served_then, served_all}
 use Rattle.port_sched.proofs.scheduling.serve_all.Goals as goal
 
+pub rounds-init : goal.rounds-init
+rounds-init g c = (c.requires.homes, served_none _ _, looked_none c.args.over.now)
+
 pub rounds-preserved-in-Ok-true : goal.rounds-preserved-in-Ok-true
-rounds-preserved-in-Ok-true g c = (c.serve.ensures.0, steps_then _ _ _ c.rounds.invariant.1 c.serve.ensures.1, looked_then _ _ _ c.rounds.invariant.2 c.is_over.ensures.looked)
+rounds-preserved-in-Ok-true g c =
+    let f = c.in-Ok-true.ensures.tickets in (
+      c.serve.ensures.homes,
+      served_then [] [] _ _ _ _ _ _ c.rounds.invariant.1 (served_all [] f.0 _ _ _ _ f.1 f.2),
+      looked_then _ _ _ c.rounds.invariant.2 c.is_over.ensures.looked,
+    )
 
 pub rounds-preserved : goal.rounds-preserved
-rounds-preserved g c = (c.serve.ensures.0, steps_then _ _ _ c.rounds.invariant.1 c.serve.ensures.1, looked_then _ _ _ c.rounds.invariant.2 c.is_over.ensures.looked)
+rounds-preserved g c =
+    let f = c.in-Ok-false.ensures.tickets in (
+      c.serve.ensures.homes,
+      served_then [] [] _ _ _ _ _ _ c.rounds.invariant.1 (served_all [] f.0 _ _ _ _ f.1 f.2),
+      looked_then _ _ _ c.rounds.invariant.2 c.is_over.ensures.looked,
+    )
 
-pub returns-in-Err-clause-homes : goal.returns-in-Err-clause-homes
-returns-in-Err-clause-homes g c = (c.serve.ensures.0, steps_then _ _ _ c.rounds.invariant.1 c.serve.ensures.1)
+pub returns-in-Err-clause-tickets : goal.returns-in-Err-clause-tickets
+returns-in-Err-clause-tickets g c =
+    let f = c.in-Err.ensures.tickets in
+    (f.0, f.1, served_then [] f.0 _ _ _ _ _ _ c.rounds.invariant.1 f.2)

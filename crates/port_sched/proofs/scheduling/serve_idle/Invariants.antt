@@ -1,5 +1,7 @@
-use Rattle.port_sched.specs.Homes.{AreHomes, HomesStep}
+use Rattle.std.proofs.Common.{[]}
+use Rattle.port_sched.specs.Homes.{AreHomes}
+use Rattle.port_sched.specs.Tickets.{Serves}
 use Rattle.port_sched.proofs.scheduling.serve_idle.Given as goal
 
 abbrev pub invariant-ports : goal.invariant-ports
-invariant-ports g l = AreHomes l.homes.items × HomesStep l.fn.homes.items l.homes.items
+invariant-ports g l = AreHomes l.homes.items × Serves [] [] l.fn.homes.items l.fn.run l.homes.items l.run

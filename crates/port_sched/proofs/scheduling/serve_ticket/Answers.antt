@@ -1,8 +1,22 @@
-use Rattle.port_sched.proofs.HomeSteps.{steps_then}
+use Rattle.std.proofs.Common.{[], ◌∷◌, refl, arith}
+use Rattle.port_sched.proofs.Served.{served_homes, served_then, served_strange, served_all, kept_err}
 use Rattle.port_sched.proofs.scheduling.serve_ticket.Goals as goal
 
-pub returns-in_err-follow : goal.returns-in_err-follow
-returns-in_err-follow g c = (c.follow.ensures.0, steps_then _ _ _ c.claim_at-turn.ensures.1 c.follow.ensures.1)
+pub returns-then-port-len-clause-tickets : goal.returns-then-port-len-clause-tickets
+returns-then-port-len-clause-tickets g c =
+    let len = c.len.ensures in
+    let size = c.args.homes.now.ok.0 in
+    let far = c.if-port-len.true in
+    ([], refl, served_strange c.args.ticket _ _ (omega arith))
 
-pub returns : goal.returns
-returns g c = (c.follow.ensures.0, steps_then _ _ _ c.claim_at-turn.ensures.1 c.follow.ensures.1)
+pub returns-in_err-follow-clause-tickets : goal.returns-in_err-follow-clause-tickets
+returns-in_err-follow-clause-tickets g c =
+    let f = c.in_err-follow.ensures.tickets in
+    let held = c.args.ticket ∷ [] in
+    (f.0, kept_err c.from_residual.result c.from_residual.ensures.0 f.0 f.1, served_then held f.0 _ _ _ _ _ _ (served_homes held [] _ _ _ c.claim_at-turn.ensures.1) f.2)
+
+pub returns-clause-tickets : goal.returns-clause-tickets
+returns-clause-tickets g c =
+    let f = c.in_ok-follow.ensures.tickets in
+    let held = c.args.ticket ∷ [] in
+    ([], refl, served_then held [] _ _ _ _ _ _ (served_homes held [] _ _ _ c.claim_at-turn.ensures.1) (served_all [] f.0 _ _ _ _ f.1 f.2))

@@ -1,0 +1,81 @@
+// Schedulers beside other jobs.
+ghost use Rattle.std.specs.Prelude.{◌≡◌, All, None};
+ghost use denote.Param.Send.{IsSync, IsSend};
+ghost use Rattle.port_sched.specs.Jobs.{WentEach};
+ghost use Rattle.port_sched.specs.Schedulers.{CanSchedule, Scheduled, CanBegin, Ended};
+
+use crate::body::PortBody;
+use crate::jobs::{Job, run_jobs};
+use crate::scheduling::{SchedEnd, SchedSeats, scheduler};
+use outside::Gate;
+use std::sync::Wait;
+use std::thread;
+use std::thread::{Threads, join_mut};
+
+/// A scheduler's seats, and how it ended, once it has run.
+#[derive(Drop)]
+pub struct Scheduler<B: PortBody> {
+    pub seats: SchedSeats<B>,
+    pub end: Option<SchedEnd>,
+}
+
+impl<B: PortBody> Scheduler<B> {
+    /// A scheduler that hasn't run yet.
+    pub fn new(seats: SchedSeats<B>) -> Scheduler<B>
+        ensures { (result.seats ≡ seats) × (result.end ≡ None) }
+    {
+        Scheduler { seats, end: None }
+    }
+
+    // Runs it to its end.
+    fn run<G: Gate, R: Wait>(&mut self, rt: &R, gate: &G)
+        requires { CanSchedule self.old.seats }
+        ensures { Scheduled self.old.seats self.new.seats self.new.end }
+    {
+        self.end = Some(scheduler(rt, &mut self.seats, gate));
+    }
+}
+
+// All schedulers, each in a thread of its own where one can be made.
+fn run_schedulers<B: PortBody + Send, G: Gate + Sync, R: Threads + Wait + Sync>(
+    rt: &R,
+    gate: &G,
+    schedulers: &mut [Scheduler<B>],
+)
+    requires { All CanBegin schedulers.old }
+    ensures { WentEach Ended schedulers.old schedulers.new }
+{
+    if schedulers.is_empty() {
+        return;
+    }
+    let threads = schedulers.len();
+    let run_one = move |_: usize, scheduler: &mut Scheduler<B>|
+        requires { CanBegin scheduler.now }
+        ensures { Ended scheduler.entry.now scheduler.exit.now }
+    { scheduler.run(rt, gate) };
+    thread::for_each_mut(rt, schedulers, threads, &run_one);
+}
+
+/// Runs the schedulers beside the other jobs, and returns once all have ended. It returns only if OVER tells the end of the run: so the other jobs have to finish
+/// their seats of OVER, or to stop the run.
+pub fn run<B: PortBody + Send, G: Gate + Sync, K: Job + Send, R: Threads + Wait + Sync>(
+    rt: &R,
+    gate: &G,
+    schedulers: &mut [Scheduler<B>],
+    others: &mut [K],
+)
+    requires schedulers { All CanBegin schedulers.old }
+    requires others { All K.can_run others.old }
+    ensures schedulers { WentEach Ended schedulers.old schedulers.new }
+    ensures others { WentEach K.went others.old others.new }
+{
+    let mut turns = ||
+        requires { IsSync R.row × IsSync G.row × IsSend B.row × All CanBegin schedulers.now }
+        ensures { WentEach Ended schedulers.entry.now schedulers.exit.now }
+    { run_schedulers(rt, gate, schedulers) };
+    let mut jobs = ||
+        requires { IsSync R.row × IsSend K.row × All K.can_run others.now }
+        ensures { WentEach K.went others.entry.now others.exit.now }
+    { run_jobs(rt, others) };
+    join_mut(rt, &mut turns, &mut jobs);
+}
