@@ -1,0 +1,4 @@
+pub mod Counts
+pub mod Effects
+pub mod Submitting
+pub mod Sent
