@@ -113,4 +113,4 @@ stopped-mailed s new resumed stopped e = subst (λ p. HasStopped (record { proc 
     (record { port = stopped.port; waiting = stopped.waiting; others = stopped.others })
 
 pub asked-mailed : (old new : ProcView) (asks : List Asked) → new ≡ record old { mailbox = new.mailbox } → HasAsked asks old → HasAsked asks new
-asked-mailed old new asks e h = subst (HasAsked asks) (sym e) (record { receipts = h.receipts; sent = h.sent; adds = h.adds; stats = h.stats; words = h.words })
+asked-mailed old new asks e h = subst (HasAsked asks) (sym e) (record { receipts = h.receipts; sent = h.sent; undone = h.undone; adds = h.adds; stats = h.stats; words = h.words })

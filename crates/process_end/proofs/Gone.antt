@@ -1,5 +1,5 @@
 -- What a process leaves that tells its ports of its end.
-use Rattle.std.proofs.Common.{arith, ◌≡◌, ℕ, ◌+◌, ◌<◌, List, [], ◌∷◌, ◌++◌, length, refl, sym, ◌∙◌, subst}
+use Rattle.std.proofs.Common.{arith, ◌≡◌, ℕ, ◌+◌, ◌<◌, List, [], ◌∷◌, ◌++◌, length, refl, sym, ap, ◌∙◌, subst}
 use Rattle.std.specs.Prelude.{slice_index_or}
 use Rattle.port_words.specs.busy.Known.{SendKnown}
 use Rattle.process_receipts.specs.declared.receipt.Receipt.{Receipt}
@@ -12,10 +12,10 @@ use Rattle.process_end.specs.Ended.{gone_ask, gone_asks, HasTold, HasToldPort}
 use Rattle.process_end.proofs.Lanes.{with-lane}
 
 pub told-none : (reason : List ℕ) (p : ProcView) → HasTold reason p p
-told-none reason p = record { receipts = []; told = refl; counts = omega arith; ports = refl; asked = λ asks h. h }
+told-none reason p = record { receipts = []; told = refl; counts = omega arith; undone = refl; ports = refl; asked = λ asks h. h }
 
 untold : (p : ProcView) (told : ℕ) (asks : List Asked) → HasAsked asks (record p { told = told }) → HasAsked asks p
-untold p told asks h = record { receipts = h.receipts; sent = h.sent; adds = h.adds; stats = h.stats; words = h.words }
+untold p told asks h = record { receipts = h.receipts; sent = h.sent; undone = h.undone; adds = h.adds; stats = h.stats; words = h.words }
 
 pub told-one : (reason : List ℕ) (old p new : ProcView) → HasTold reason old p → (receipt : Receipt) × HasToldPort reason p new receipt → HasTold reason old new
 told-one reason old p new t one =
@@ -26,6 +26,7 @@ told-one reason old p new t one =
       receipts = one.0 ∷ t.receipts;
       told = (p, t.told, one.1);
       counts = omega arith;
+      undone = ap (λ p. p.undone) one.1.made.rest ∙ t.undone;
       ports = many ∙ t.ports;
       asked = λ asks h. untold new p.told (gone_ask reason (old.told + length t.receipts) ∷ (gone_asks reason old.told (length t.receipts) ++ asks))
           (subst (λ n. HasAsked (gone_ask reason n ∷ (gone_asks reason old.told (length t.receipts) ++ asks)) (record new { told = p.told })) before

@@ -1,5 +1,5 @@
 -- What looks at the words of a port leave of a process.
-use Rattle.std.proofs.Common.{◌≡◌, ◌≢◌, ℕ, ◌<◌, List, [], ◌∷◌, ◌++◌, length, refl, sym, ap, ◌∙◌, subst}
+use Rattle.std.proofs.Common.{◌≡◌, ◌≢◌, ℕ, ◌<◌, ◌≤◌, List, [], ◌∷◌, ◌++◌, length, refl, sym, ap, ◌∙◌, subst}
 use Rattle.std.specs.Prelude.{map, slice_index_or}
 use Rattle.std.proofs.lemmas.List.{append-nil}
 use Rattle.port_words.specs.busy.Known.{SendKnown, send_known}
@@ -53,6 +53,10 @@ pub asked-heard : (old : ProcView) (seats : List SendKnown) (port : ℕ) (stats 
 asked-heard old seats port stats words h asks a = record {
   receipts = a.receipts;
   sent = a.sent;
+  undone = λ k e within. each-place (λ j. j < length old.lanes → length (slice_index_or seats j e).sender.ledger.undone ≤ old.undone) port
+      (λ w. rw (h.seat e) (a.undone port e w))
+      (λ j apart w. rw (h.touched.seats_same j e apart) (a.undone j e w))
+      k within;
   adds = λ k e within. each-place (λ j. j < length old.lanes → map shown_add (kept_adds (slice_index_or seats j e).sender.ledger) ≡ adds_shown j asks old.receipts) port
       (λ w. ap (λ v. map shown_add (kept_adds v.sender.ledger)) (h.seat e) ∙ a.adds port e w)
       (λ j apart w. ap (λ v. map shown_add (kept_adds v.sender.ledger)) (h.touched.seats_same j e apart) ∙ a.adds j e w)

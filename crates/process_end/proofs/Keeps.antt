@@ -34,6 +34,7 @@ pub record SeatKeeps (ask : Asked) (seat new : SendKnown) (outcome : Outcome) (s
   pub few : length new.sender.ledger.adds ≤ length seat.sender.ledger.adds + 1
   pub placed : ArePlaced new.sender.ledger
   pub once : OncePlain new.sender.ledger
+  pub undone : length new.sender.ledger.undone ≡ length seat.sender.ledger.undone
   pub free : is_suspended outcome ≡ false → IsFree new.sender
   pub waiting : (word : ℕ) → msgq ≡ Some word → is_suspended outcome ≡ true → IsWaiting word new.sender
   pub adds : map shown_add (kept_adds new.sender.ledger) ≡ map shown_add (kept_adds seat.sender.ledger) ++ put_add ask outcome msgq
@@ -53,6 +54,7 @@ same-keeps ask seat new outcome e calm placed once free = subst (λ v. SeatKeeps
   few = omega arith;
   placed = placed;
   once = once;
+  undone = refl;
   free = λ _. free;
   waiting = λ word _ stops. contrary (is_suspended outcome) stops calm;
   adds = put-none ask outcome (map shown_add (kept_adds seat.sender.ledger));
@@ -70,6 +72,7 @@ looked-keeps ask seat new outcome stat e calm placed once free = subst (λ v. Se
   few = omega arith;
   placed = placed;
   once = once;
+  undone = refl;
   free = λ _. saw-free seat.sender stat free;
   waiting = λ word _ stops. contrary (is_suspended outcome) stops calm;
   adds = put-none ask outcome (map shown_add (kept_adds seat.sender.ledger));
@@ -87,6 +90,7 @@ dropped-keeps ask seat new stat word finds placed once free =
       few = omega arith;
       placed = placed;
       once = once;
+      undone = refl;
       free = λ _. free-more s (heard s words) [] words refl (sym (append-nil s.stats)) refl (saw-free seat.sender stat free);
       waiting = λ w _ stops. absurd cc;
       adds = sym (append-nil (map shown_add (kept_adds seat.sender.ledger)));
@@ -117,6 +121,7 @@ added-keeps ask seat new outcome stat word h looks open' put calm placed once fr
       once = once-added s found how size word placed is-free (never-closed looks.marks 0 seat.sender.stats stat looks.rises open') (added-climbs ask seat new stat word h) once;
       free = λ e. free-added s found how size word placed is-free (calm e);
       waiting = λ w e stops. let same : word ≡ w = cc in subst (λ u. IsWaiting u (adding (heard s found) how size word)) same (waiting-added s found how size word placed is-free);
+      undone = refl;
       adds = ap (map shown_add) (kept-added s.ledger how size word placed)
           ∙ (map-append shown_add (kept_adds s.ledger) (x ∷ [])
           ∙ ap (λ b. map shown_add (kept_adds s.ledger) ++ cond b (shown_by ask (Some word)) []) (sym put));
@@ -160,6 +165,7 @@ pub record SeatMisses (seat new : SendKnown) (more : ℕ) : Type 0 where
   pub few : length new.sender.ledger.adds ≤ length seat.sender.ledger.adds + more
   pub placed : ArePlaced new.sender.ledger
   pub kept : kept_adds new.sender.ledger ≡ kept_adds seat.sender.ledger
+  pub undone : length new.sender.ledger.undone ≤ length seat.sender.ledger.undone + more
   pub free : IsFree new.sender
   pub stats : (ws : List ℕ) → IsSublist ws seat.sender.stats → IsSublist ws new.sender.stats
   pub words : (ws : List ℕ) → IsSublist ws seat.sender.words → IsSublist ws new.sender.words
@@ -184,6 +190,7 @@ undone-misses ask seat new stat h placed free =
       placed = placed-added s.ledger how size h.msgq (s.ledger.undone ++ name ∷ []) placed
           (All-push (λ n. n.place < length s.ledger.adds + 1) s.ledger.undone name (wider s.ledger placed) (omega arith));
       kept = kept-undone s.ledger how size h.msgq placed;
+      undone = omega (arith, length-append s.ledger.undone (name ∷ []));
       free = free-undone s t (((found ++ h.msgq ∷ []) ++ again) ++ h.left ∷ []) how size h.msgq placed (saw-free seat.sender stat free) refl words-are refl;
       stats = λ ws p. sublist-more ws seat.sender.stats (stat ∷ []) p;
       words = λ ws p. subst (IsSublist ws) (sym words-are) (sublist-more ws seat.sender.words (((found ++ h.msgq ∷ []) ++ again) ++ h.left ∷ []) p);
@@ -195,6 +202,7 @@ looked-misses seat new stat e placed free = subst (λ v. SeatMisses seat v 0) (s
   few = omega arith;
   placed = placed;
   kept = refl;
+  undone = omega arith;
   free = saw-free seat.sender stat free;
   stats = λ ws p. sublist-more ws seat.sender.stats (stat ∷ []) p;
   words = λ ws p. p;

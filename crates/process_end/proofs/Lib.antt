@@ -10,3 +10,4 @@ pub mod Answered
 pub mod Heard
 pub mod Going
 pub mod Gone
+pub mod Bounds

@@ -137,6 +137,10 @@ asked-made old lanes seats ask receipt m d asks h =
           ∙ ap (λ ts. accepted ask.port asks old.receipts ++ ts) (sym (here-only ask.port (is_put receipt.outcome) (task_of ask receipt.outcome ∷ [])))))
           (λ j apart w. rw (elsewhere ask.port j apart) (ap tasks_of (m.touched.lanes_same j e apart) ∙ (h.sent j e w ∙ sym (append-nil (accepted j asks old.receipts)))))
           k (subst (λ n. k < n) many within);
+      undone = λ k e within. each-place (λ j. j < length old.lanes → length (slice_index_or seats j e).sender.ledger.undone ≤ old.undone) ask.port
+          (λ w. subst (λ n. n ≤ old.undone) (sym (seat-made old lanes seats ask receipt m d e).undone) (h.undone ask.port e w))
+          (λ j apart w. rw (m.touched.seats_same j e apart) (h.undone j e w))
+          k (subst (λ n. k < n) many within);
       adds = λ k e within. each-place
           (λ j. j < length old.lanes → map shown_add (kept_adds (slice_index_or seats j e).sender.ledger)
           ≡ adds_shown j asks old.receipts ++ cond (eqb ask.port j && is_put receipt.outcome) (shown_by ask receipt.msgq) []) ask.port
@@ -208,6 +212,10 @@ pub asked-missed : (old : ProcView) (seats : List SendKnown) (undone : ℕ) (ask
 asked-missed old seats undone ask m d asks h = record {
   receipts = λ none. h.receipts (let counts = m.counts in omega arith);
   sent = h.sent;
+  undone = λ k e within. each-place (λ j. j < length old.lanes → length (slice_index_or seats j e).sender.ledger.undone ≤ undone) ask.port
+      (λ w. let more = (seat-missed old seats undone ask m d e).undone in let before = h.undone ask.port e w in let counts = m.counts in omega arith)
+      (λ j apart w. rw (m.touched.seats_same j e apart) (let before = h.undone j e w in let counts = m.counts in omega arith))
+      k within;
   adds = λ k e within. each-place (λ j. j < length old.lanes → map shown_add (kept_adds (slice_index_or seats j e).sender.ledger) ≡ adds_shown j asks old.receipts) ask.port
       (λ w. ap (map shown_add) (seat-missed old seats undone ask m d e).kept ∙ h.adds ask.port e w)
       (λ j apart w. ap (λ v. map shown_add (kept_adds v.sender.ledger)) (m.touched.seats_same j e apart) ∙ h.adds j e w)

@@ -41,6 +41,7 @@ pub asked-opened : (number : ℕ) (mailbox : Taking Mail (Unit {0})) (lanes : Li
 asked-opened number mailbox lanes seats soft p = record {
   receipts = λ _. tt;
   sent = λ k d within. ap (map (λ x. x.task)) (p.ends k d within).2;
+  undone = λ k e within. subst (λ (s : SenderView). length s.ledger.undone ≤ 0) (sym (p.fresh k e within)) (omega arith);
   adds = λ k e within. subst (λ (s : SenderView). map shown_add (kept_adds s.ledger) ≡ []) (sym (p.fresh k e within)) refl;
   stats = λ k e within. subst (λ (s : SenderView). IsSublist [] s.stats) (sym (p.fresh k e within)) (record { picks = []; as_many = refl; are = refl });
   words = λ k e within. subst (λ (s : SenderView). IsSublist [] s.words) (sym (p.fresh k e within)) (record { picks = []; as_many = refl; are = refl });

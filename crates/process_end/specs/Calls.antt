@@ -1,5 +1,5 @@
 -- What the calls of a process leave of it.
-use Rattle.std.specs.Prelude.{◌≡◌, ◌≢◌, ◌⊎◌, ℕ, ◌+◌, ◌<◌, List, ◌∷◌, length, map, true, false, slice_index_or}
+use Rattle.std.specs.Prelude.{◌≡◌, ◌≢◌, ◌⊎◌, ℕ, ◌+◌, ◌<◌, ◌≤◌, List, ◌∷◌, length, map, true, false, slice_index_or}
 use Rattle.port_words.specs.busy.Known.{SendKnown}
 use Rattle.port_model.specs.Signals.{data_size, is_command}
 use Rattle.process_receipts.specs.declared.receipt.Receipt.{Receipt}
@@ -10,11 +10,12 @@ use Rattle.process_end.specs.Views.{LaneEnd, ProcView, calls_of}
 use Rattle.process_end.specs.Steps.{sent_to, tasks_of, looked, Looks, HasSent, HasStepped, HasUndone}
 
 -- A process made these calls, newest first, and got a receipt for each. Of each port: the tasks that it put into the lane are those that were accepted of it, in
--- the order sent, each once; the adds that it didn't take back are those of the accepted commands; and the words in the receipts are words that its
--- seat found or left, in their order. The receipts have the outcomes that their calls have for a process that took no add back
+-- the order sent, each once; its seat took back at most as many adds as there were such calls, and the adds that it didn't take back are those of the accepted
+-- commands; and the words in the receipts are words that its seat found or left, in their order. The receipts have the outcomes that their calls have for a process that took no add back
 pub record HasAsked (asks : List Asked) (p : ProcView) : Type 0 where
   pub receipts : p.undone ≡ 0 → AreReceipts p.soft asks p.receipts
   pub sent : (k : ℕ) (d : LaneEnd) → k < length p.lanes → tasks_of (slice_index_or p.lanes k d) ≡ accepted k asks p.receipts
+  pub undone : (k : ℕ) (d : SendKnown) → k < length p.lanes → length (slice_index_or p.seats k d).sender.ledger.undone ≤ p.undone
   pub adds : (k : ℕ) (d : SendKnown) → k < length p.lanes → map shown_add (kept_adds (slice_index_or p.seats k d).sender.ledger) ≡ adds_shown k asks p.receipts
   pub stats : (k : ℕ) (d : SendKnown) → k < length p.lanes → IsSublist (stats_shown k p.receipts) (slice_index_or p.seats k d).sender.stats
   pub words : (k : ℕ) (d : SendKnown) → k < length p.lanes → IsSublist (words_shown k p.receipts) (slice_index_or p.seats k d).sender.words

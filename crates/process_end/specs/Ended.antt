@@ -35,6 +35,7 @@ pub record HasTold (reason : List ℕ) (old new : ProcView) : Type 0 where
   pub receipts : List Receipt
   pub told : HasToldPorts reason old receipts new
   pub counts : new.told ≡ old.told + length receipts
+  pub undone : new.undone ≡ old.undone
   pub ports : length new.lanes ≡ length old.lanes
   pub asked : (asks : List Asked) → HasAsked asks old → HasAsked (gone_asks reason old.told (length receipts) ++ asks) new
 

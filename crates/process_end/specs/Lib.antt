@@ -4,6 +4,7 @@ pub mod Calls
 pub mod Ports
 pub mod Added
 pub mod Laws
+pub mod Bounds
 pub mod Commanded
 pub mod Mailbox
 pub mod Looked
