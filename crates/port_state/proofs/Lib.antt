@@ -1,0 +1,3 @@
+mod Same
+mod Rows
+mod Opened
