@@ -98,7 +98,8 @@ impl<D: Driver> Body<D> {
     /// Opens a port: starts its driver. Ports and processes go by their places in the order of declaration, from 0; there are
     /// `processes` of these. The opener is the first owner.
     ///
-    /// Where it doesn't open, the parts come back, with a driver that is fresh or stopped.
+    /// Where it doesn't open, the parts come back: a driver that refused is stopped, and where memory was wanting before it was to start it
+    /// is as it was.
     pub fn open(
         alloc: Global,
         number: u32,
@@ -113,7 +114,8 @@ impl<D: Driver> Body<D> {
         ensures refusal { IfErr result (λ refused. Refuses (D.kind parts.driver) refused.1) }
         ensures kind { IfErr result (λ refused. D.kind refused.0.driver ≡ D.kind parts.driver) }
         ensures faults { IfErr result (λ refused. D.faults parts.driver ≤ D.faults refused.0.driver) }
-        ensures stage { IfErr result (λ refused. (D.stage refused.0.driver ≡ Life.Fresh) ⊎ (D.stage refused.0.driver ≡ Life.Stopped)) }
+        ensures config { IfErr result (λ refused. refused.0.config ≡ parts.config) }
+        ensures back { IfErr result (λ refused. (D.stage refused.0.driver ≡ Life.Stopped) ⊎ ((refused.1 ≡ StartRefusal.NoMemory) × (refused.0.driver ≡ parts.driver))) }
     {
         let BodyParts { mut driver, config } = parts;
         let Ok(

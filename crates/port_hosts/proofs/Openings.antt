@@ -1,17 +1,19 @@
 -- One more port is open, or its driver refused and the earlier ones are back.
-use Rattle.std.proofs.Common.{inl, inr, arith, ◌≡◌, ◌≢◌, ℕ, zero, suc, ◌<◌, ◌≤◌, ◌⊎◌, List, [], ◌∷◌, ◌++◌, length, take, Option, Some, None, refl, sym, ap, ◌∙◌}
+use Rattle.std.proofs.Common.{inl, inr, arith, ◌≡◌, ◌≢◌, ℕ, zero, suc, ◌<◌, ◌≤◌, ◌⊎◌, List, [], ◌∷◌, ◌++◌, length, take, Option, Some, None, refl, subst, sym, ap, ◌∙◌}
 use Rattle.std.specs.Prelude.{All, IsSomeAnd, slice_index, slice_index_or, slice_set}
 use Rattle.std.proofs.lemmas.Bool.{cases_lt, cases_eq}
 use Rattle.std.proofs.lemmas.List.{get_or_append_left, get_or_push, get_or_default, get_or_read, get_or-take, get_or-set_same, get_or-set_other, length-set, length_push}
 use Rattle.driver_entry.specs.declared.life.Life.{Life}
 use Rattle.driver_entry.specs.declared.life.Life.TheVariants.{Fresh}
+use Rattle.driver_entry.specs.declared.life.StartRefusal.{StartRefusal}
 use Rattle.driver_entry.specs.declared.life.StartRefusal.TheVariants.{NoMemory}
 use Rattle.driver_entry.specs.Drivers.{Kind, Own}
-use Rattle.driver_entry.specs.Refusals.{Refuses}
+use Rattle.driver_entry.specs.Refusals.{Refuses, refusal_of}
 use Rattle.port_engine.specs.Body.{View}
 use Rattle.port_hosts.specs.declared.hosted.Hosted.{Hosted}
 use Rattle.port_hosts.specs.declared.wanted.Wanted.{Wanted}
-use Rattle.port_hosts.specs.Hosts.{IsUnused, CameBack, AllCameBack, HasReturned, AllReturned}
+use Rattle.port_hosts.specs.Back.{HasStopped, HasNotStarted, AllServed, ServedBefore, CameBack, AllCameBack}
+use Rattle.port_hosts.specs.Hosts.{IsUnused, HasReturned, AllReturned}
 use Rattle.port_hosts.specs.Opening.{HasOpened, AllOpened}
 
 -- a port of this place, or none
@@ -28,25 +30,49 @@ place-or-none places (suc n) at = elim (cases_eq (slice_index places n) at) [
   ]
 ]
 
+some : (xs : List View) {n : ℕ} → n < length xs → View
+some [] l = absurd (omega arith)
+some (x ∷ xs) l = x
+
 module _ {D : Type 0} (kind : D → Kind) (stage : D → Life) (faults : D → ℕ) where
-  driver-back : (host : Hosted D) (driver : Option D) → host.driver ≡ driver → IsSomeAnd driver (λ d. stage d ≡ Fresh) → CameBack kind stage faults host host
-  driver-back host None e f = absurd f
-  driver-back host (Some d) e f = record {
-    before = d;
-    after = d;
-    handed = e;
-    returned = e;
-    same_kind = refl;
-    no_fewer_faults = omega arith;
-    at_rest = inl f;
+  pub host-of : (host : Hosted D) (port : Option ℕ) (driver : Option D) → host.port ≡ port → host.driver ≡ driver → host ≡ record { port = port; driver = driver }
+  host-of host port driver e f = ap (λ p. record { port = p; driver = host.driver }) e ∙ ap (λ d. record { port = port; driver = d }) f
+
+  -- all drivers are back where none was touched
+  pub untouched : (hosts : List (Hosted D)) → AllCameBack kind stage faults hosts hosts
+  untouched hosts = record { len = refl; hosts = λ at d l. inr refl }
+
+  here : (old new : List (Hosted D)) (place at : ℕ) (d : Hosted D) → place ≡ at → CameBack kind stage faults (slice_index_or old place d) (slice_index_or new place d)
+      → CameBack kind stage faults (slice_index_or old at d) (slice_index_or new at d)
+  here old new place at d e back = subst (λ at. CameBack kind stage faults (slice_index_or old at d) (slice_index_or new at d)) e back
+
+  -- all drivers are back where those of the ports are
+  pub all-served-back : (places : List ℕ) (old new : List (Hosted D)) → AllServed kind stage faults places old new → AllCameBack kind stage faults old new
+  all-served-back places old new s = record {
+    len = s.len;
+    hosts = λ at d l. elim (place-or-none places (length places) at) [
+      | inl found ↦ here old new (slice_index places found.0) at d found.2 (inl (Some found.0, s.served found.0 d found.1))
+      | inr none ↦ inr (s.others at d none)
+    ];
   }
 
-  -- a driver that wasn't touched is back
-  pub same-back : (host : Hosted D) → IsUnused stage host → CameBack kind stage faults host host
-  same-back host u = driver-back host host.driver refl u.1
-
-  pub untouched : (hosts : List (Hosted D)) → All (IsUnused stage) hosts → AllCameBack kind stage faults hosts hosts
-  untouched hosts unused = record { len = refl; hosts = λ at d l. same-back (slice_index_or hosts at d) (unused at d l) }
+  pub served-before-back : (places : List ℕ) (port : ℕ) (refusal : StartRefusal) (old new : List (Hosted D))
+      → ServedBefore kind stage faults places port refusal old new → AllCameBack kind stage faults old new
+  served-before-back places port refusal old new s = record {
+    len = s.len;
+    hosts = λ at d l. elim (place-or-none places (suc port) at) [
+      | inl found ↦ elim (cases_lt found.0 port) [
+        | inl less ↦ here old new (slice_index places found.0) at d found.2 (inl (Some found.0, s.served found.0 d less))
+        | inr most ↦
+            let last : port ≡ found.0 = omega (arith, found.1, most) in
+            here old new (slice_index places port) at d (ap (slice_index places) last ∙ found.2) (elim (s.unstarted d) [
+              | inl stopped ↦ inl (None, stopped)
+              | inr same ↦ inr same.1
+            ])
+      ]
+      | inr none ↦ inr (s.others at d (λ k l. none k (omega arith)))
+    ];
+  }
 
   some-driver : (driver : Option D) → IsSomeAnd driver (λ d. stage d ≡ Fresh) → IsSomeAnd driver (λ d. Refuses (kind d) NoMemory)
   some-driver None f = absurd f
@@ -94,44 +120,50 @@ module _ {D : Type 0} (kind : D → Kind) (stage : D → Life) (faults : D → �
       ) opens
 
   -- a driver that served a port is back
-  served : (own : D → Own) (port processes : ℕ) (w : Wanted) (old opened closed back : Hosted D) (body : View) → HasOpened kind faults port processes w old opened body
-      → HasReturned kind stage faults own body closed back → CameBack kind stage faults old back
-  served own port processes w old opened closed back body o r = record {
+  served : (own : D → Own) (port processes : ℕ) (w : Wanted) (old opened back : Hosted D) (body : View) → IsUnused stage old → HasOpened kind faults port processes w old opened body
+      → HasReturned kind stage faults own body opened back → HasStopped kind stage faults (Some port) old back
+  served own port processes w old opened back body unused o r = record {
     before = o.driver;
     after = r.driver;
-    handed = o.handed;
-    returned = ap (λ (h : Hosted D). h.driver) r.back;
+    handed = host-of old None (Some o.driver) unused.0 o.handed;
+    returned = r.back ∙ ap (λ (h : Hosted D). record h { driver = Some r.driver }) o.taken;
     same_kind = r.same_kind ∙ ap (λ p. p.kind) o.opened.opening;
     no_fewer_faults = let a = o.opened.risen in let b = r.no_fewer_faults in omega arith;
-    at_rest = inr r.at_rest;
+    stopped = r.at_rest;
   }
 
-  -- all drivers are back where one refused and the earlier ports were ended
-  pub refused-back : (own : D → Own) (processes : ℕ) (wanted : List Wanted) (places : List ℕ) (old new last : List (Hosted D)) (bodies : List View) (port at : ℕ) (w : Wanted) (before after : Hosted D)
-      → AllOpened kind faults processes wanted places old new bodies → length bodies ≡ port → slice_index places port ≡ at → at < length old → All (IsUnused stage) old
-      → ((earlier : ℕ) → earlier < port → slice_index places earlier ≢ at) → before ≡ slice_index_or new at before → CameBack kind stage faults before after
-      → AllReturned kind stage faults own bodies (take port places) (slice_set new at after) last → AllCameBack kind stage faults old last
-  refused-back own processes wanted places old new last bodies port at w before after o counts stands within unused apart was back r = record {
+  -- the drivers are back where one didn't start and the earlier ports were ended
+  pub refused-back : (own : D → Own) (processes : ℕ) (wanted : List Wanted) (places : List ℕ) (old new last : List (Hosted D)) (bodies : List View) (port at : ℕ) (w : Wanted) (refusal : StartRefusal) (before after : Hosted D)
+      → AllOpened kind faults processes wanted places old new bodies → length bodies ≡ port → slice_index places port ≡ at → port < length places → All (λ at. at < length old) places → All (IsUnused stage) old
+      → ((earlier : ℕ) → earlier < port → slice_index places earlier ≢ at) → before ≡ slice_index_or new at before → HasNotStarted kind stage faults refusal before after
+      → AllReturned kind stage faults own bodies (take port places) (slice_set new at after) last → ServedBefore kind stage faults places port refusal old last
+  refused-back own processes wanted places old new last bodies port at w refusal before after o counts stands more within unused apart was back r = record {
     len = r.len ∙ length-set new at after ∙ o.len;
-    hosts = λ k d l. elim (place-or-none places port k) [
-      | inl found ↦
-          let p = found.0 in
-          let lp : p < length bodies = omega (arith, found.1, counts) in
-          let here : slice_index (take port places) p ≡ k = get_or-take port places p 0 found.1 ∙ found.2 in
-          served _ _ _ _ _ _ _ _ _ (rw found.2 at (o.opened p w d (some bodies lp) lp)) (rw here at (r.returned p (some bodies lp) d lp))
-      | inr none ↦ rw (r.others k d (λ p q. rw (get_or-take port places p 0 (omega arith)) (none p (omega arith)))) (elim (cases_eq k at) [
-        | inl same ↦ rw (same, get_or-set_same new at after d inside, sym (o.others at d (λ p q. apart p (omega arith))), get_or_default new at d before inside, sym was) back
-        | inr other ↦ rw (get_or-set_other new at k after d other, o.others k d (λ p q. none p (omega arith))) (same-back (slice_index_or old k d) (unused k d l))
-      ])
-    ];
+    served = λ p d l.
+        let lp : p < length bodies = rw counts l in
+        let place : p < length places = omega (arith, l, more) in
+        let here : slice_index (take port places) p ≡ slice_index places p = get_or-take port places p 0 l in
+        let opened = o.opened p w d (some bodies lp) lp in
+        let returned = rw (here, get_or-set_other new at (slice_index places p) after d (apart p l)) at (r.returned p (some bodies lp) d lp) in
+        served own p processes _ _ _ _ _ (unused (slice_index places p) d (within p 0 place)) opened returned;
+    unstarted = λ d.
+        let first : slice_index_or old at d ≡ before = sym (o.others at d (λ p q. apart p (rw counts at q))) ∙ (get_or_default new at d before inside ∙ sym was) in
+        let final : slice_index_or last at d ≡ after = r.others at d (λ p q. rw (get_or-take port places p 0 (rw counts at q)) (apart p (rw counts at q))) ∙ get_or-set_same new at after d inside in
+        rw (stands, first, final) back;
+    others = λ k d none.
+        r.others k d (λ p q. rw (get_or-take port places p 0 (rw counts at q)) (none p (omega (arith, q, counts))))
+        ∙ (get_or-set_other new at k after d (λ e. none port (omega arith) (stands ∙ sym e)) ∙ o.others k d (λ p q. none p (omega (arith, q, counts))));
   }
     where
       inside : at < length new
-      inside = rw o.len within
+      inside = rw (o.len, sym stands) (within port 0 more)
 
-      some : (xs : List View) {n : ℕ} → n < length xs → View
-      some [] l = absurd (omega arith)
-      some (x ∷ xs) l = x
+  -- no driver of an open port refuses
+  pub all-start : (processes : ℕ) (wanted : List Wanted) (places : List ℕ) (old new : List (Hosted D)) (bodies : List View) (w : Wanted) → AllOpened kind faults processes wanted places old new bodies
+      → (port : ℕ) (d : Hosted D) → port < length bodies → IsSomeAnd (slice_index_or old (slice_index places port) d).driver (λ driver. refusal_of (kind driver) ≡ None)
+  all-start processes wanted places old new bodies w o port d l =
+      let opened = o.opened port w d (some bodies l) l in
+      rw opened.handed opened.starts
 
   -- the driver of the next port stands untouched at its place
   pub stands : (processes : ℕ) (wanted : List Wanted) (places : List ℕ) (old new : List (Hosted D)) (bodies : List View) (port at : ℕ) (before d : Hosted D)

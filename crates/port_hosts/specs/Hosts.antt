@@ -1,5 +1,5 @@
 -- The drivers that are handed to a run.
-use Rattle.std.specs.Prelude.{◌≡◌, ◌≢◌, ℕ, ◌<◌, ◌≤◌, ◌⊎◌, List, length, Bool, true, false, Some, None, count_by, IsSomeAnd, slice_index, slice_index_or}
+use Rattle.std.specs.Prelude.{◌≡◌, ◌≢◌, ℕ, ◌<◌, ◌≤◌, List, length, Bool, true, false, Some, None, count_by, IsSomeAnd, slice_index, slice_index_or}
 use Rattle.std.specs.Option.{option_map_or}
 use Rattle.std.specs.Str.{bytes_eq}
 use Rattle.port_signal.specs.History.{items}
@@ -23,21 +23,6 @@ module _ {D : Type 0} where
   -- how many drivers have this name
   abbrev pub named_count : (D → Kind) → List ℕ → List (Hosted D) → ℕ
   named_count kind name hosts = count_by (is_named kind name) hosts
-
-  -- the same driver came back: of its kind, with no fewer faults, and fresh or stopped
-  pub record CameBack (kind : D → Kind) (stage : D → Life) (faults : D → ℕ) (old new : Hosted D) : Type 0 where
-    pub before : D
-    pub after : D
-    pub handed : old.driver ≡ Some before
-    pub returned : new.driver ≡ Some after
-    pub same_kind : kind after ≡ kind before
-    pub no_fewer_faults : faults before ≤ faults after
-    pub at_rest : (stage after ≡ Fresh) ⊎ (stage after ≡ Stopped)
-
-  -- all drivers came back, in the order in which they were handed in
-  pub record AllCameBack (kind : D → Kind) (stage : D → Life) (faults : D → ℕ) (old new : List (Hosted D)) : Type 0 where
-    pub len : length new ≡ length old
-    pub hosts : (at : ℕ) (d : Hosted D) → at < length old → CameBack kind stage faults (slice_index_or old at d) (slice_index_or new at d)
 
   -- the driver of this port is back, stopped, with the port that it served. Where the port had ended, and memory was never wanting, its
   -- history is finished and the driver holds what its calls leave

@@ -1,3 +1,4 @@
 pub mod Hosts
 pub mod Finding
 pub mod Opening
+pub mod Back

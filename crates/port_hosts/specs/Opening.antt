@@ -25,10 +25,11 @@ module _ {D : Type 0} where
         → HasOpened kind faults port processes (slice_index_or wanted port w) (slice_index_or old (slice_index places port) d) (slice_index_or new (slice_index places port) d) (slice_index_or bodies port body)
     pub others : (at : ℕ) (d : Hosted D) → ((port : ℕ) → port < length bodies → slice_index places port ≢ at) → slice_index_or new at d ≡ slice_index_or old at d
 
-  -- the driver of this port refuses so, by its kind or for want of memory
+  -- the driver of this port refuses so, by its kind or for want of memory, and no driver of an earlier port refuses by its kind
   pub record HasRefused (kind : D → Kind) (ports : ℕ) (places : List ℕ) (hosts : List (Hosted D)) (at : ℕ) (refusal : StartRefusal) : Type 0 where
     pub within : at < ports
     pub refuses : (d : Hosted D) → IsSomeAnd (slice_index_or hosts (slice_index places at) d).driver (λ driver. Refuses (kind driver) refusal)
+    pub first : (port : ℕ) (d : Hosted D) → port < at → IsSomeAnd (slice_index_or hosts (slice_index places port) d).driver (λ driver. refusal_of (kind driver) ≡ None)
 
   -- why the ports weren't opened
   abbrev pub IsUnopened : (D → Kind) → ℕ → List ℕ → List (Hosted D) → Unopened → Type 0

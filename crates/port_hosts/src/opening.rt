@@ -1,6 +1,7 @@
-ghost use Rattle.std.specs.Prelude.{◌≡◌, ◌≢◌, ◌<◌, ◌≤◌, length, All, AllPairs, IfOk, IfErr, OnErr, IsSomeAnd};
+ghost use Rattle.std.specs.Prelude.{◌≡◌, ◌≢◌, ◌<◌, ◌≤◌, length, All, AllPairs, IfOk, IfErr, IsSomeAnd};
 ghost use Rattle.driver_entry.specs.Refusals.{Refuses};
-ghost use Rattle.port_hosts.specs.Hosts.{AllCameBack, CameBack, IsUnused};
+ghost use Rattle.port_hosts.specs.Back.{AreBack, HasNotStarted};
+ghost use Rattle.port_hosts.specs.Hosts.{IsUnused};
 ghost use Rattle.port_hosts.specs.Opening.{AllOpened, HasOpened, IsUnopened};
 
 use crate::{Hosted, Wanted, take_back};
@@ -15,7 +16,7 @@ pub enum Unopened {
     Refused { at: u32, refusal: StartRefusal },
 }
 
-/// Opens a port. Where it doesn't open, its driver is back.
+/// Opens a port. Where it doesn't open, its driver is back, without a port.
 fn open_port<D: Driver>(
     alloc: Global,
     host: &mut Hosted<D>,
@@ -27,7 +28,7 @@ fn open_port<D: Driver>(
     requires owner { port.now.owner < processes }
     ensures opened { IfOk result (HasOpened D.kind D.faults number processes port.now host.old host.new) }
     ensures refusal { IfErr result (λ refusal. IsSomeAnd host.old.driver (λ d. Refuses (D.kind d) refusal)) }
-    ensures back { OnErr result (CameBack D.kind D.stage D.faults host.old host.new) }
+    ensures back { IfErr result (λ refusal. HasNotStarted D.kind D.stage D.faults refusal host.old host.new) }
 {
     let Some(driver) = host.driver.take() else {
         unreachable!();
@@ -52,7 +53,7 @@ fn open_port<D: Driver>(
 /// Opens the ports in their order, each with the driver at its place, and numbers them from 0. A driver that serves a port stands in its
 /// body, and the port's number at its place.
 ///
-/// Where a driver refuses, the earlier ports are ended, and each driver is back.
+/// Where a driver refuses, the earlier ports are ended: each driver that served one is back with its number, and the others are back without.
 pub fn open_ports<D: Driver>(
     alloc: Global,
     hosts: &mut Vec<Hosted<D>>,
@@ -69,7 +70,7 @@ pub fn open_ports<D: Driver>(
     ensures count { IfOk result (λ bodies. length bodies.items ≡ length wanted.now) }
     ensures opened { IfOk result (λ bodies. AllOpened D.kind D.faults processes wanted.now places.now hosts.old.items hosts.new.items bodies.items) }
     ensures refused { IfErr result (IsUnopened D.kind (length wanted.now) places.now hosts.old.items) }
-    ensures back { OnErr result (AllCameBack D.kind D.stage D.faults hosts.old.items hosts.new.items) }
+    ensures back { IfErr result (AreBack D.kind D.stage D.faults places.now hosts.old.items hosts.new.items) }
 {
     if wanted.is_empty() {
         return Ok(Vec::new(alloc));

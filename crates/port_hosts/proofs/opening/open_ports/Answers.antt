@@ -6,7 +6,7 @@ use Rattle.driver_entry.specs.Refusals.{Refuses}
 use Rattle.port_hosts.specs.declared.hosted.Hosted.{Hosted}
 use Rattle.port_hosts.specs.declared.wanted.Wanted.{Wanted}
 use Rattle.port_hosts.specs.Hosts.{IsUnused}
-use Rattle.port_hosts.proofs.Openings.{opened-more, refused-back, stands}
+use Rattle.port_hosts.proofs.Openings.{all-start, opened-more, refused-back, stands}
 use Rattle.port_hosts.proofs.opening.open_ports.Goals as goal
 
 pub open_port-requires-clause-unused : goal.open_port-requires-clause-unused
@@ -37,14 +37,16 @@ returns-in-Err-clause-refused g c =
           (stands _ g.D.Driver.stage _ _ _ _ _ _ c.loop-at.bodies.items c.loop-at.at at c.index_mut.result.now d c.loop-at.invariant.opened c.loop-at.invariant.count (c.requires.within c.loop-at.at 0 port)
           (λ earlier h. c.requires.different earlier c.loop-at.at 0 h port) c.index_mut.ensures.value)
           c.in-Err.ensures.refusal;
+      first = λ port d l. all-start _ g.D.Driver.stage _ _ _ _ _ _ c.loop-at.bodies.items c.index-wanted-at.result c.loop-at.invariant.opened port d (rw c.loop-at.invariant.count l);
     }
 
 pub returns-in-Err-clause-back : goal.returns-in-Err-clause-back
 returns-in-Err-clause-back g c =
     let port : c.loop-at.at < length c.args.places.now = omega arith in
     let at = get_or c.args.places.now c.loop-at.at 0 in
-    refused-back _ _ _ _ _ _ _ _ _ _ c.loop-at.bodies.items c.loop-at.at at c.index-wanted-at.result c.index_mut.result.now c.open_port.new.host c.loop-at.invariant.opened c.loop-at.invariant.count refl
-    (c.requires.within c.loop-at.at 0 port) c.requires.unused (λ earlier h. c.requires.different earlier c.loop-at.at 0 h port) c.index_mut.ensures.value c.in-Err.ensures.back c.take_back.ensures.returned
+    refused-back _ _ _ _ _ _ _ _ _ _ c.loop-at.bodies.items c.loop-at.at at c.index-wanted-at.result c.in-Err.refusal c.index_mut.result.now c.open_port.new.host c.loop-at.invariant.opened
+    c.loop-at.invariant.count refl port c.requires.within c.requires.unused (λ earlier h. c.requires.different earlier c.loop-at.at 0 h port) c.index_mut.ensures.value c.in-Err.ensures.back
+    c.take_back.ensures.returned
 
 pub loop-at-preserved : goal.loop-at-preserved
 loop-at-preserved g c =
