@@ -74,7 +74,7 @@ fn a_busy_port_keeps_a_command_and_what_follows_it(rt: HostRuntime) -> Result<()
     assert_eq!(rt; body.stat(), 13);
     body.end();
     if !body.finished() {
-        return Ok(());
+        return Err("the port did not end".into());
     }
     let end = body.into_end();
     let rows = end.journal.rows.as_slice();

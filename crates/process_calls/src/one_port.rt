@@ -5,6 +5,7 @@ ghost use Rattle.process_calls.specs.Calls.{Called, IsSame, stat_at};
 use driver_entry::Driver;
 use port_engine::{Body, Turn};
 use port_signal::{NoMemory, Sender, Signal, Task};
+use port_words::busy::stat_closed;
 
 /// What a port answers to a call.
 #[derive(Drop)]
@@ -43,7 +44,7 @@ pub fn call_port<D: Driver>(
     ensures called { IfOk result (λ answered. Called process (record { signal = signal }) body.old body.new answered.number) }
 {
     let stat = body.stat();
-    if stat / 2 % 2 == 1 {
+    if stat_closed(stat) {
         return Ok(Answered { stat, number: None });
     }
     let Ok(seq) = body.give(Sender::Process(process), Task { signal }) else {
