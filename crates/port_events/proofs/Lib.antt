@@ -1,0 +1,7 @@
+pub mod AllHeld
+pub mod Handling
+pub mod Parts
+pub mod Rising
+pub mod Selected
+pub mod Single
+pub mod Steps
