@@ -28,7 +28,7 @@ pub invariant_of-self : goal.invariant_of-self
 invariant_of-self c =
     let within = subst (λ v. c.args.process < v.places) (sym c.self.view_is) c.requires in
     subst (IsFlagged _) (sym c.list.ensures)
-    (flagged-more c.self.inside.is_listed.items c.self.inside.list (record { process = c.args.process; seq = c.args.seq }) c.self.invariant within
+    (flagged-more c.self.inside.is_listed.items c.self.inside.list _ c.self.invariant within
     (listed-by c.self.inside.is_listed.items c.self.inside.list c.args.process c.index.result.now false c.self.invariant within c.index.ensures c.if-index.false))
 
 pub returns-clause-value : goal.returns-clause-value
