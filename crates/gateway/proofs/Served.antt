@@ -11,6 +11,8 @@ use Rattle.port_signal.specs.declared.row.Row.{Row}
 use Rattle.port_signal.specs.declared.row.Journal.{Journal}
 use Rattle.port_signal.specs.History.{items, marks}
 use Rattle.driver_entry.specs.declared.life.Life.{Life}
+use Rattle.driver_entry.specs.declared.life.StartRefusal.{StartRefusal}
+use Rattle.driver_entry.specs.declared.life.StartRefusal.TheVariants.{General, Errno, Badarg, NoMemory as NoMemoryToStart}
 use Rattle.driver_entry.specs.Drivers.{Kind, Own, Echo, kind_name}
 use Rattle.port_engine.specs.Body.{View, history_of, given_by}
 use Rattle.script_reader.specs.declared.decl.PortDecl.{PortDecl}
@@ -29,9 +31,10 @@ use Rattle.process_rounds.specs.Rounds.{AreNew, AreSteps, HasRun, HaveStopped}
 use Rattle.port_hosts.specs.declared.hosted.Hosted.{Hosted}
 use Rattle.port_hosts.specs.declared.wanted.Wanted.{Wanted}
 use Rattle.port_hosts.specs.Finding.{Found}
-use Rattle.port_hosts.specs.Hosts.{IsUnused, is_named, CameBack, AllCameBack, HasReturned, AllReturned}
-use Rattle.port_hosts.specs.Opening.{HasOpened, AllOpened}
-use Rattle.port_hosts.proofs.Openings.{place-or-none, same-back}
+use Rattle.port_hosts.specs.Hosts.{IsUnused, is_named, HasReturned, AllReturned}
+use Rattle.port_hosts.specs.Back.{HasStopped, AllServed, ServedBefore}
+use Rattle.port_hosts.specs.Opening.{HasOpened, AllOpened, HasRefused}
+use Rattle.port_hosts.proofs.Openings.{place-or-none, host-of}
 use Rattle.gateway_report.specs.declared.report.PortReport.{PortReport}
 use Rattle.gateway_report.specs.declared.report.ProcReport.{ProcReport}
 use Rattle.gateway_report.specs.declared.report.Report.{Report}
@@ -39,8 +42,8 @@ use Rattle.gateway_report.specs.End.{HasEnded, IsFrom, opening_of}
 use Rattle.gateway_report.proofs.Ends.{HasEnded-closed}
 use Rattle.gateway.specs.Wanted.{plain, wanted_by, wanted_of}
 use Rattle.gateway.specs.Headline as H
-use Rattle.gateway.specs.Back.{HasServed, AllServed}
 use Rattle.gateway.specs.Headline.{PortHolds, PairHolds, ProcessHolds, Serves, Headline, Made, asks_of}
+use Rattle.gateway.specs.Causes.{MakeFails, StandsOn, unserved_cause}
 use Rattle.gateway.specs.Reported.{port_report, ArePorts, AreProcesses}
 use Rattle.gateway.proofs.Rows.{from-senders}
 
@@ -93,34 +96,43 @@ module _ {D : Type 0} (kind : D → Kind) (stage : D → Life) (faults : D → �
     memory = h.broken;
   }
 
-  came-back : (k processes : ℕ) (w : Wanted) (old mid new : Hosted D) (body after : View) → HasOpened kind faults k processes w old mid body → IsSame body after
-      → HasReturned kind stage faults own after mid new → CameBack kind stage faults old new
-  came-back k processes w old mid new body after o s r = record {
+  served-at : (k processes : ℕ) (w : Wanted) (old mid new : Hosted D) (body after : View) → IsUnused stage old → HasOpened kind faults k processes w old mid body → IsSame body after
+      → HasReturned kind stage faults own after mid new → HasStopped kind stage faults (Some k) old new
+  served-at k processes w old mid new body after unused o s r = record {
     before = o.driver;
     after = r.driver;
-    handed = o.handed;
-    returned = ap (λ (h : Hosted D). h.driver) r.back;
+    handed = host-of kind stage faults old None (Some o.driver) unused.0 o.handed;
+    returned = r.back ∙ ap (λ (h : Hosted D). record h { driver = Some r.driver }) o.taken;
     same_kind = r.same_kind ∙ (ap (λ p. p.kind) s.opening ∙ ap (λ p. p.kind) o.opened.opening);
     no_fewer_faults = let a = o.opened.risen in let b = s.faults in let c = r.no_fewer_faults in omega arith;
-    at_rest = inr r.at_rest;
+    stopped = r.at_rest;
   }
 
-  -- each driver is back, whether it served a port or not
-  pub all-back : (processes : ℕ) (wanted : List Wanted) (places : List ℕ) (old mid new : List (Hosted D)) (bodies afters : List View)
-      → All (IsUnused stage) old → AllOpened kind faults processes wanted places old mid bodies → AreSame bodies afters
-      → AllReturned kind stage faults own afters places mid new → AllCameBack kind stage faults old new
-  all-back processes wanted places old mid new bodies afters unused o s r = record {
+  -- the drivers that served are back with their ports, and the others weren't touched
+  pub all-served : (processes : ℕ) (wanted : List Wanted) (places : List ℕ) (old mid new : List (Hosted D)) (bodies afters : List View)
+      → All (IsUnused stage) old → All (λ at. at < length old) places → length places ≡ length bodies → AllOpened kind faults processes wanted places old mid bodies → AreSame bodies afters
+      → AllReturned kind stage faults own afters places mid new → AllServed kind stage faults places old new
+  all-served processes wanted places old mid new bodies afters unused within count o s r = record {
     len = r.len ∙ o.len;
-    hosts = λ at d l. elim (place-or-none places (length bodies) at) [
-      | inl found ↦
-          let k = found.0 in
-          let e : slice_index places k ≡ at = found.2 in
-          subst (λ at. CameBack kind stage faults (slice_index_or old at d) (slice_index_or new at d)) e
-          (came-back k processes _ _ _ _ (slice_index_or bodies k no-body) (slice_index_or afters k no-body) (o.opened k no-wanted d no-body found.1) (s.each k no-body found.1)
-          (r.returned k no-body d (rw s.len found.1)))
-      | inr none ↦ rw (r.others at d (λ k l. none k (rw s.len at l)), o.others at d none) (same-back kind stage faults (slice_index_or old at d) (unused at d l))
-    ];
+    served = λ k d l.
+        let l' : k < length bodies = rw (sym count) l in
+        served-at k processes _ _ _ _ (slice_index_or bodies k no-body) (slice_index_or afters k no-body) (unused (slice_index places k) d (within k 0 l)) (o.opened k no-wanted d no-body l')
+        (s.each k no-body l') (r.returned k no-body d (rw s.len l'));
+    others = λ at d none. r.others at d (λ k l. none k (rw (count, sym s.len) l)) ∙ o.others at d (λ k l. none k (rw count l));
   }
+
+  -- a port of a plan wasn't opened
+  pub unopened : (plan : Plan) (places : List ℕ) (old new : List (Hosted D)) (at line : ℕ) (refusal : StartRefusal) → StandsOn plan at line → Found kind old (wanted_of plan.ports) places
+      → HasRefused kind (length plan.ports) places old at refusal → ServedBefore kind stage faults places at refusal old new
+      → MakeFails kind stage faults plan old new (unserved_cause line refusal)
+  unopened plan places old new at line General stands found refused back =
+      record { at = at; places = places; stands = stands; found = found; refuses = refused; of_driver = tt; back = back }
+  unopened plan places old new at line Errno stands found refused back =
+      record { at = at; places = places; stands = stands; found = found; refuses = refused; of_driver = tt; back = back }
+  unopened plan places old new at line Badarg stands found refused back =
+      record { at = at; places = places; stands = stands; found = found; refuses = refused; of_driver = tt; back = back }
+  unopened plan places old new at line NoMemoryToStart stands found refused back =
+      inr (record { places = places; found = found; back = inr (at, refused, back) })
 
 some : {X : Type 0} (xs : List X) {n : ℕ} → n < length xs → X
 some [] l = absurd (omega arith)
@@ -357,41 +369,14 @@ module _ {D : Type 0} (kind : D → Kind) (stage : D → Life) (faults : D → �
     told = λ s decl d inside. told-if plan afters journals lefts report l s decl d inside (cases_lt s (length plan.processes));
   }
 
-  host-of : (host : Hosted D) (port : Option ℕ) (driver : Option D) → host.port ≡ port → host.driver ≡ driver → host ≡ record { port = port; driver = driver }
-  host-of host port driver e f = ap (λ p. record { port = p; driver = host.driver }) e ∙ ap (λ d. record { port = port; driver = d }) f
-
-  served-at : (plan : Plan) (k at : ℕ) (decl : PortDecl) (old mid new : Hosted D) (body after : View) → (p : Leaves-port plan k at decl old mid new body after)
-      → old.port ≡ None → HasServed kind stage faults k old new
-  served-at plan k at decl old mid new body after p unserving = record {
-    before = p.opened.driver;
-    after = p.returned.driver;
-    handed = host-of old None (Some p.opened.driver) unserving p.opened.handed;
-    returned = host-at plan k at decl old mid new body after p;
-    same_kind = kind-at plan k at decl old mid new body after p;
-    no_fewer_faults = let a = p.opened.opened.risen in let b = p.same.faults in let c = p.returned.no_fewer_faults in omega arith;
-    stopped = p.returned.at_rest;
-  }
-
-  -- the drivers that served are back with their ports, and the others weren't touched
-  all-served : (plan : Plan) (places : List ℕ) (old mid new : List (Hosted D)) (bodies afters : List View) → Served-by plan places old mid new bodies afters
-      → HaveStopped afters → length afters ≡ length plan.ports → AllServed kind stage faults places old new
-  all-served plan places old mid new bodies afters v stop count =
-      let ports : length places ≡ length plan.ports = v.found.len ∙ length-map plan.ports wanted_by in
-      record {
-        len = v.returned.len ∙ v.opened.len;
-        served = λ k d place. served-at plan k (slice_index places k) _ _ _ _ _ _
-            (leaves-at plan places old mid new bodies afters v stop count k no-decl d (rw ports at place))
-            (v.unused (slice_index places k) d (v.found.within k 0 place)).0;
-        others = λ at d none. v.returned.others at d (λ k l. none k (rw (ports, ← count) l)) ∙ v.opened.others at d (λ k l. none k (rw (ports, ← count, v.same.len) l));
-      }
-
   -- the run of the plan was made
   pub made : (plan : Plan) (places : List ℕ) (old mid new : List (Hosted D)) (bodies afters : List View) (journals : List Journal) (lefts : List Left) (report : Report)
       → Served-by plan places old mid new bodies afters → Left-by plan afters journals lefts report → Made kind stage faults own plan old new report
   made plan places old mid new bodies afters journals lefts report v l = record {
     places = places;
     found = v.found;
-    back = all-served plan places old mid new bodies afters v l.stopped l.ports;
+    back = all-served kind stage faults own (length plan.processes) (wanted_of plan.ports) places old mid new bodies afters v.unused v.found.within
+        (v.found.len ∙ (length-map plan.ports wanted_by ∙ (sym l.ports ∙ v.same.len))) v.opened v.same v.returned;
     headline = headline plan places old mid new bodies afters journals lefts report v l;
   }
 

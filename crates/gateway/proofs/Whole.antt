@@ -7,6 +7,7 @@ use Rattle.std.proofs.lemmas.List.{append-nil, append_cancel_left, get_or-map, l
 use Rattle.std.proofs.lemmas.Slice.Eq.{bytes_eq-Decides}
 use Rattle.outside.specs.Causes.{Told, Rose}
 use Rattle.outside.specs.Log.{NamedBytes, noted}
+use Rattle.driver_entry.specs.declared.life.Life.{Life}
 use Rattle.driver_entry.specs.Drivers.{Kind, kind_name}
 use Rattle.driver_entry.specs.Refusals.{refusal_of, Refuses}
 use Rattle.driver_entry.specs.declared.life.StartRefusal.{StartRefusal}
@@ -146,8 +147,9 @@ module _ {D : Type 0} where
   found-starts kind host (Some driver) name refusal has named starts d r =
       starts-not (kind driver) refusal d r (starts (kind driver) (named-kind kind name host driver has named))
 
-  no-refusal : (kind : D → Kind) (hosts : List (Hosted D)) (plan : Plan) (line : ℕ) (refusal : StartRefusal) → AllStart plan → RefusesFor kind hosts plan line refusal → ⊥
-  no-refusal kind hosts plan line refusal starts r =
+  no-refusal : (kind : D → Kind) (stage : D → Life) (faults : D → ℕ) (plan : Plan) (hosts after : List (Hosted D)) (line : ℕ) (refusal : StartRefusal) → AllStart plan
+      → RefusesFor kind stage faults plan hosts after line refusal → ⊥
+  no-refusal kind stage faults plan hosts after line refusal starts r =
       let within = r.refuses.within in
       let wanted : slice_index_or (wanted_of plan.ports) r.at no-wanted ≡ wanted_by (slice_index_or plan.ports r.at no-decl) = get_or-map wanted_by plan.ports r.at no-decl no-wanted within in
       let place : r.at < length r.places = rw (r.found.len, length-map plan.ports wanted_by) within in
@@ -156,18 +158,19 @@ module _ {D : Type 0} where
       ap (λ (w : Wanted). is_named kind w.driver host) (sym wanted) ∙ r.found.named r.at no-wanted no-host place in
       found-starts kind host host.driver (slice_index_or plan.ports r.at no-decl).driver refusal refl named (λ q e. starts r.at no-decl q within e) r.of_driver (r.refuses.refuses no-host)
 
-  pub completes : (kind : D → Kind) (run : Run D) (cause : Cause) → CauseComes kind run cause → IsValid kind run → (cause ≡ Done) ⊎ (cause ≡ NoMemory)
-  completes kind run Done c v = inl refl
-  completes kind run (Usage at) c v = absurd (ok≢err run.words v.name at v.named c.0)
-  completes kind run (Script fault) c v =
+  pub completes : (kind : D → Kind) (stage : D → Life) (faults : D → ℕ) (run : Run D) (cause : Cause) → CauseComes kind stage faults run cause → IsValid kind run → (cause ≡ Done) ⊎ (cause ≡ NoMemory)
+  completes kind stage faults run Done c v = inl refl
+  completes kind stage faults run (Usage at) c v = absurd (ok≢err run.words v.name at v.named c.0)
+  completes kind stage faults run (Script fault) c v =
       absurd (ok≢err (script v.bytes) v.plan fault v.says (said-so run.words run.files run.files_after v.name v.bytes (Err fault) v.named v.there c.1))
-  completes kind run (ReadFault line) c v = absurd (no-read-fault run.words run.files run.files_after v.name v.bytes v.named v.there c.1 v.reads)
-  completes kind run WriteFault c v = absurd (v.puts c.1)
-  completes kind run (NoDriver line handed) c v =
+  completes kind stage faults run (ReadFault line) c v = absurd (no-read-fault run.words run.files run.files_after v.name v.bytes v.named v.there c.1 v.reads)
+  completes kind stage faults run WriteFault c v = absurd (v.puts c.1)
+  completes kind stage faults run (NoDriver line handed) c v =
       let same : c.0 ≡ v.plan = ok-same (script v.bytes) c.0 v.plan (said-so run.words run.files run.files_after v.name v.bytes (Ok c.0) v.named v.there c.1) v.says in
       absurd (no-lack kind run.hosts v.plan line handed v.drivers (subst (λ plan. LacksFor kind run.hosts plan line handed) same c.2))
-  completes kind run (StartRefused line refusal) c v =
+  completes kind stage faults run (StartRefused line refusal) c v =
       let same : c.0 ≡ v.plan = ok-same (script v.bytes) c.0 v.plan (said-so run.words run.files run.files_after v.name v.bytes (Ok c.0) v.named v.there c.1) v.says in
-      absurd (no-refusal kind run.hosts v.plan line refusal v.starts (subst (λ plan. RefusesFor kind run.hosts plan line refusal) same c.2))
-  completes kind run NoMemory c v = inr refl
-  completes kind run (Limit line) c v = absurd (no-limit run.words run.files run.files_after v.name v.bytes v.named v.there v.fits c.1)
+      absurd (no-refusal kind stage faults v.plan run.hosts run.hosts_after line refusal v.starts
+      (subst (λ plan. RefusesFor kind stage faults plan run.hosts run.hosts_after line refusal) same c.2))
+  completes kind stage faults run NoMemory c v = inr refl
+  completes kind stage faults run (Limit line) c v = absurd (no-limit run.words run.files run.files_after v.name v.bytes v.named v.there v.fits c.1)

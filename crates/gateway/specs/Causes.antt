@@ -10,8 +10,8 @@ use Rattle.driver_entry.specs.Drivers.{Kind, Own, kind_name}
 use Rattle.driver_entry.specs.Refusals.{refusal_of}
 use Rattle.port_hosts.specs.declared.hosted.Hosted.{Hosted}
 use Rattle.port_hosts.specs.Finding.{Found, HasDrivers, LacksDriver}
-use Rattle.port_hosts.specs.Hosts.{AllCameBack}
 use Rattle.port_hosts.specs.Opening.{HasRefused}
+use Rattle.port_hosts.specs.Back.{AllServed, ServedBefore, AllCameBack}
 use Rattle.script_reader.specs.declared.decl.PortDecl.{PortDecl}
 use Rattle.script_reader.specs.Plan.{Plan}
 use Rattle.script_reader.specs.Script.{script}
@@ -72,44 +72,59 @@ module _ {D : Type 0} where
     pub stands : StandsOn plan at line
     pub lacks : LacksDriver kind hosts (wanted_of plan.ports) at handed
 
-  -- the driver that the search finds for the port on this line refuses so by its kind
-  pub record RefusesFor (kind : D → Kind) (hosts : List (Hosted D)) (plan : Plan) (line : ℕ) (refusal : StartRefusal) : Type 0 where
+  -- the driver that the search finds for the port on this line refuses so by its kind, and in the order of the script it is the first that
+  -- refuses. The drivers of the ports above it served them, and no driver of another port was touched
+  pub record RefusesFor (kind : D → Kind) (stage : D → Life) (faults : D → ℕ) (plan : Plan) (old new : List (Hosted D)) (line : ℕ) (refusal : StartRefusal) : Type 0 where
     pub at : ℕ
     pub places : List ℕ
     pub stands : StandsOn plan at line
-    pub found : Found kind hosts (wanted_of plan.ports) places
-    pub refuses : HasRefused kind (length plan.ports) places hosts at refusal
+    pub found : Found kind old (wanted_of plan.ports) places
+    pub refuses : HasRefused kind (length plan.ports) places old at refusal
     pub of_driver : IsOfDriver refusal
+    pub back : ServedBefore kind stage faults places at refusal old new
 
-  -- why no report of a plan could be made: a driver is missing, and then no driver was touched, or one refuses to start, or memory is wanting
-  abbrev pub MakeFails : (D → Kind) → Plan → List (Hosted D) → List (Hosted D) → Cause → Type 0
-  MakeFails kind plan old new Done = ⊥
-  MakeFails kind plan old new (Usage at) = ⊥
-  MakeFails kind plan old new (Script fault) = ⊥
-  MakeFails kind plan old new (ReadFault line) = ⊥
-  MakeFails kind plan old new WriteFault = ⊥
-  MakeFails kind plan old new (NoDriver line handed) = LacksFor kind old plan line handed × (new ≡ old)
-  MakeFails kind plan old new (StartRefused line refusal) = RefusesFor kind old plan line refusal
-  MakeFails kind plan old new NoMemory = Unit {0}
-  MakeFails kind plan old new (Limit line) = ⊥
+  -- the drivers that the search finds served their ports: all of them, or those above the first one for whose start no memory was found
+  pub record FoundNoMemory (kind : D → Kind) (stage : D → Life) (faults : D → ℕ) (plan : Plan) (old new : List (Hosted D)) : Type 0 where
+    pub places : List ℕ
+    pub found : Found kind old (wanted_of plan.ports) places
+    pub back : AllServed kind stage faults places old new
+        ⊎ ((at : ℕ) × HasRefused kind (length plan.ports) places old at NoMemoryToStart × ServedBefore kind stage faults places at NoMemoryToStart old new)
+
+  -- why no report of a plan could be made, and how the drivers come back: one is missing, and then none was touched, or one refuses to start, or
+  -- memory is wanting, before or after the first was started
+  abbrev pub MakeFails : (D → Kind) → (D → Life) → (D → ℕ) → Plan → List (Hosted D) → List (Hosted D) → Cause → Type 0
+  MakeFails kind stage faults plan old new Done = ⊥
+  MakeFails kind stage faults plan old new (Usage at) = ⊥
+  MakeFails kind stage faults plan old new (Script fault) = ⊥
+  MakeFails kind stage faults plan old new (ReadFault line) = ⊥
+  MakeFails kind stage faults plan old new WriteFault = ⊥
+  MakeFails kind stage faults plan old new (NoDriver line handed) = LacksFor kind old plan line handed × (new ≡ old)
+  MakeFails kind stage faults plan old new (StartRefused line refusal) = RefusesFor kind stage faults plan old new line refusal
+  MakeFails kind stage faults plan old new NoMemory = (new ≡ old) ⊎ FoundNoMemory kind stage faults plan old new
+  MakeFails kind stage faults plan old new (Limit line) = ⊥
 
   -- each driver is as it was handed in
   abbrev pub NoneTouched : Run D → Type 0
   NoneTouched run = run.hosts_after ≡ run.hosts
 
+  -- memory was wanting: before a driver was started, or in the run of the script that was read
+  abbrev pub WantedMemory : (D → Kind) → (D → Life) → (D → ℕ) → Run D → Type 0
+  WantedMemory kind stage faults run = (ReadAtMostOnce run.words run.files run.files_after × NoneTouched run)
+      ⊎ ((plan : Plan) × ScriptRead run.words run.files run.files_after (Ok plan) × FoundNoMemory kind stage faults plan run.hosts run.hosts_after)
+
   -- each cause comes only where this holds
-  abbrev pub CauseComes : (D → Kind) → Run D → Cause → Type 0
-  CauseComes kind run Done = (run.files_after.reads ≡ run.files.reads) × (run.sink_after.faults ≡ run.sink.faults)
-  CauseComes kind run (Usage at) = (run.words ≡ Err at) × NothingRead run.files run.files_after × NoneTouched run
-  CauseComes kind run (Script fault) = IsOfScript fault × ScriptRead run.words run.files run.files_after (Err fault) × NoneTouched run
-  CauseComes kind run (ReadFault line) = (line ≡ 0) × ReadFails run.words run.files run.files_after × NoneTouched run
-  CauseComes kind run WriteFault = (run.files_after.reads ≡ run.files.reads) × Rose run.sink.faults run.sink_after.faults
-  CauseComes kind run (NoDriver line handed) =
+  abbrev pub CauseComes : (D → Kind) → (D → Life) → (D → ℕ) → Run D → Cause → Type 0
+  CauseComes kind stage faults run Done = (run.files_after.reads ≡ run.files.reads) × (run.sink_after.faults ≡ run.sink.faults)
+  CauseComes kind stage faults run (Usage at) = (run.words ≡ Err at) × NothingRead run.files run.files_after × NoneTouched run
+  CauseComes kind stage faults run (Script fault) = IsOfScript fault × ScriptRead run.words run.files run.files_after (Err fault) × NoneTouched run
+  CauseComes kind stage faults run (ReadFault line) = (line ≡ 0) × ReadFails run.words run.files run.files_after × NoneTouched run
+  CauseComes kind stage faults run WriteFault = (run.files_after.reads ≡ run.files.reads) × Rose run.sink.faults run.sink_after.faults
+  CauseComes kind stage faults run (NoDriver line handed) =
       (plan : Plan) × ScriptRead run.words run.files run.files_after (Ok plan) × LacksFor kind run.hosts plan line handed × NoneTouched run
-  CauseComes kind run (StartRefused line refusal) =
-      (plan : Plan) × ScriptRead run.words run.files run.files_after (Ok plan) × RefusesFor kind run.hosts plan line refusal
-  CauseComes kind run NoMemory = ReadAtMostOnce run.words run.files run.files_after
-  CauseComes kind run (Limit line) = (line ≡ 0) × IsOverLimit run.words run.files run.files_after × NoneTouched run
+  CauseComes kind stage faults run (StartRefused line refusal) =
+      (plan : Plan) × ScriptRead run.words run.files run.files_after (Ok plan) × RefusesFor kind stage faults plan run.hosts run.hosts_after line refusal
+  CauseComes kind stage faults run NoMemory = WantedMemory kind stage faults run
+  CauseComes kind stage faults run (Limit line) = (line ≡ 0) × IsOverLimit run.words run.files run.files_after × NoneTouched run
 
   -- a report is there exactly where the run was made, also where the report wasn't written
   abbrev pub IsReported : (D → Kind) → (D → Life) → (D → ℕ) → (D → Own) → Run D → Cause → Option Report → Type 0
@@ -188,7 +203,7 @@ module _ {D : Type 0} where
   -- how a run ends with this cause and this report: why, what was written, to the sink alone, and how the drivers come back. A valid run is made
   -- and its report is written, or memory is wanting
   pub record Ends (kind : D → Kind) (stage : D → Life) (faults : D → ℕ) (own : D → Own) (run : Run D) (cause : Cause) (report : Option Report) : Type 0 where
-    pub comes : CauseComes kind run cause
+    pub comes : CauseComes kind stage faults run cause
     pub reported : IsReported kind stage faults own run cause report
     pub wrote : Wrote run.sink run.sink_after cause report
     pub files : NothingWritten run.files run.files_after

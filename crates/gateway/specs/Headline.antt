@@ -17,6 +17,7 @@ use Rattle.call_receipts.specs.Asks.{Ask}
 use Rattle.call_receipts.specs.Receipts.{accepted, AreReceipts}
 use Rattle.port_hosts.specs.declared.hosted.Hosted.{Hosted}
 use Rattle.port_hosts.specs.Finding.{Found}
+use Rattle.port_hosts.specs.Back.{AllServed}
 use Rattle.process_rounds.specs.Asks.{asks}
 use Rattle.process_rounds.specs.Mails.{Came, mail_from, own_mails}
 use Rattle.gateway_report.specs.declared.report.PortReport.{PortReport}
@@ -24,7 +25,6 @@ use Rattle.gateway_report.specs.declared.report.ProcReport.{ProcReport}
 use Rattle.gateway_report.specs.declared.report.Report.{Report}
 use Rattle.gateway_report.specs.End.{opening_of}
 use Rattle.gateway.specs.Wanted.{plain, wanted_of}
-use Rattle.gateway.specs.Back.{AllServed}
 use Rattle.gateway.specs.Run.{Run, ScriptRead}
 
 -- the history of a reported port, newest row first

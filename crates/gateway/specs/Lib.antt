@@ -2,7 +2,6 @@ pub mod Words
 pub mod Fresh
 pub mod Wanted
 pub mod Run
-pub mod Back
 pub mod Headline
 pub mod Reported
 pub mod Causes

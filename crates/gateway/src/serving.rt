@@ -1,7 +1,7 @@
 ghost use Rattle.std.specs.Prelude.{◌≡◌, ◌<◌, length, All, IfOk, IfErr, slice_index_or};
 ghost use Rattle.script_reader.specs.Plan.{IsPlan};
 ghost use Rattle.gateway_report.specs.End.{HasEnded};
-ghost use Rattle.port_hosts.specs.Hosts.{AllCameBack, IsUnused};
+ghost use Rattle.port_hosts.specs.Hosts.{IsUnused};
 ghost use Rattle.port_hosts.specs.Finding.{Found};
 ghost use Rattle.gateway.specs.Headline.{Made};
 ghost use Rattle.gateway.specs.Causes.{MakeFails, unserved_cause};
@@ -43,10 +43,9 @@ fn serve_ports<D: Driver, R: Wait>(
     requires plan { IsPlan script.now }
     requires wanted { wanted.now ≡ wanted_of script.now.ports }
     requires found { Found D.kind hosts.old.items wanted.now places.now }
-    ensures back { AllCameBack D.kind D.stage D.faults hosts.old.items hosts.new.items }
     ensures made { IfOk result (Made D.kind D.stage D.faults D.own script.now hosts.old.items hosts.new.items) }
     ensures ended { IfOk result (λ report. All (HasEnded (length report.processes)) report.ports) }
-    ensures cause { IfErr result (MakeFails D.kind script.now hosts.old.items hosts.new.items) }
+    ensures cause { IfErr result (MakeFails D.kind D.stage D.faults script.now hosts.old.items hosts.new.items) }
 {
     let processes = script.processes().len() as u32;
     let mut bodies = match open_ports(alloc, hosts, places, wanted, processes) {
@@ -76,10 +75,9 @@ pub fn make_report<D: Driver, R: Wait>(
 ) -> Result<Report, Cause>
     requires unused { All (IsUnused D.stage) hosts.old.items }
     requires plan { IsPlan script.now }
-    ensures back { AllCameBack D.kind D.stage D.faults hosts.old.items hosts.new.items }
     ensures made { IfOk result (Made D.kind D.stage D.faults D.own script.now hosts.old.items hosts.new.items) }
     ensures ended { IfOk result (λ report. All (HasEnded (length report.processes)) report.ports) }
-    ensures cause { IfErr result (MakeFails D.kind script.now hosts.old.items hosts.new.items) }
+    ensures cause { IfErr result (MakeFails D.kind D.stage D.faults script.now hosts.old.items hosts.new.items) }
 {
     let Ok(wanted) = wanted_of(alloc, script.ports()) else {
         return Err(Cause::NoMemory);

@@ -173,7 +173,7 @@ fn run_hosted<D: Driver, F: Files, K: Sink, P, R: Wait>(
 /// The call may wait: a process waits for a reply, and a port whose driver stays busy keeps it, and the end of its owner, waiting. What is
 /// promised holds if it returns.
 ///
-/// Whatever the status, each driver comes back in its place, fresh or stopped.
+/// Whatever the status, each driver comes back in its place: stopped, or as it was handed in.
 pub fn gateway<F: Files, K: Sink, P: PollSet + Send, G: Gate + Sync, R: Sync + Wait>(
     rt: &R,
     alloc: Global,

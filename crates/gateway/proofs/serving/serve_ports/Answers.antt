@@ -1,7 +1,14 @@
-use Rattle.std.proofs.Common.{length, ap, ◌∙◌}
-use Rattle.std.proofs.lemmas.List.{length-map}
+use Rattle.std.proofs.Common.{inl, inr, ◌≡◌, ◌<◌, ℕ, length, refl, ap, sym, ◌∙◌}
+use Rattle.std.specs.Prelude.{slice_index_or}
+use Rattle.std.proofs.lemmas.List.{get_or_default, length-map}
+use Rattle.driver_entry.specs.declared.life.StartRefusal.{StartRefusal}
+use Rattle.port_hosts.specs.declared.opening.Unopened.{Unopened}
+use Rattle.port_hosts.specs.declared.opening.Unopened.TheVariants.{Refused}
+use Rattle.port_hosts.specs.Back.{ServedBefore}
+use Rattle.port_hosts.specs.Opening.{HasRefused}
+use Rattle.script_reader.specs.declared.decl.PortDecl.{PortDecl}
 use Rattle.gateway.specs.Wanted.{wanted_by}
-use Rattle.gateway.proofs.Served.{owners-of, steps-of, new-bodies, all-back, made, ended, Served-by, Left-by}
+use Rattle.gateway.proofs.Served.{owners-of, steps-of, new-bodies, all-served, unopened, made, ended, Served-by, Left-by}
 use Rattle.gateway.proofs.serving.serve_ports.Goals as goal
 
 pub open_ports-requires-clause-owners : goal.open_ports-requires-clause-owners
@@ -16,20 +23,25 @@ run_processes-ran-requires-clause-steps g c =
     (steps-of c.args.script.now (length c.in-Ok.bodies.items) c.requires.plan
     (c.in-Ok.ensures.count ∙ (ap length c.requires.wanted ∙ length-map c.args.script.now.ports wanted_by)))
 
-pub returns-in_default-clause-back : goal.returns-in_default-clause-back
-returns-in_default-clause-back g c =
-    all-back g.D.Driver.kind g.D.Driver.stage g.D.Driver.faults g.D.Driver.own _ c.args.wanted.now c.args.places.now c.args.hosts.now.items c.open_ports.new.hosts.items c.take_back-journals.new.hosts.items
-    c.in-Ok.bodies.items c.run_processes-ran.new.bodies.items c.requires.unused c.in-Ok.ensures.opened c.run_processes-ran.ensures.same c.take_back-journals.ensures.returned
+pub returns-in_default-clause-cause : goal.returns-in_default-clause-cause
+returns-in_default-clause-cause g c =
+    inr (record {
+      places = c.args.places.now;
+      found = rw c.requires.wanted at c.requires.found;
+      back = inl (all-served g.D.Driver.kind g.D.Driver.stage g.D.Driver.faults g.D.Driver.own _ c.args.wanted.now c.args.places.now c.args.hosts.now.items c.open_ports.new.hosts.items
+          c.take_back-journals.new.hosts.items c.in-Ok.bodies.items c.run_processes-ran.new.bodies.items c.requires.unused c.requires.found.within
+          (c.requires.found.len ∙ sym c.in-Ok.ensures.count) c.in-Ok.ensures.opened c.run_processes-ran.ensures.same c.take_back-journals.ensures.returned);
+    })
 
-pub returns-in_default-report_of-clause-back : goal.returns-in_default-report_of-clause-back
-returns-in_default-report_of-clause-back g c =
-    all-back g.D.Driver.kind g.D.Driver.stage g.D.Driver.faults g.D.Driver.own _ c.args.wanted.now c.args.places.now c.args.hosts.now.items c.open_ports.new.hosts.items c.take_back-journals.new.hosts.items
-    c.in-Ok.bodies.items c.run_processes-ran.new.bodies.items c.requires.unused c.in-Ok.ensures.opened c.run_processes-ran.ensures.same c.take_back-journals.ensures.returned
-
-pub returns-clause-back : goal.returns-clause-back
-returns-clause-back g c =
-    all-back g.D.Driver.kind g.D.Driver.stage g.D.Driver.faults g.D.Driver.own _ c.args.wanted.now c.args.places.now c.args.hosts.now.items c.open_ports.new.hosts.items c.take_back-journals.new.hosts.items
-    c.in-Ok.bodies.items c.run_processes-ran.new.bodies.items c.requires.unused c.in-Ok.ensures.opened c.run_processes-ran.ensures.same c.take_back-journals.ensures.returned
+pub returns-in_default-report_of-clause-cause : goal.returns-in_default-report_of-clause-cause
+returns-in_default-report_of-clause-cause g c =
+    inr (record {
+      places = c.args.places.now;
+      found = rw c.requires.wanted at c.requires.found;
+      back = inl (all-served g.D.Driver.kind g.D.Driver.stage g.D.Driver.faults g.D.Driver.own _ c.args.wanted.now c.args.places.now c.args.hosts.now.items c.open_ports.new.hosts.items
+          c.take_back-journals.new.hosts.items c.in-Ok.bodies.items c.run_processes-ran.new.bodies.items c.requires.unused c.requires.found.within
+          (c.requires.found.len ∙ sym c.in-Ok.ensures.count) c.in-Ok.ensures.opened c.run_processes-ran.ensures.same c.take_back-journals.ensures.returned);
+    })
 
 pub returns-clause-made : goal.returns-clause-made
 returns-clause-made g c =
@@ -74,3 +86,19 @@ returns-clause-ended g c =
     } in
     ended g.D.Driver.kind g.D.Driver.stage g.D.Driver.faults g.D.Driver.own c.args.script.now c.args.places.now c.args.hosts.now.items c.open_ports.new.hosts.items
     c.take_back-journals.new.hosts.items c.in-Ok.bodies.items c.run_processes-ran.new.bodies.items c.in-Ok-Ok.journals.items c.in-Ok-Ok.left.items c.in-Ok-report_of.report served left c.requires.plan
+
+whole : {Q : Type 0} (unopened : Unopened) → ((at : ℕ) (refusal : StartRefusal) → unopened ≡ Refused at refusal → Q) → Q
+whole (Refused at refusal) k = k at refusal refl
+
+pub returns-in-Err-Refused-clause-cause : goal.returns-in-Err-Refused-clause-cause
+returns-in-Err-Refused-clause-cause g c =
+    whole c.in-Err-Refused.field-0 (λ at refusal is.
+    let ports : length c.args.wanted.now ≡ length c.args.script.now.ports = ap length c.requires.wanted ∙ length-map c.args.script.now.ports wanted_by in
+    let refused : HasRefused g.D.Driver.kind (length c.args.wanted.now) c.args.places.now c.args.hosts.now.items at refusal = rw is at c.in-Err-Refused.ensures.refused in
+    let back : ServedBefore g.D.Driver.kind g.D.Driver.stage g.D.Driver.faults c.args.places.now at refusal c.args.hosts.now.items c.open_ports.new.hosts.items =
+    rw is at c.in-Err-Refused.ensures.back in
+    rw (c.unserved_cause.ensures, is)
+    (unopened g.D.Driver.kind g.D.Driver.stage g.D.Driver.faults g.D.Driver.own c.args.script.now c.args.places.now c.args.hosts.now.items c.open_ports.new.hosts.items at
+    (slice_index_or c.ports.result.now at c.index-ports-at.result).line refusal
+    (λ d. rw c.ports.ensures.value (ap (λ (p : PortDecl). p.line) (get_or_default c.args.script.now.ports at d c.index-ports-at.result (rw ports at refused.within))))
+    (rw c.requires.wanted at c.requires.found) (rw ports at refused) back))
