@@ -1,0 +1,7 @@
+//! Tests of the schedulers, over their contracts alone.
+#![tactic(auto)]
+
+#[cfg(test)]
+mod bodies;
+#[cfg(test)]
+mod one_scheduler;
