@@ -45,10 +45,6 @@ fn asked<R: Wait>(
     Ok(asks)
 }
 
-fn is_send<T: Send>(_value: &T) -> bool {
-    true
-}
-
 #[test]
 fn an_event_that_is_given_up_while_it_is_armed_waits_for_the_poller(
     rt: HostRuntime,
@@ -89,7 +85,6 @@ fn a_close_ends_reading_and_the_stop_ends_what_is_left(rt: HostRuntime) -> Resul
     let alloc = rt.alloc();
     let (end, mut lane) = lane::<PollAsk>(alloc, Snapshot::of(&()))?;
     let mut events = PortEvents::new(3, end);
-    assert!(rt; is_send(&events));
     let start = [selection(5, Dir::Write), selection(4, Dir::Read)];
     assert!(rt; events.start(&rt, alloc, &start).is_ok());
     let armed = [arm(4, Dir::Read), arm(5, Dir::Write)];
