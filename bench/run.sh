@@ -27,8 +27,8 @@ best_run() {
 }
 
 # Whole runs of the program, from its start to its end, with so many commands and two, four and eight times as many.
-time_program() {
-    local folder before='' time growth
+time_program() (
+    before=''
     folder=$(mktemp -d)
     trap 'rm -rf "$folder"' EXIT
     for count in "$1" $(($1 * 2)) $(($1 * 4)) $(($1 * 8)); do
@@ -39,7 +39,7 @@ time_program() {
         echo "gateway_run $count $time $((time * 1000 / count)) $growth"
         before=$time
     done
-}
+)
 
 if [ "${1:-}" = gateway_run ]; then
     time_program "${2:-2000}"
