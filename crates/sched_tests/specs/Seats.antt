@@ -1,6 +1,15 @@
--- Seats of homes with two seats.
-use Rattle.std.specs.Prelude.{◌≡◌, ℕ, None}
+-- The seats of a run in a test.
+use Rattle.std.specs.Prelude.{◌≡◌, ℕ, true, false, None}
 use Rattle.port_words.specs.home.Seats.{HomeKnown}
+use Rattle.port_words.specs.over.Over.{OverKnown, HasNotStopped}
+use Rattle.port_sched.specs.Lodging.{is_counted, has_finished}
+
+-- two counted seats of OVER that haven't finished, and two that haven't stopped the run
+pub record AreFour (first second third fourth : OverKnown) : Type 0 where
+  pub first_waits : (is_counted first.known ≡ true) × (has_finished first.known ≡ false)
+  pub second_waits : (is_counted second.known ≡ true) × (has_finished second.known ≡ false)
+  pub third_runs : HasNotStopped third.known.places
+  pub fourth_runs : HasNotStopped fourth.known.places
 
 module _ {B : Type 0} where
   -- one of the two seats of a home, which rests

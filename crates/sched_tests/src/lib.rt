@@ -5,3 +5,5 @@
 mod bodies;
 #[cfg(test)]
 mod one_scheduler;
+#[cfg(test)]
+mod two_schedulers;

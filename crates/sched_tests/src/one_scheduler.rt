@@ -81,7 +81,12 @@ fn another_scheduler_finishes_a_port_whose_ticket_it_steals(rt: HostRuntime) -> 
 }
 
 #[test]
-fn a_turn_without_memory_stops_the_run_and_the_body_comes_back(rt: HostRuntime) -> Result<(), Fail> {
-    assert_eq!(rt; starve(&rt, rt.alloc()), Some((3, SchedEnd::NoMemory, 1 << 32)));
+fn a_turn_without_memory_stops_the_run_and_the_body_comes_back(
+    rt: HostRuntime,
+) -> Result<(), Fail> {
+    assert_eq!(rt;
+        starve(&rt, rt.alloc()),
+        Some((3, SchedEnd::NoMemory, 1 << 32))
+    );
     Ok(())
 }

@@ -7,9 +7,9 @@ use Rattle.port_sched.proofs.closing.close_homes.Given as goal
 abbrev pub invariant-homes : goal.invariant-homes
 invariant-homes g l =
     ((done : List (HomeKnown _)) × (last : List _)
-        × (done ++ l.home-iterator.rest.items ≡ l.fn.homes.items)
-        × (l.bodies.items ≡ l.fn.bodies.items ++ last)
-        × AreLastBodies g.B.Lodged.name done last)
+    × (done ++ l.home-iterator.rest.items ≡ l.fn.homes.items)
+    × (l.bodies.items ≡ l.fn.bodies.items ++ last)
+    × AreLastBodies g.B.Lodged.name done last)
     × (l.home-iterator.rest.len ≡ length l.home-iterator.rest.items)
     × All IsWhole l.home-iterator.rest.items
     × (vec_len l.bodies + l.home-iterator.rest.len ≤ vec_capacity l.bodies)
