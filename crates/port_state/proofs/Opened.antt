@@ -1,5 +1,5 @@
 -- The state of a port that was just opened.
-use Rattle.std.proofs.Common.{◌≡◌, ℕ, List, ◌∷◌, [], Bool, true, false, Option, None, refl, sym, ap, ◌∙◌}
+use Rattle.std.proofs.Common.{◌≡◌, ℕ, List, ◌∷◌, [], false, None, sym, ap, ◌∙◌}
 use Rattle.port_config.specs.declared.config.Config.{Config}
 use Rattle.port_model.specs.declared.effect.Effect.{Effect}
 use Rattle.driver_model.specs.Calls.{Kind}

@@ -4,7 +4,6 @@ use Rattle.std.specs.Prelude.{◌<◌, not, if◌then◌else◌, IsSomeAnd}
 use Rattle.port_signal.specs.Reasons.{is_kill}
 use Rattle.port_signal.specs.declared.row.MarkKind.{MarkKind}
 use Rattle.port_signal.specs.declared.row.MarkKind.TheVariants.{Closed}
-use Rattle.port_model.specs.declared.effect.Effect.{Effect}
 use Rattle.driver_model.specs.Calls.{DriverCall}
 use Rattle.driver_model.specs.Drivers.{held_events}
 use Rattle.driver_model.specs.Same.{same_effects}
@@ -19,14 +18,14 @@ use Rattle.port_model.specs.declared.signal.Sender.{Sender}
 use Rattle.port_model.specs.declared.signal.Sender.TheVariants.{Process, Poller, Worker, Timer}
 use Rattle.port_model.specs.declared.signal.Signal.TheVariants.{Dropped}
 use Rattle.port_model.specs.Tasks.{TaskView}
-use Rattle.port_history.specs.State.{State, closing_reason, closer_after, closer_of, flushed_calls, row_calls, signal_calls, stops, ties_after, after_handled}
+use Rattle.port_history.specs.State.{State, closing_reason, closer_after, closer_of, flushed_calls, row_calls, signal_calls, stops, after_handled}
 use Rattle.port_history.specs.Laws.{has_effects, is_answered_by}
 use Rattle.driver_model.specs.Spawn.{is_none}
 use Rattle.port_driver.specs.Context.{SameEvents}
 use Rattle.port_links.specs.Table.{IsAmong}
 use Rattle.port_service.specs.Callbacks.{is_flagged, is_told_of}
 use Rattle.port_service.specs.Serves.{IsServed, Served, Watches, standing}
-use Rattle.port_state.specs.View.{StateView, IsStateOf, IsNotKilled, change_marks, due_marks}
+use Rattle.port_state.specs.View.{StateView, IsStateOf, IsNotKilled, change_marks}
 use Rattle.port_state.specs.Served.{untied_for}
 use Rattle.port_state.proofs.Same.{same}
 

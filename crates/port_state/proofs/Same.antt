@@ -1,6 +1,6 @@
 -- Each effect is the same as itself.
 use Rattle.std.proofs.Common.{◌≡◌, ℕ, List, [], ◌∷◌, Bool, true, false, ◌&&◌, refl}
-use Rattle.std.specs.Prelude.{◌==◌, nat_eq}
+use Rattle.std.specs.Prelude.{◌==◌}
 use Rattle.std.proofs.lemmas.Bool.Decides.{Decides-eqb, Decides-int_eq}
 use Rattle.std.proofs.lemmas.Slice.Eq.{slice_eq-Decides}
 use Rattle.io_vector.specs.declared.flag.Flag.{Flag}

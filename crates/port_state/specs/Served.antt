@@ -1,9 +1,9 @@
 -- What handling a task left, as a history says it.
-use Rattle.std.specs.Prelude.{◌≡◌, ℕ, List, Bool, true, Option, Some, None, is_some, if◌then◌else◌}
+use Rattle.std.specs.Prelude.{◌≡◌, ℕ, List, true, Option, is_some, if◌then◌else◌}
 use Rattle.port_model.specs.declared.signal.Signal.{Signal}
 use Rattle.port_history.specs.Opening.{Opening, Taken}
 use Rattle.port_history.specs.Ties.{Ties, untied}
-use Rattle.port_history.specs.State.{State, closing_reason, stops, after_handled}
+use Rattle.port_history.specs.State.{State, closing_reason, after_handled}
 use Rattle.port_history.specs.Laws.{has_effects}
 use Rattle.port_mail.specs.Rows.{IsRowOf}
 use Rattle.port_state.specs.declared.served.Served.{Served}

@@ -1,7 +1,6 @@
 -- A history of which a report counts everything.
 use Rattle.std.specs.Prelude.{List, [], ◌∷◌, codes}
 use Rattle.io_vector.specs.declared.flag.Flag.TheVariants.{Plain, Eol}
-use Rattle.port_model.specs.declared.signal.Signal.{Signal}
 use Rattle.port_model.specs.declared.signal.Signal.TheVariants.{OwnerCommand, Close}
 use Rattle.port_model.specs.declared.effect.Effect.TheVariants.{Message}
 use Rattle.port_model.specs.declared.mail.Mail.{Mail}

@@ -1,7 +1,5 @@
-use Rattle.std.proofs.Common.{◌≡◌, ◌≤◌, List, ℕ, Option, false, length, is_some, ◌&&◌, refl, sym, ap, ◌∙◌, subst}
-use Rattle.std.specs.Prelude.{map, not, if◌then◌else◌}
-use Rattle.port_model.specs.declared.signal.Signal.{Signal}
-use Rattle.port_links.specs.Posts.{sent_of}
+use Rattle.std.proofs.Common.{◌≡◌, ◌≤◌, false, length, is_some, ◌&&◌, refl, sym, ap, ◌∙◌, subst}
+use Rattle.std.specs.Prelude.{not, if◌then◌else◌}
 use Rattle.port_history.specs.Opening.{is_process, taken_of}
 use Rattle.port_history.specs.Mail.{closing_mail}
 use Rattle.port_history.specs.Service.{caller_of}
