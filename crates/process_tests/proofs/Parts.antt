@@ -1,7 +1,7 @@
 -- The parts of a process, port by port.
-use Rattle.std.proofs.Common.{arith, zero, suc, ◌≡◌, ℕ, ◌+◌, ◌<◌, List, [], ◌∷◌, length, Bool, refl, sym, ap, subst}
+use Rattle.std.proofs.Common.{arith, zero, suc, ◌≡◌, ℕ, ◌+◌, ◌<◌, List, [], ◌∷◌, ◌++◌, length, Bool, refl, sym, ap, subst}
 use Rattle.std.specs.Prelude.{slice_index_or}
-use Rattle.std.proofs.lemmas.List.Elements.{All-nil, All-cons}
+use Rattle.std.proofs.lemmas.List.Elements.{All-nil, All-cons, All-head, All-tail}
 use Rattle.atomic_table.specs.Seated.{TableId}
 use Rattle.task_queue.specs.Ends.{Taking}
 use Rattle.port_words.specs.busy.Views.{fresh_sender}
@@ -62,3 +62,8 @@ seats-fresh table setup from (suc count) = All-cons (IsFreshSeat table) _ _ (rec
 
 pub opened-fresh : (setup : BusySetup) (port : PortKnown) (seats : List SendKnown) → AreSeatsOf setup port seats → AreFreshSeats port.table seats
 opened-fresh setup port seats h = subst (AreFreshSeats port.table) (sym h.senders_are) (seats-fresh port.table setup 0 setup.senders)
+
+-- the last of these seats is one of them
+pub last-fresh : (table : TableId) (seats : List SendKnown) (seat : SendKnown) → AreFreshSeats table (seats ++ seat ∷ []) → IsFreshSeat table seat
+last-fresh table [] seat all = All-head (IsFreshSeat table) seat [] all
+last-fresh table (s ∷ seats) seat all = last-fresh table seats seat (All-tail (IsFreshSeat table) s (seats ++ seat ∷ []) all)
