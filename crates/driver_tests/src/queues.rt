@@ -43,6 +43,16 @@ fn pieces_are_put_behind_and_in_front(rt: HostRuntime) -> Result<(), Fail> {
 }
 
 #[test]
+fn a_vector_is_put_in_front_in_its_order(rt: HostRuntime) -> Result<(), Fail> {
+    let alloc = rt.alloc();
+    let mut ctx = queued(alloc)?;
+    ctx.reserve(2)?;
+    ctx.pushqv(&vector(alloc, &[b"xy", b"z"])?, 1)?;
+    assert!(rt; has(&ctx, b"yzabc")?);
+    Ok(())
+}
+
+#[test]
 fn first_bytes_are_dropped(rt: HostRuntime) -> Result<(), Fail> {
     let alloc = rt.alloc();
     let mut ctx = queued(alloc)?;

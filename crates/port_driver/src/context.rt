@@ -348,6 +348,25 @@ impl DriverCtx {
         }
     }
 
+    /// Puts a vector's bytes, but for the first `skip`, in front of those of the queue, in their order: `driver_pushqv` of erl_driver. They are
+    /// shared.
+    pub fn pushqv(&mut self, vector: &IoVec, skip: u64) -> Result<(), EnqFault>
+        ensures ok { OnOk result (self.new ≡ record self.old { queue = drop skip (concat vector.now) ++ self.old.queue }) }
+        ensures within { OnOk result (skip ≤ length (concat vector.now)) }
+        ensures err { OnErr result (self.new ≡ self.old) }
+        ensures fault { IfErr result (EnqFails skip (length (concat vector.now))) }
+    {
+        self.queue.pushqv(vector, skip)
+    }
+
+    /// Makes room in the queue for so many more segments, as `reserve` of `DriverQueue` does: `enq` and `pushq` then take none of memory. A context
+    /// shows the bytes of its queue and not its room, so its contract says no more than that the bytes stay.
+    pub fn reserve(&mut self, pieces: usize) -> Result<(), NoMemory>
+        ensures same { self.new ≡ self.old }
+    {
+        self.queue.reserve(pieces)
+    }
+
     /// Drops the first bytes of the queue: `driver_deq` of erl_driver. It takes no memory.
     pub fn deq(&mut self, count: u64) -> Result<(), DeqPast>
         ensures ok { OnOk result (self.new ≡ record self.old { queue = drop count self.old.queue }) }
