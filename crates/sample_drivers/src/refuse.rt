@@ -1,6 +1,6 @@
-ghost use Rattle.std.specs.Prelude.{◌≡◌, None, false};
+ghost use Rattle.std.specs.Prelude.{◌≡◌, None};
 ghost use Rattle.driver_model.specs.Calls.{Nothing};
-ghost use Rattle.sample_drivers.specs.Refusals.{kind_of, life_of};
+ghost use Rattle.sample_drivers.specs.Refusals.{kind_of};
 
 use port_driver::{Config, Driver, DriverCtx, Life, ReplyTo, StartRefusal};
 use port_model::{IoVec, NoMemory, Piece, Reason};
@@ -15,12 +15,12 @@ pub enum Refused {
     Badarg,
 }
 
-/// A driver that never starts: `refuse1` with a general error, `refuse2` with one of the system, `refuse3` for its argument. No callback
-/// of a started driver is made to it.
+/// A driver that never starts: `refuse1` with a general error, `refuse2` with one of the system, `refuse3` for its argument. So no callback
+/// of a started driver is made to it; each of them answers that it can't serve.
 #[derive(Drop)]
 pub struct Refuse {
     refused: Refused,
-    is_stopped: bool,
+    life: Life,
 }
 
 impl Model for Refuse {
@@ -28,27 +28,28 @@ impl Model for Refuse {
 
     ghost Value = { Refuser };
 
-    ghost view = { λ r. record { refused = r.refused; is_stopped = r.is_stopped } };
+    ghost view = { λ r. record { refused = r.refused; life = r.life } };
 }
 
 impl Refuse {
     /// A fresh driver that refuses so.
     pub fn new(refused: Refused) -> Refuse
-        ensures { result ≡ record { refused = refused; is_stopped = false } }
+        ensures { result ≡ record { refused = refused; life = Life.Fresh } }
     {
         Refuse {
             refused,
-            is_stopped: false,
+            life: Life::Fresh,
         }
     }
 }
 
+#[tactic(auto, using(crate::proofs::Refusals::refuse_ended))]
 impl Driver for Refuse {
     ghost kind = { λ r. kind_of r.refused };
 
     ghost own = { λ _. Nothing };
 
-    ghost stage = { λ r. life_of r.is_stopped };
+    ghost stage = { λ r. r.life };
 
     ghost faults = { λ _. 0 };
 
@@ -75,10 +76,7 @@ impl Driver for Refuse {
     }
 
     fn life(&self) -> Life {
-        if self.is_stopped {
-            return Life::Stopped;
-        }
-        Life::Fresh
+        self.life
     }
 
     fn start(
@@ -87,7 +85,7 @@ impl Driver for Refuse {
         _ctx: &mut DriverCtx,
         _config: &Config,
     ) -> Result<(), StartRefusal> {
-        self.is_stopped = true;
+        self.life = Life::Stopped;
         match self.refused {
             Refused::General => Err(StartRefusal::General),
             Refused::Errno => Err(StartRefusal::Errno),
@@ -101,7 +99,7 @@ impl Driver for Refuse {
         _ctx: &mut DriverCtx,
         _payload: &IoVec,
     ) -> Result<(), NoMemory> {
-        unreachable!()
+        Err(NoMemory)
     }
 
     fn control(
@@ -111,7 +109,7 @@ impl Driver for Refuse {
         _op: u32,
         _bytes: &Piece,
     ) -> Result<ReplyTo, NoMemory> {
-        unreachable!()
+        Err(NoMemory)
     }
 
     fn call(
@@ -121,7 +119,7 @@ impl Driver for Refuse {
         _op: u32,
         _bytes: &Piece,
     ) -> Result<ReplyTo, NoMemory> {
-        unreachable!()
+        Err(NoMemory)
     }
 
     fn ready_input(
@@ -130,7 +128,7 @@ impl Driver for Refuse {
         _ctx: &mut DriverCtx,
         _event: u32,
     ) -> Result<(), NoMemory> {
-        unreachable!()
+        Err(NoMemory)
     }
 
     fn ready_output(
@@ -139,7 +137,7 @@ impl Driver for Refuse {
         _ctx: &mut DriverCtx,
         _event: u32,
     ) -> Result<(), NoMemory> {
-        unreachable!()
+        Err(NoMemory)
     }
 
     fn ready_async(
@@ -149,7 +147,7 @@ impl Driver for Refuse {
         _number: u64,
         _output: &Piece,
     ) -> Result<(), NoMemory> {
-        unreachable!()
+        Err(NoMemory)
     }
 
     fn process_exit(
@@ -158,16 +156,16 @@ impl Driver for Refuse {
         _ctx: &mut DriverCtx,
         _process: u32,
     ) -> Result<(), NoMemory> {
-        unreachable!()
+        Err(NoMemory)
     }
 
     fn flush(&mut self, _alloc: Global, _ctx: &mut DriverCtx) -> Result<(), NoMemory> {
-        unreachable!()
+        Err(NoMemory)
     }
 
     fn stop_select(&mut self, _event: u32) {}
 
     fn stop(&mut self) {
-        unreachable!()
+        self.life = Life::Stopped;
     }
 }
