@@ -1,5 +1,6 @@
 ghost use Rattle.std.specs.Prelude.{◌≡◌, true, false, None, Some};
 ghost use Rattle.port_model.specs.Signals.{data_size, is_command};
+ghost use Rattle.port_lanes.specs.Parcels.{IsParcel};
 
 use crate::LaneKey;
 use port_model::Task;
@@ -55,6 +56,7 @@ impl Parcel {
     pub fn into_parts(self) -> (Task, Option<Weight>)
         ensures task { result.0 ≡ self.task }
         ensures weight { result.1 ≡ self.weight }
+        ensures parcel { IsParcel (record { task = result.0; weight = result.1 }) }
     {
         let Parcel { task, weight } = self;
         (task, weight)

@@ -6,7 +6,7 @@ ghost use Rattle.port_history.specs.Service.{first_reason};
 ghost use Rattle.port_history.specs.Ties.{failure, signal_reason, watched_by};
 ghost use Rattle.port_history.specs.State.{State};
 ghost use Rattle.port_model.specs.Tasks.{TaskView};
-ghost use Rattle.driver_model.specs.Drivers.{refusal_of};
+ghost use Rattle.driver_model.specs.Drivers.{read_event_of, refusal_of, write_event_of};
 ghost use Rattle.port_driver.specs.Starting.{Refuses};
 ghost use Rattle.port_service.specs.Opened.{Opened, ended};
 ghost use Rattle.port_service.specs.Serves.{IsCaller, IsFlagged, IsServed, Served, Watches, standing};
@@ -99,6 +99,14 @@ impl<D: Driver> Service<D> {
             watched,
         };
         Ok((service, effects))
+    }
+
+    /// The read event and the write event of its program, 0 and 0 where it has none.
+    pub fn program_events(&self) -> (u32, u32)
+        ensures read { result.0 ≡ read_event_of self.now.own }
+        ensures write { result.1 ≡ write_event_of self.now.own }
+    {
+        self.driver.events()
     }
 
     /// Tells the driver that an event that it gave up is waited for no more.

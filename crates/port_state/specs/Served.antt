@@ -3,7 +3,8 @@ use Rattle.std.specs.Prelude.{◌≡◌, ℕ, List, true, Option, is_some, if◌
 use Rattle.port_model.specs.declared.signal.Signal.{Signal}
 use Rattle.port_history.specs.Opening.{Opening, Taken}
 use Rattle.port_history.specs.Ties.{Ties, untied}
-use Rattle.port_history.specs.State.{State, closing_reason, after_handled}
+use Rattle.port_history.specs.Service.{effects_after}
+use Rattle.port_history.specs.State.{State, closing_reason, row_calls, after_handled}
 use Rattle.port_history.specs.Laws.{has_effects}
 use Rattle.port_mail.specs.Rows.{IsRowOf}
 use Rattle.port_state.specs.declared.served.Served.{Served}
@@ -14,6 +15,7 @@ use Rattle.port_state.specs.View.{StateView, IsStateOf}
 pub record IsServed (port : Opening) (s : State) (t : Taken) (signal : Signal) (made : Served) (new : StateView) : Type 0 where
   pub state : IsStateOf new port (after_handled port s t)
   pub effects : has_effects port s t ≡ true
+  pub effects_are : t.effects ≡ effects_after port s.calls (row_calls port s t)
   pub closes : made.closes ≡ is_some (closing_reason s t)
   pub mail : IsRowOf made.handling made.effects signal made.closing port s t
 

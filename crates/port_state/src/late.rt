@@ -13,6 +13,7 @@ impl<D: Driver> PortState<D> {
         requires { IsAmong self.old.links.processes from }
         ensures state { (port : Opening) (s : State) (t : Taken) → t.from ≡ from → t.task.signal ≡ signal.now → IsStateOf self.old port s → IsStateOf self.new port (after_late s t) }
         ensures same { self.new ≡ record self.old { links = self.new.links } }
+        ensures processes { self.new.links.processes ≡ self.old.links.processes }
     {
         self.links.note_late(from, signal);
     }

@@ -1,6 +1,6 @@
 //! How a port's state begins and ends.
 ghost use Rattle.std.specs.Prelude.{◌≡◌, ◌≢◌, ◌≤◌, ◌<◌, ◌⊎◌, ◌∷◌, [], IfOk, IfErr, OnOk};
-ghost use Rattle.driver_model.specs.Drivers.{effects_of, refusal_of};
+ghost use Rattle.driver_model.specs.Drivers.{effects_of, read_event_of, refusal_of, write_event_of};
 ghost use Rattle.port_driver.specs.Starting.{Refuses};
 ghost use Rattle.port_history.specs.Opening.{Opening};
 ghost use Rattle.port_history.specs.State.{start_call, state_at_start};
@@ -51,6 +51,14 @@ impl<D: Driver> PortState<D> {
             closes: false,
         };
         Ok((state, effects))
+    }
+
+    /// The read event and the write event of the driver's program, 0 and 0 where it has none.
+    pub fn program_events(&self) -> (u32, u32)
+        ensures read { result.0 ≡ read_event_of self.now.service.own }
+        ensures write { result.1 ≡ write_event_of self.now.service.own }
+    {
+        self.service.program_events()
     }
 
     /// Tells the driver that an event that it gave up is waited for no more.

@@ -80,6 +80,7 @@ impl Suspension {
     pub fn resume_first(&mut self) -> Option<Entry>
         ensures first { result ≡ slice_get self.old.entries 0 }
         ensures some { IfSome result (λ e. (listed : List HistoryEntry) → AgreesListed self.old listed → is_first (entry (Process e.process) e.seq) listed ≡ true) }
+        ensures entries { IfSome result (λ e. self.old.entries ≡ e ∷ self.new.entries) }
         ensures rest { IfSome result (λ e. (listed : List HistoryEntry) → AgreesListed self.old listed → AgreesListed self.new (without_entry (entry (Process e.process) e.seq) listed)) }
         ensures none { IfNone result (AgreesListed self.old []) }
         ensures unchanged { IfNone result (self.new ≡ self.old) }

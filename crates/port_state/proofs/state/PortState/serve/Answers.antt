@@ -70,6 +70,7 @@ returns-clause-serves g c = rw (← c.self.view_is, c.note_row.ensures.row) (λ 
     record {
       state = state;
       effects = has-effects port s t made.reason made.stops new.service served';
+      effects_are = served'.serves.effects;
       closes = ap is_some served'.serves.closes;
       mail = record {
         before = subst (λ (x : Ties). IsHandling c.new-handling.result port x sig) told.ties (h.ties port (sym told.number) (sym told.processes));

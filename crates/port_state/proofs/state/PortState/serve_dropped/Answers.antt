@@ -2,6 +2,7 @@ use Rattle.std.proofs.Common.{◌≡◌, true, is_some, refl, sym, ap, ◌∙◌
 use Rattle.port_model.specs.declared.signal.Signal.TheVariants.{Dropped}
 use Rattle.std.specs.Prelude.{map}
 use Rattle.port_links.specs.Posts.{sent_of}
+use Rattle.port_history.specs.Service.{effects_after}
 use Rattle.port_mail.specs.Rows.{IsHandling}
 use Rattle.port_state.proofs.Rows.{quiet, quiet-state, quiet-effects, quiet-exits, quiet-closer}
 use Rattle.port_state.proofs.state.PortState.serve_dropped.Goals as goal
@@ -15,6 +16,7 @@ returns g c = rw (← c.self.view_is, c.new.ensures, c.new-2.ensures) (record {
       record {
         state = quiet-state port s c.args.seq task _ told none stopped q;
         effects = quiet-effects port s _ refl refl q;
+        effects_are = sym (ap (λ x. effects_after port s.calls x) q.calls);
         closes = sym (ap is_some q.closes);
         mail = record {
           before = subst (λ x. IsHandling c.new-handling.result port x (Dropped c.args.event)) told.ties (h.ties port (sym told.number) (sym told.processes));

@@ -1,0 +1,26 @@
+use Rattle.std.proofs.Common.{◌≡◌, true, false, refl, sym, ap, ◌∙◌, subst}
+use Rattle.port_driver.specs.Context.{SameEvents}
+use Rattle.driver_model.specs.Drivers.{held_events}
+use Rattle.port_history.specs.Opening.{taken_of}
+use Rattle.port_model.specs.declared.signal.Sender.TheVariants.{Poller}
+use Rattle.port_state.specs.Served.{IsServed}
+use Rattle.served_port.specs.View.{ServedView}
+use Rattle.served_port.proofs.Rows.{stopped-drops}
+use Rattle.served_port.proofs.Same.{if-ok}
+use Rattle.served_port.proofs.served_port.ServedPort.serve.Goals as goal
+
+pub returns-clause-serves : goal.returns-clause-serves
+returns-clause-serves g c = rw (← c.self.view_is) (if-ok c.serve.result (λ made serves port s task e at settled.
+    serves port s task e at.state settled
+    (subst (λ x. SameEvents x (held_events port.kind port.config s.calls)) (sym (c.as_slice.ensures.value ∙ c.held-held.ensures s.events at.events))
+    (at.held (sym at.state.stopped ∙ (sym c.is_stopped.ensures ∙ c.if-is_stopped.false))))) c.serve.ensures.serves)
+
+pub returns-then-is_stopped-clause-serves : goal.returns-then-is_stopped-clause-serves
+returns-then-is_stopped-clause-serves g c = rw (← c.self.view_is) (λ port s task e at settled.
+    let h = c.requires.handled in
+    let stopped : h.s.stopped ≡ true = sym h.at.state.stopped ∙ (sym (ap (λ (x : ServedView). x.state.stopped) c.self.view_is) ∙ (sym c.is_stopped.ensures ∙ c.if-is_stopped.true)) in
+    let d = stopped-drops c.args.self.now h.port h.s c.args.from c.args.signal.now h.at stopped h.handled in
+    let made = c.serve_dropped.result in
+    subst (λ x. IsServed port s (taken_of x c.args.seq task made.outside made.effects) c.args.signal.now made c.self.inside.state) (sym d.poller)
+    (subst (λ x. IsServed port s (taken_of Poller c.args.seq task made.outside made.effects) x made c.self.inside.state) (sym c.in-Dropped.is)
+    (c.serve_dropped.ensures.serves port s task (e ∙ c.in-Dropped.is) at.state settled)))

@@ -1,0 +1,4 @@
+pub mod View
+pub mod Outcomes
+pub mod Steps
+pub mod Openings

@@ -1,0 +1,17 @@
+-- A port that just was opened.
+use Rattle.std.specs.Prelude.{◌≡◌, ◌++◌, ◌∷◌, []}
+use Rattle.std.specs.List.{flat_map}
+use Rattle.driver_model.specs.Drivers.{effects_of}
+use Rattle.port_history.specs.Events.{selected_by}
+use Rattle.port_history.specs.Opening.{Opening}
+use Rattle.port_history.specs.State.{start_call, state_at_start}
+use Rattle.port_events.specs.Asks.{arm_asks}
+use Rattle.served_port.specs.declared.ends.PortEnds.{PortEnds}
+use Rattle.served_port.specs.Outcomes.{SubmitsJobs}
+use Rattle.served_port.specs.View.{ServedView, IsAt}
+
+-- the port stands at the start of its history: the poller was asked for each event that the start selected, and the workers were given its jobs
+pub record IsAtStart (port : Opening) (ends : PortEnds) (v : ServedView) : Type 0 where
+  pub at : IsAt v port (state_at_start port)
+  pub asks : v.events.asks.sent ≡ ends.asks.sent ++ flat_map (arm_asks port.number) (selected_by (effects_of port.kind port.config (start_call port ∷ [])) [])
+  pub jobs : SubmitsJobs port.number (effects_of port.kind port.config (start_call port ∷ [])) ends.pool v.jobs.lanes

@@ -1,0 +1,18 @@
+use async_jobs::Pool;
+use ready_select::PollAsk;
+use task_queue::SendEnd;
+
+/// Where a port puts what it asks of others: of the poller, and of the workers.
+#[derive(Drop)]
+pub struct PortEnds {
+    pub asks: SendEnd<PollAsk>,
+    pub pool: Pool,
+}
+
+/// The number of a port, from 0, the process that opens it and is its first owner, and how many processes there are.
+#[derive(Clone, Copy)]
+pub struct PortPlace {
+    pub number: u32,
+    pub owner: u32,
+    pub processes: u32,
+}

@@ -1,0 +1,20 @@
+ghost use Rattle.std.specs.Prelude.{◌≡◌, [], true, IfSome, IfNone};
+ghost use Rattle.port_history.specs.Marks.{is_due};
+ghost use Rattle.port_history.specs.Opening.{Opening};
+ghost use Rattle.port_history.specs.State.{State, after};
+ghost use Rattle.port_model.specs.declared.row.Row.TheVariants.{Mark};
+ghost use Rattle.served_port.specs.View.{IsAt};
+
+use crate::{Driver, MarkKind, ServedPort};
+
+impl<D: Driver> ServedPort<D> {
+    /// The mark that stands next, if one is due; it then stands.
+    pub fn next_mark(&mut self) -> Option<MarkKind>
+        ensures marks { IfSome result (λ kind. (port : Opening) (s : State) → IsAt self.old port s → (is_due kind s.due ≡ true) × IsAt self.new port (after port s (Mark kind))) }
+        ensures none { IfNone result ((port : Opening) (s : State) → IsAt self.old port s → s.due ≡ []) }
+        ensures same { IfNone result (self.new ≡ self.old) }
+        ensures rest { (self.new.events ≡ self.old.events) × (self.new.jobs ≡ self.old.jobs) }
+    {
+        self.state.next_mark()
+    }
+}

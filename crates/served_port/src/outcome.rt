@@ -1,0 +1,10 @@
+use port_state::Served;
+
+/// What came of a task.
+#[derive(Drop)]
+pub enum Outcome {
+    /// The port handled it.
+    Handled(Served),
+    /// The port found it late.
+    Late,
+}

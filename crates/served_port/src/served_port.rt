@@ -1,0 +1,71 @@
+ghost use Rattle.std.specs.Prelude.{◌≡◌, ◌&&◌, List, not, is_some};
+ghost use Rattle.std.specs.List.{list_all};
+ghost use Rattle.driver_model.specs.Drivers.{read_event_of, write_event_of};
+ghost use Rattle.port_history.specs.Opening.{Opening};
+ghost use Rattle.port_history.specs.State.{State};
+ghost use Rattle.port_history.specs.Jobs.{is_done};
+ghost use Rattle.port_history.specs.Laws.{is_given_back};
+ghost use Rattle.served_port.specs.View.{IsAt};
+
+use crate::{Driver, Links};
+use port_events::PortEvents;
+use port_jobs::PortJobs;
+use port_state::PortState;
+use std::marker::Model;
+
+/// A port, its driver, the driver's events and its jobs.
+///
+/// Each call that puts something to the poller or to a worker may spin while another thread is in a call of the same lane.
+#[derive(Drop)]
+pub struct ServedPort<D: Driver> {
+    pub(crate) state: PortState<D>,
+    pub(crate) events: PortEvents,
+    pub(crate) jobs: PortJobs,
+}
+
+impl<D: Driver> Model for ServedPort<D> {
+    ghost use Rattle.served_port.specs.View.{ServedView};
+
+    ghost Value = { ServedView };
+
+    ghost view = { λ p. record { state = p.state; events = p.events; jobs = p.jobs } };
+}
+
+impl<D: Driver> ServedPort<D> {
+    /// The ties of the port.
+    pub fn links(&self) -> &Links
+        ensures { result.now ≡ self.now.state.links }
+    {
+        self.state.links()
+    }
+
+    /// The read event and the write event of the driver's program, 0 and 0 where it has none.
+    pub fn program_events(&self) -> (u32, u32)
+        ensures read { result.0 ≡ read_event_of self.now.state.service.own }
+        ensures write { result.1 ≡ write_event_of self.now.state.service.own }
+    {
+        self.state.program_events()
+    }
+
+    /// Whether no row has closed the port.
+    pub fn is_open(&self) -> bool
+        ensures { result ≡ not (is_some self.now.state.reason) }
+    {
+        self.state.is_open()
+    }
+
+    /// Whether the port is busy by its marks.
+    pub fn is_busy(&self) -> bool
+        ensures { result ≡ self.now.state.busy }
+    {
+        self.state.is_busy()
+    }
+
+    /// Whether the driver was stopped, each event that it used is given back, and each job that it submitted was told done.
+    pub fn is_finished(&self) -> bool
+        ensures { (port : Opening) (s : State) → IsAt self.now port s
+            → result ≡ (s.stopped && list_all is_given_back s.events && list_all (λ job. is_done job.number s.done) s.jobs) }
+    {
+        self.state.is_stopped() && self.events.is_given_back() && self.jobs.are_done()
+    }
+}
