@@ -34,6 +34,7 @@ impl<D: Driver> PortState<D> {
         ensures marks { IfSome result (λ kind. (port : Opening) (s : State) → IsStateOf self.old port s → (is_due kind s.due ≡ true) × IsStateOf self.new port (after port s (Mark kind))) }
         ensures none { IfNone result ((port : Opening) (s : State) → IsStateOf self.old port s → s.due ≡ []) }
         ensures same { IfNone result (self.new ≡ self.old) }
+        ensures kept { self.new ≡ record self.old { busy = self.new.busy; change = self.new.change; closes = self.new.closes } }
     {
         if let Some(busy) = self.change.take() {
             self.busy = busy;

@@ -13,7 +13,7 @@ impl<D: Driver> ServedPort<D> {
         ensures marks { IfSome result (λ kind. (port : Opening) (s : State) → IsAt self.old port s → (is_due kind s.due ≡ true) × IsAt self.new port (after port s (Mark kind))) }
         ensures none { IfNone result ((port : Opening) (s : State) → IsAt self.old port s → s.due ≡ []) }
         ensures same { IfNone result (self.new ≡ self.old) }
-        ensures rest { (self.new.events ≡ self.old.events) × (self.new.jobs ≡ self.old.jobs) }
+        ensures kept { self.new ≡ record self.old { state = record self.old.state { busy = self.new.state.busy; change = self.new.state.change; closes = self.new.state.closes } } }
     {
         self.state.next_mark()
     }

@@ -1,0 +1,5 @@
+pub mod Append
+pub mod RowParts
+pub mod Same
+pub mod Settled
+pub mod TaskRows

@@ -1,0 +1,77 @@
+-- What stays the same of a port.
+use Rattle.std.proofs.Common.{◌≡◌, ℕ, Bool, true, false, List, [], length, Some, None, refl, sym, ap, ◌∙◌, subst, arith}
+use Rattle.std.specs.Prelude.{Result, Ok, Err, OnOk, not, if◌then◌else◌}
+use Rattle.driver_model.specs.Calls.{Kind}
+use Rattle.port_model.specs.declared.row.Row.{Row}
+use Rattle.port_events.specs.Table.{EventTable}
+use Rattle.port_history.specs.Mail.{Sent}
+use Rattle.port_history.specs.Opening.{Opening}
+use Rattle.port_history.specs.State.{State, state_at_start, is_open}
+use Rattle.port_mail.specs.Ends.{MailEnd, Puts, Posts}
+use Rattle.served_port.specs.View.{ServedView, IsSameServed}
+use Rattle.recorded_port.specs.View.{RecordedView}
+use Rattle.recorded_port.specs.Taking.{IsSameRecorded}
+
+pub on-ok : {T E : Type 0} (r : Result T E) {P Q : Type 0} → (P → Q) → OnOk r P → OnOk r Q
+on-ok (Ok value) f p = f p
+on-ok (Err error) f p = tt
+
+pub served-refl : (v : ServedView) → IsSameServed v v
+served-refl v = record { state = record { number = refl; processes = refl; kind = refl }; faults = omega (arith); events = refl; jobs = refl }
+
+pub served-trans : (a b c : ServedView) → IsSameServed a b → IsSameServed b c → IsSameServed a c
+served-trans a b c p q = record {
+  state = record { number = q.state.number ∙ p.state.number; processes = q.state.processes ∙ p.state.processes; kind = q.state.kind ∙ p.state.kind };
+  faults = let m = p.faults in let n = q.faults in omega (arith);
+  events = q.events ∙ ap (λ (e : EventTable). record e { selector = c.events.selector; asks = record e.asks { sent = c.events.asks.sent } }) p.events;
+  jobs = q.jobs ∙ p.jobs;
+}
+
+pub same-refl : (v : RecordedView) → IsSameRecorded v v
+same-refl v = record { opening = refl; port = served-refl v.port; ends = refl; table = refl; places = refl }
+
+pub same-trans : (a b c : RecordedView) → IsSameRecorded a b → IsSameRecorded b c → IsSameRecorded a c
+same-trans a b c p q = record {
+  opening = q.opening ∙ p.opening;
+  port = served-trans a.port b.port c.port p.port q.port;
+  ends = q.ends ∙ p.ends;
+  table = q.table ∙ p.table;
+  places = q.places ∙ p.places;
+}
+
+-- rows and mail alone came to it
+pub same-written : (old new : RecordedView) (rows : List Row) (ends : List MailEnd) → new ≡ record old { rows = rows; ends = ends } → length ends ≡ length old.ends → IsSameRecorded old new
+same-written old new rows ends e count = subst (λ x. IsSameRecorded old x) (sym e) (record { opening = refl; port = served-refl old.port; ends = count; table = refl; places = refl })
+
+pub puts-count : {T E : Type 0} (r : Result T E) (ended : List ℕ) (old new : List MailEnd) (sent : List Sent) → Puts r ended old new sent → length new ≡ length old
+puts-count (Ok value) ended old new sent p = p.processes
+puts-count (Err error) ended old new sent p = p.posted.processes
+
+-- some state of a port that is open or not
+abbrev pub state-with : Opening → Bool → State
+state-with port closed = record (state_at_start port) { reason = if closed then Some [] else None }
+
+pub state-with-open : (port : Opening) (closed : Bool) → closed ≡ not (is_open (state-with port closed))
+state-with-open port true = refl
+state-with-open port false = refl
+
+pub puts-each : {T E S : Type 0} {P : S → Type 0} (r : Result T E) (ended : List ℕ) (old new : List MailEnd) (f : S → List Sent)
+    → ((s : S) → P s → Puts r ended old new (f s)) → OnOk r ((s : S) → P s → Posts ended old new (f s))
+puts-each (Ok value) ended old new f puts = puts
+puts-each (Err error) ended old new f puts = tt
+
+pub not-false-of : (b : Bool) → true ≡ not b → b ≡ false
+not-false-of true e = absurd cc
+not-false-of false e = refl
+
+pub puts-any : {T E S : Type 0} (r : Result T E) (ended : List ℕ) (old new : List MailEnd) (f : S → List Sent)
+    → ((s : S) → Puts r ended old new (f s)) → OnOk r ((s : S) → Posts ended old new (f s))
+puts-any (Ok value) ended old new f puts = puts
+puts-any (Err error) ended old new f puts = tt
+
+pub same-opening : (o : Opening) (n : ℕ) (k : Kind) → n ≡ o.processes → k ≡ o.kind → record o { processes = n; kind = k } ≡ o
+same-opening o n k p q = ap (λ x. record o { processes = x; kind = k }) p ∙ ap (λ x. record o { kind = x }) q
+
+pub on-both : {T E : Type 0} (r : Result T E) {P Q S : Type 0} → (P → Q → S) → OnOk r P → OnOk r Q → OnOk r S
+on-both (Ok value) f p q = f p q
+on-both (Err error) f p q = tt

@@ -1,0 +1,56 @@
+use Rattle.std.proofs.Common.{refl, ap}
+use Rattle.port_history.specs.Opening.{Opening}
+use Rattle.port_state.specs.View.{IsOpeningOf}
+use Rattle.recorded_port.proofs.Same.{same-opening}
+use Rattle.recorded_port.proofs.Settled.{opened}
+use Rattle.recorded_port.proofs.recorded_port.RecordedPort.open.Goals as goal
+
+pub returns-clause-settled : goal.returns-clause-settled
+returns-clause-settled g c =
+    let place = c.args.place in
+    let port : Opening = record {
+      number = place.number;
+      processes = place.processes;
+      kind = g.D.Driver.kind c.args.parts.driver;
+      config = c.args.parts.config;
+      owner = place.owner;
+      read = c.program_events-read.result.0;
+      write = c.program_events-read.result.1;
+    } in
+    let is : IsOpeningOf place.number (g.D.Driver.kind c.args.parts.driver) c.args.parts.config place.owner place.processes c.in-Ok-open.port.state port = record {
+      number_is = refl;
+      processes_is = refl;
+      opening = record { kind_is = refl; config_is = refl; owner_is = refl; read_is = c.program_events-read.ensures.read; write_is = c.program_events-read.ensures.write };
+    } in
+    let start = c.in-Ok-open.ensures.opened port is in
+    opened _ port c.args.parts.outlets (same-opening port _ _ start.at.state.processes start.at.state.kind) c.new-2.ensures.items start
+    (ap (λ x. x.places) c.in-Ok.ensures.list) c.in-Ok.ensures.agrees refl refl c.requires.unused
+
+pub returns-clause-opened : goal.returns-clause-opened
+returns-clause-opened g c =
+    let place = c.args.place in
+    let port : Opening = record {
+      number = place.number;
+      processes = place.processes;
+      kind = g.D.Driver.kind c.args.parts.driver;
+      config = c.args.parts.config;
+      owner = place.owner;
+      read = c.program_events-read.result.0;
+      write = c.program_events-read.result.1;
+    } in
+    let is : IsOpeningOf place.number (g.D.Driver.kind c.args.parts.driver) c.args.parts.config place.owner place.processes c.in-Ok-open.port.state port = record {
+      number_is = refl;
+      processes_is = refl;
+      opening = record { kind_is = refl; config_is = refl; owner_is = refl; read_is = c.program_events-read.ensures.read; write_is = c.program_events-read.ensures.write };
+    } in
+    let start = c.in-Ok-open.ensures.opened port is in
+    record {
+      number = refl;
+      processes = start.at.state.processes;
+      kind_is = start.at.state.kind;
+      config_is = refl;
+      owner = refl;
+      rows = c.new-2.ensures.items;
+      ends = refl;
+      seat = refl;
+    }

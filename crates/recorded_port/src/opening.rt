@@ -1,0 +1,144 @@
+//! How a port comes to its first row, and how it comes to its end.
+ghost use Rattle.std.specs.Prelude.{◌≡◌, ◌≢◌, ◌≤◌, ◌<◌, ◌⊎◌, None, IfOk, IfErr, OnOk};
+ghost use Rattle.driver_model.specs.Drivers.{refusal_of};
+ghost use Rattle.port_driver.specs.Starting.{Refuses};
+ghost use Rattle.port_service.specs.Opened.{ended};
+ghost use Rattle.recorded_port.specs.View.{IsSettled};
+ghost use Rattle.recorded_port.specs.Openings.{AreUnused, IsOpened};
+ghost use Rattle.recorded_port.specs.Taking.{IsSameRecorded};
+
+use crate::fixed::Fixed;
+use crate::parts::{PortEnd, PortOutlets, PortParts};
+use crate::{Driver, Journal, RecordedPort, ServedPort, Suspension};
+use port_driver::{Life, StartRefusal};
+use port_model::Rows;
+use served_port::PortPlace;
+use std::alloc::Global;
+use std::sync::Wait;
+
+impl<D: Driver> RecordedPort<D> {
+    /// Opens the port of this place: its driver is started, and its first owner is linked. Where the driver refuses, or memory is wanting, all parts come
+    /// back, the driver stopped, or fresh if it wasn't called.
+    pub fn open<R: Wait>(
+        rt: &R,
+        alloc: Global,
+        place: PortPlace,
+        parts: PortParts<D>,
+    ) -> Result<RecordedPort<D>, (PortParts<D>, StartRefusal)>
+        requires fresh { D.stage parts.driver ≡ Life.Fresh }
+        requires owner { place.owner < place.processes }
+        requires unused { AreUnused parts.outlets }
+        ensures settled { IfOk result (λ p. IsSettled p) }
+        ensures opened { IfOk result (λ p. IsOpened place (D.kind parts.driver) parts.config parts.outlets p) }
+        ensures starts { OnOk result (refusal_of (D.kind parts.driver) parts.config ≡ None) }
+        ensures faults_rise { IfOk result (λ p. D.faults parts.driver ≤ p.port.state.service.faults) }
+        ensures kind { IfErr result (λ r. D.kind r.0.driver ≡ D.kind parts.driver) }
+        ensures config { IfErr result (λ r. r.0.config ≡ parts.config) }
+        ensures back { IfErr result (λ r. (D.stage r.0.driver ≡ Life.Fresh) ⊎ (D.stage r.0.driver ≡ Life.Stopped)) }
+        ensures faults { IfErr result (λ r. D.faults parts.driver ≤ D.faults r.0.driver) }
+        ensures refusal { IfErr result (λ r. Refuses (D.kind parts.driver) parts.config (D.faults parts.driver) (D.faults r.0.driver) r.1) }
+    {
+        let PortParts {
+            driver,
+            config,
+            outlets,
+        } = parts;
+        let PortOutlets {
+            mailboxes,
+            seat,
+            ends,
+        } = outlets;
+        let Ok(suspension) = Suspension::new(alloc, place.processes) else {
+            let outlets = PortOutlets {
+                mailboxes,
+                seat,
+                ends,
+            };
+            return Err((
+                PortParts {
+                    driver,
+                    config,
+                    outlets,
+                },
+                StartRefusal::NoMemory,
+            ));
+        };
+        let port = match ServedPort::open(rt, alloc, driver, &config, place, ends) {
+            Ok(port) => port,
+            Err((driver, ends, refusal)) => {
+                let outlets = PortOutlets {
+                    mailboxes,
+                    seat,
+                    ends,
+                };
+                return Err((
+                    PortParts {
+                        driver,
+                        config,
+                        outlets,
+                    },
+                    refusal,
+                ));
+            }
+        };
+        let (read, write) = port.program_events();
+        Ok(RecordedPort {
+            fixed: Fixed {
+                number: place.number,
+                owner: place.owner,
+                config,
+                read,
+                write,
+            },
+            port,
+            mailboxes,
+            seat,
+            suspension,
+            rows: Vec::new(alloc),
+        })
+    }
+
+    /// Stops the driver, if it is started: a port that found no memory is given up.
+    pub fn end(&mut self)
+        ensures stage { self.new.port.state.service.stage ≡ ended (self.old.port.state.service.stage) }
+        ensures same { IsSameRecorded self.old self.new }
+        ensures rows { self.new.rows ≡ self.old.rows }
+        ensures unchanged { self.old.port.state.service.stage ≢ Life.Started → self.new ≡ self.old }
+    {
+        self.port.end();
+    }
+
+    /// The driver, the ends, and the history.
+    pub fn into_end(self) -> PortEnd<D>
+        ensures kind { D.kind result.driver ≡ self.port.state.service.kind }
+        ensures own { D.own result.driver ≡ self.port.state.service.own }
+        ensures stage { D.stage result.driver ≡ self.port.state.service.stage }
+        ensures program { D.program result.driver ≡ self.port.state.service.program }
+        ensures faults { D.faults result.driver ≡ self.port.state.service.faults }
+        ensures outlets { result.outlets ≡ record { mailboxes = self.ends; seat = self.seat; ends = record { asks = self.port.events.asks; pool = self.port.jobs.lanes } } }
+        ensures journal { result.journal.rows ≡ self.rows }
+        ensures config { result.config ≡ self.opening.config }
+    {
+        let RecordedPort {
+            fixed,
+            port,
+            mailboxes,
+            seat,
+            rows,
+            ..
+        } = self;
+        let (driver, ends) = port.into_parts();
+        PortEnd {
+            driver,
+            config: fixed.config,
+            journal: Journal {
+                rows: Rows::of_vec(rows),
+            },
+            outlets: PortOutlets {
+                mailboxes,
+                seat,
+                ends,
+            },
+        }
+    }
+}

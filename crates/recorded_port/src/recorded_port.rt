@@ -1,0 +1,58 @@
+ghost use Rattle.std.specs.Prelude.{◌≡◌, not, is_some};
+
+use crate::fixed::Fixed;
+use crate::{Driver, Mailboxes, PortSeat, Row, ServedPort, Suspension};
+use std::marker::Model;
+
+/// A port with its driver, its rows, its mail, its words and the senders that it suspended.
+///
+/// Each call that takes a runtime may spin while another thread is in a call of the same lane or the same word.
+#[derive(Drop)]
+pub struct RecordedPort<D: Driver> {
+    pub(crate) fixed: Fixed,
+    pub(crate) port: ServedPort<D>,
+    pub(crate) mailboxes: Mailboxes,
+    pub(crate) seat: PortSeat,
+    pub(crate) suspension: Suspension,
+    // Oldest first.
+    pub(crate) rows: Vec<Row>,
+}
+
+impl<D: Driver> Model for RecordedPort<D> {
+    ghost use Rattle.recorded_port.specs.View.{RecordedView};
+
+    ghost Value = { RecordedView };
+
+    ghost view = { λ p. record {
+      opening = record {
+        number = p.fixed.number;
+        processes = p.port.state.links.processes;
+        kind = p.port.state.service.kind;
+        config = p.fixed.config;
+        owner = p.fixed.owner;
+        read = p.fixed.read;
+        write = p.fixed.write;
+      };
+      rows = p.rows.items;
+      port = p.port;
+      ends = p.mailboxes;
+      seat = p.seat;
+      suspended = p.suspension;
+    } };
+}
+
+impl<D: Driver> RecordedPort<D> {
+    /// Whether no row has closed the port.
+    pub fn is_open(&self) -> bool
+        ensures { result ≡ not (is_some self.now.port.state.reason) }
+    {
+        self.port.is_open()
+    }
+
+    /// Whether the port is busy by its marks.
+    pub fn is_busy(&self) -> bool
+        ensures { result ≡ self.now.port.state.busy }
+    {
+        self.port.is_busy()
+    }
+}
