@@ -1,8 +1,8 @@
 -- The events that a driver holds are those that the history of its port tells.
-use Rattle.std.proofs.Common.{◌≡◌, ℕ, ◌<◌, ◌==◌, cond, map, arith, Bool, true, false, ◌||◌, ◌&&◌, not, List, [], ◌∷◌, ◌++◌, length, refl, sym, ap, ◌∙◌, subst, eqb-true, eq-eqb, ne_eqb}
+use Rattle.std.proofs.Common.{◌≡◌, ℕ, ◌<◌, ◌==◌, cond, map, arith, Bool, true, false, ◌||◌, ◌&&◌, not, List, [], ◌∷◌, ◌++◌, refl, sym, ap, ◌∙◌, subst, eqb-true, eq-eqb, ne_eqb}
 use Rattle.std.specs.Cmp.{IsEquivalence}
 use Rattle.std.specs.Prelude.{filter}
-use Rattle.std.specs.List.{AllByRecursion, IsDistinct, list_any}
+use Rattle.std.specs.List.{AllByRecursion, IsDistinct}
 use Rattle.std.specs.List.Sorted.{IsStrictlyIncreasing}
 use Rattle.std.proofs.lemmas.Cmp.{nat_eq_equiv}
 use Rattle.std.proofs.lemmas.List.Folds.{list_any-append}
@@ -19,7 +19,7 @@ use Rattle.driver_model.specs.Drivers.{is_held, with_event, without_event, held_
 use Rattle.port_driver.specs.Context.{SameEvents}
 use Rattle.port_history.specs.Events.{Event, unused, change, event_of, numbers, select, give_up, disarm, drop_event, read_no_more, arm, told_of, selected_by, deselected}
 use Rattle.port_events.specs.Table.{held_of}
-use Rattle.port_events.proofs.Rising.{Up, Rising, up-from, changed, rising-change, event-map, rising-map, up-those, has-those, has-filter, not_in}
+use Rattle.port_events.proofs.Rising.{Up, Rising, up-from, changed, rising-change, event-map, rising-map, up-those, has-those, has-filter}
 use Rattle.port_history.specs.Opening.{Opening}
 use Rattle.port_history.specs.Service.{effects_after}
 

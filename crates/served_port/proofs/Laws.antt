@@ -1,5 +1,5 @@
 -- A task's row keeps the laws where it is handled exactly as the port's state says.
-use Rattle.std.proofs.Common.{◌≡◌, ℕ, Bool, true, false, ◌&&◌, List, [], refl, sym, ap, ◌∙◌, subst}
+use Rattle.std.proofs.Common.{◌≡◌, ℕ, Bool, true, false, ◌&&◌, List, refl, ap}
 use Rattle.std.specs.Prelude.{not, if◌then◌else◌}
 use Rattle.port_signal.specs.declared.row.Outside.{Outside}
 use Rattle.port_model.specs.declared.effect.Effect.{Effect}
@@ -13,7 +13,7 @@ use Rattle.port_history.specs.Events.{event_of}
 use Rattle.port_history.specs.Jobs.{is_submitted}
 use Rattle.port_history.specs.Laws.{may_send, is_ready, is_served, has_effects, keeps_lifetime}
 use Rattle.port_history.specs.Opening.{Opening, taken_of}
-use Rattle.port_history.specs.State.{State, is_open}
+use Rattle.port_history.specs.State.{State}
 use Rattle.served_port.specs.Outcomes.{is_handled, is_told_in, KeepsServed}
 
 told : (b h : Bool) → b ≡ h → (if b then h else not h) ≡ true

@@ -1,5 +1,5 @@
 -- A port that was just opened stands at the start of its history.
-use Rattle.std.proofs.Common.{◌≡◌, ℕ, map, List, [], ◌∷◌, ◌++◌, refl, sym, ap, ◌∙◌, subst}
+use Rattle.std.proofs.Common.{◌≡◌, ℕ, map, List, [], ◌∷◌, ◌++◌, ap, ◌∙◌, subst}
 use Rattle.std.specs.List.{flat_map}
 use Rattle.driver_model.specs.Drivers.{effects_of}
 use Rattle.port_model.specs.declared.effect.Effect.{Effect}
@@ -12,7 +12,6 @@ use Rattle.port_events.specs.Table as table
 use Rattle.port_events.specs.Table.{EventTable, KeepsEnd}
 use Rattle.port_jobs.specs.Jobs as jobs
 use Rattle.port_jobs.specs.Jobs.{JobsView, Submits, AreJobsOf}
-use Rattle.async_jobs.specs.Order.{AllSubmitted}
 use Rattle.port_state.specs.View.{IsStateOf}
 use Rattle.served_port.specs.declared.ends.PortEnds.{PortEnds}
 use Rattle.served_port.specs.View.{ServedView}

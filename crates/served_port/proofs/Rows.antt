@@ -1,36 +1,31 @@
 -- What a row of a task leaves of a port.
 use Rattle.std.proofs.Common.{◌≡◌, ℕ, ◌==◌, cond, map, Bool, true, false, ◌||◌, ◌&&◌, List, [], ◌∷◌, ◌++◌, Option, Some, None, is_some, refl, sym, ap, ◌∙◌, subst}
 use Rattle.std.specs.Prelude.{not, if◌then◌else◌}
-use Rattle.std.specs.List.Sorted.{IsStrictlyIncreasing}
 use Rattle.driver_model.specs.Calls.{DriverCall}
 use Rattle.driver_model.specs.Drivers.{held_events, held_by, effects_of}
 use Rattle.port_driver.specs.Context.{SameEvents}
 use Rattle.port_signal.specs.declared.row.MarkKind.{MarkKind}
-use Rattle.port_signal.specs.declared.row.Outside.{Outside}
-use Rattle.port_model.specs.declared.effect.Effect.{Effect}
 use Rattle.port_model.specs.declared.event.Dir.{Dir}
 use Rattle.port_model.specs.declared.event.Dir.TheVariants.{Read, Write}
-use Rattle.port_model.specs.declared.row.Row.TheVariants.{Handled, Late, Listed, Resumed, Mark}
+use Rattle.port_model.specs.declared.row.Row.TheVariants.{Listed, Resumed, Mark}
 use Rattle.port_model.specs.declared.signal.Sender.{Sender}
 use Rattle.port_model.specs.declared.signal.Sender.TheVariants.{Process, Poller, Worker, Timer}
 use Rattle.port_model.specs.declared.signal.Signal.{Signal}
 use Rattle.port_model.specs.declared.signal.Signal.TheVariants as signal
-use Rattle.port_model.specs.Tasks.{TaskView}
 use Rattle.port_history.specs.Events.{Event, change, event_of, numbers, is_selected, is_armed_in, drop_event, disarm, read_no_more, arm, give_up, told_of, selected_by, deselected, stopped_by, events_after}
 use Rattle.port_history.specs.Jobs.{is_submitted, submitted_by, done_by}
-use Rattle.port_history.specs.Laws.{may_send, has_effects, is_served, is_ready}
-use Rattle.port_history.specs.Opening.{Opening, Taken, taken_of, late_of}
+use Rattle.port_history.specs.Opening.{Opening, Taken}
 use Rattle.port_history.specs.Service.{effects_after, first_reason, must_stop, callback_of, caller_of, calls_by, flush_calls, stop_calls}
 use Rattle.port_history.specs.State.{State, is_open, is_closed_by, stops, closing_reason, flushed_calls, signal_calls, row_calls, after, after_handled, after_late, start_call, state_at_start}
 use Rattle.port_history.specs.Ties.{failure, signal_reason}
 use Rattle.port_events.specs.Table as events
 use Rattle.port_events.specs.Table.{held_of}
-use Rattle.port_events.proofs.Rising.{Rising, changed, event-map, rising-change, up-from}
+use Rattle.port_events.proofs.Rising.{Rising, changed, event-map, up-from}
 use Rattle.port_jobs.specs.Jobs as jobs
 use Rattle.port_state.specs.View.{StateView, IsStateOf}
 use Rattle.served_port.specs.View.{ServedView, IsAt}
-use Rattle.served_port.specs.Outcomes.{is_handled, is_told_in, KeepsServed}
-use Rattle.served_port.proofs.Held.{Followed, Holds, told-late, row-held, held-after, to-same, from-same, followed, start-held}
+use Rattle.served_port.specs.Outcomes.{is_handled}
+use Rattle.served_port.proofs.Held.{Followed, told-late, row-held, held-after, to-same, from-same, start-held}
 
 or-either : (a b : Bool) → (a || b) ≡ true → (a ≡ false → b ≡ true)
 or-either true b e f = absurd cc

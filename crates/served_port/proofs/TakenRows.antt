@@ -1,6 +1,5 @@
 -- What handling a task left, put together.
-use Rattle.std.proofs.Common.{◌≡◌, ℕ, Bool, true, List, [], ◌++◌, is_some, refl, sym, ap, ◌∙◌, subst}
-use Rattle.async_jobs.specs.Pool.{Lanes}
+use Rattle.std.proofs.Common.{◌≡◌, ℕ, Bool, true, List, ◌++◌, is_some, sym, ap, ◌∙◌, subst}
 use Rattle.port_model.specs.declared.effect.Effect.{Effect}
 use Rattle.port_model.specs.declared.signal.Sender.{Sender}
 use Rattle.port_model.specs.declared.signal.Signal.{Signal}

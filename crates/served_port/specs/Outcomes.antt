@@ -1,9 +1,8 @@
 -- Which tasks a port handles and which it finds late, and what that leaves.
-use Rattle.std.specs.Prelude.{◌≡◌, ℕ, List, [], ◌++◌, Bool, true, false, ◌&&◌, not, is_some}
+use Rattle.std.specs.Prelude.{◌≡◌, ℕ, List, ◌++◌, Bool, true, false, ◌&&◌, not, is_some}
 use Rattle.async_jobs.specs.declared.job.Job.{Job}
 use Rattle.async_jobs.specs.Order.{AllSubmitted}
 use Rattle.async_jobs.specs.Pool.{Lanes}
-use Rattle.port_signal.specs.declared.row.Outside.{Outside}
 use Rattle.port_model.specs.declared.effect.Effect.{Effect}
 use Rattle.port_model.specs.declared.row.Row.{Row}
 use Rattle.port_model.specs.declared.row.Row.TheVariants.{Handled, Late}
@@ -15,7 +14,7 @@ use Rattle.port_model.specs.Tasks.{TaskView}
 use Rattle.port_history.specs.Events.{event_of}
 use Rattle.port_history.specs.Jobs.{is_submitted}
 use Rattle.port_history.specs.Laws.{may_send, is_ready, keeps_lifetime, keeps_effects, keeps_ready, is_told_in_time}
-use Rattle.port_history.specs.Opening.{Opening, Taken, taken_of}
+use Rattle.port_history.specs.Opening.{Opening, taken_of}
 use Rattle.port_history.specs.State.{State, is_open, is_closed_by, stops, closing_reason, after}
 use Rattle.port_events.specs.Asks.{asks_of}
 use Rattle.port_jobs.specs.Jobs.{AreJobsOf}

@@ -1,6 +1,5 @@
 -- A port with its driver, its events and its jobs, as contracts see it, and what it says of a history.
 use Rattle.std.specs.Prelude.{◌≡◌, ◌≤◌, ℕ, true, false}
-use Rattle.async_jobs.specs.Pool.{Lanes}
 use Rattle.driver_model.specs.Drivers.{held_events}
 use Rattle.port_driver.specs.Context.{SameEvents}
 use Rattle.port_model.specs.declared.event.Dir.{Dir}

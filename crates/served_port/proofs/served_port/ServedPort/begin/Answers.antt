@@ -1,5 +1,3 @@
-use Rattle.std.proofs.Common.{◌≡◌, sym}
-use Rattle.served_port.specs.Steps.{StartsEvents}
 use Rattle.served_port.proofs.Same.{on-any}
 use Rattle.served_port.proofs.served_port.ServedPort.begin.Goals as goal
 

@@ -1,4 +1,4 @@
-use Rattle.std.proofs.Common.{◌≡◌, ◌≤◌, true, refl, sym, ap, ◌∙◌, subst, arith}
+use Rattle.std.proofs.Common.{true, refl, sym, ap, subst, arith}
 use Rattle.port_history.specs.Events.{told_of}
 use Rattle.port_history.specs.Jobs.{done_by}
 use Rattle.port_history.specs.Opening.{late_of}

@@ -1,4 +1,4 @@
-use Rattle.std.proofs.Common.{◌≡◌, refl, sym, ap, ◌∙◌, subst}
+use Rattle.std.proofs.Common.{refl, sym, ap, ◌∙◌, subst}
 use Rattle.port_jobs.specs.Jobs.{JobsView}
 use Rattle.port_state.specs.View.{IsOpeningOf, IsStateOf, StateView}
 use Rattle.port_history.specs.Opening.{Opening}

@@ -1,4 +1,4 @@
-use Rattle.std.proofs.Common.{◌≡◌, true, false, refl, sym, ap, ◌∙◌, subst}
+use Rattle.std.proofs.Common.{◌≡◌, true, sym, ap, ◌∙◌, subst}
 use Rattle.port_driver.specs.Context.{SameEvents}
 use Rattle.driver_model.specs.Drivers.{held_events}
 use Rattle.port_history.specs.Opening.{taken_of}

@@ -1,4 +1,4 @@
-use Rattle.std.proofs.Common.{◌≡◌, refl, sym, ap, ◌∙◌, subst}
+use Rattle.std.proofs.Common.{sym, ap, ◌∙◌}
 use Rattle.served_port.specs.Outcomes.{is_handled}
 use Rattle.served_port.proofs.Laws.{late-keeps}
 use Rattle.served_port.proofs.TakenRows.{handled-outcome}
