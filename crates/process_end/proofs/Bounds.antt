@@ -1,5 +1,5 @@
 -- The words of a port's message queue keep the bound.
-use Rattle.std.proofs.Common.{arith, zero, suc, ◌≡◌, ℕ, ◌+◌, ◌-◌, ◌*◌, ◌%◌, ◌<◌, ◌≤◌, List, [], ◌∷◌, length, Bool, true, false, cond, eqb, not, refl, sym, ap, ◌∙◌, subst}
+use Rattle.std.proofs.Common.{arith, zero, suc, ◌≡◌, ℕ, ◌+◌, ◌*◌, ◌%◌, ◌≤◌, List, [], ◌∷◌, Bool, true, false, cond, eqb, not, refl, sym, ap, ◌∙◌, subst}
 use Rattle.std.specs.Prelude.{map, filter, sum_by, nat_lt}
 use Rattle.std.specs.List.{All}
 use Rattle.std.proofs.lemmas.List.Elements.{All-nil, All-cons, All-head, All-tail, All-weaker}
@@ -12,7 +12,7 @@ use Rattle.port_words.specs.declared.busy.view.BusyView.{BusyView}
 use Rattle.port_words.specs.declared.busy.view.QueueAdd.{QueueAdd}
 use Rattle.port_words.specs.declared.busy.view.SenderLedger.{SenderLedger}
 use Rattle.port_words.specs.declared.busy.view.SenderView.{SenderView}
-use Rattle.port_words.specs.busy.Queue.{period_of, bytes_of, is_left_at, is_nosuspend, left_in, unsuspended_in, IsWithin}
+use Rattle.port_words.specs.busy.Queue.{period_of, bytes_of, is_nosuspend, left_in, unsuspended_in, IsWithin}
 use Rattle.port_words.specs.busy.Steps.{TellsQueue}
 use Rattle.port_words.specs.busy.Views.{adds_by, WordsIn}
 use Rattle.process_receipts.specs.Receipts.{ShownAdd}

@@ -11,3 +11,4 @@ pub mod Heard
 pub mod Going
 pub mod Gone
 pub mod Bounds
+pub mod Sent
