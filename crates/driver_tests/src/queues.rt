@@ -1,10 +1,10 @@
 //! The queue of a driver, by the calls of its context.
-ghost use Rattle.std.specs.Prelude.{◌≡◌, IfOk};
+ghost use Rattle.std.specs.Prelude.{◌≡◌, ◌+◌, ◌^◌, ◌<◌, ◌++◌, length, OnOk, OnErr};
 
 use crate::port::{context, vector};
 use driver_queue::{DeqPast, DriverQueue, EnqFault};
 use port_driver::DriverCtx;
-use port_model::Piece;
+use port_model::{NoMemory, Piece};
 use std::alloc::Global;
 use std::test::Fail;
 
@@ -13,6 +13,22 @@ fn queued(alloc: Global) -> Result<DriverCtx, Fail> {
     let mut ctx = context(alloc, 0, DriverQueue::new(alloc))?;
     ctx.enqv(&vector(alloc, &[b"ab", b"c"])?, 0)?;
     Ok(ctx)
+}
+
+/// Puts two pieces behind the bytes of the queue, once there is room for both: neither is refused.
+fn put_two(ctx: &mut DriverCtx, first: Piece, second: Piece) -> Result<(), NoMemory>
+    requires { length ctx.old.queue + (length first + length second) < 2 ^ 63 }
+    ensures ok { OnOk result (ctx.new ≡ record ctx.old { queue = ctx.old.queue ++ (first ++ second) }) }
+    ensures err { OnErr result (ctx.new ≡ ctx.old) }
+{
+    let queue = ctx.reserve(2)?;
+    let Ok(()) = queue.enq(first) else {
+        unreachable!()
+    };
+    let Ok(()) = queue.enq(second) else {
+        unreachable!()
+    };
+    Ok(())
 }
 
 /// Whether the queue has these bytes.
@@ -46,9 +62,18 @@ fn pieces_are_put_behind_and_in_front(rt: HostRuntime) -> Result<(), Fail> {
 fn a_vector_is_put_in_front_in_its_order(rt: HostRuntime) -> Result<(), Fail> {
     let alloc = rt.alloc();
     let mut ctx = queued(alloc)?;
-    ctx.reserve(2)?;
     ctx.pushqv(&vector(alloc, &[b"xy", b"z"])?, 1)?;
     assert!(rt; has(&ctx, b"yzabc")?);
+    Ok(())
+}
+
+#[test]
+fn reserved_room_takes_two_pieces(rt: HostRuntime) -> Result<(), Fail> {
+    let alloc = rt.alloc();
+    let mut ctx = context(alloc, 0, DriverQueue::new(alloc))?;
+    let first = Piece::of_slice(alloc, b"ab")?;
+    put_two(&mut ctx, first, Piece::of_slice(alloc, b"c")?)?;
+    assert!(rt; has(&ctx, b"abc")?);
     Ok(())
 }
 

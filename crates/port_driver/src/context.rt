@@ -1,4 +1,5 @@
 ghost use Rattle.std.specs.Prelude.{◌≡◌, ◌<◌, ◌≤◌, ◌+◌, ◌++◌, ◌∷◌, [], drop, length, vec_len, true, false, OnOk, OnErr, IfOk, IfErr};
+ghost use Rattle.std.specs.Borrow.{sem};
 ghost use Rattle.std.specs.List.{concat};
 ghost use Rattle.driver_queue.specs.EnqFault.{EnqFails};
 ghost use Rattle.port_model.specs.declared.effect.Effect.TheVariants.{Busy, Message, Watch, Eof, Status, Select, Unuse, Async, Fail};
@@ -6,6 +7,7 @@ ghost use Rattle.driver_model.specs.Calls.{is_empty};
 ghost use Rattle.driver_model.specs.Digest.{is_code};
 ghost use Rattle.driver_model.specs.Drivers.{is_held, with_event, without_event};
 ghost use Rattle.port_driver.specs.Context.{did, is_full, SelectFails};
+ghost use Rattle.port_driver.specs.Lent.{LendsQueue};
 ghost use Rattle.port_driver.specs.Replies.{reply_effect};
 
 use crate::ReplyTo;
@@ -359,12 +361,15 @@ impl DriverCtx {
         self.queue.pushqv(vector, skip)
     }
 
-    /// Makes room in the queue for so many more segments, as `reserve` of `DriverQueue` does: `enq` and `pushq` then take none of memory. A context
-    /// shows the bytes of its queue and not its room, so its contract says no more than that the bytes stay.
-    pub fn reserve(&mut self, pieces: usize) -> Result<(), NoMemory>
-        ensures same { self.new ≡ self.old }
+    /// Makes room in the queue for so many more segments, and lends the queue: the next `pieces` calls of its `enq` or `pushq` succeed, as long as
+    /// it stays below 2^63 bytes. What it is left with is the queue of the context.
+    pub fn reserve(&mut self, pieces: usize) -> Result<&mut DriverQueue, NoMemory>
+        ensures* writes_back { sem 𝓛 (LendsQueue self.entry result) }
+        ensures bytes { IfOk result (λ queue. concat queue.now.segments ≡ self.old.queue) }
+        ensures room { IfOk result (λ queue. pieces ≤ queue.now.room) }
     {
-        self.queue.reserve(pieces)
+        self.queue.reserve(pieces)?;
+        Ok(&mut self.queue)
     }
 
     /// Drops the first bytes of the queue: `driver_deq` of erl_driver. It takes no memory.
