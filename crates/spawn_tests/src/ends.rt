@@ -1,0 +1,23 @@
+//! The end of a program's output, by the options of its port.
+use crate::port::{options, serve};
+use outside::MemProgram;
+use packet_framing::Mode;
+use std::alloc::Global;
+use std::test::Fail;
+
+/// Whether a port with these options records the end of a program that gave nothing and has status 3 so.
+fn ends(alloc: Global, eof: bool, exit_status: bool, wanted: &[u8]) -> Result<bool, Fail> {
+    let mut config = options(alloc, Mode::Stream)?;
+    config.eof = eof;
+    config.exit_status = exit_status;
+    let mut program = MemProgram::new(alloc, 1);
+    program.end(3);
+    let mut port = serve(alloc, program, &config)?;
+    port.reads(alloc, wanted)
+}
+
+#[test]
+fn an_end_without_options_closes_the_port(rt: HostRuntime) -> Result<(), Fail> {
+    assert!(rt; ends(rt.alloc(), false, false, b"end;read off;fail normal;")?);
+    Ok(())
+}

@@ -1,0 +1,15 @@
+//! Tests of the driver of programs, over its contract and those of the programs of memory.
+#![tactic(auto)]
+
+#[cfg(test)]
+mod ends;
+#[cfg(test)]
+mod failures;
+#[cfg(test)]
+mod input;
+#[cfg(test)]
+mod output;
+#[cfg(test)]
+mod port;
+#[cfg(test)]
+mod shown;
