@@ -3,7 +3,7 @@ ghost use Rattle.std.specs.Prelude.{◌≡◌, ◌<◌, List, length};
 ghost use Rattle.port_words.specs.declared.home.homes.Ticket.{Ticket};
 ghost use Rattle.port_sched.specs.Homes.{AreHomes};
 ghost use Rattle.port_sched.specs.Serving.{KeptBy};
-ghost use Rattle.port_sched.specs.Waking.{Wakes};
+ghost use Rattle.port_sched.specs.Waking.{Wakes, Refuses};
 
 use crate::body::PortBody;
 use crate::scheduling::ticket_at;
@@ -17,6 +17,8 @@ use std::sync::Wait;
 pub struct JobSeats<B: PortBody> {
     pub homes: Vec<Home<B>>,
     pub entry: EntrySeat,
+    /// Whether a ticket found no memory.
+    pub refused: bool,
 }
 
 impl<B: PortBody> JobSeats<B> {
@@ -26,6 +28,7 @@ impl<B: PortBody> JobSeats<B> {
         requires homes { AreHomes self.old.homes.items }
         requires port { port < length self.old.homes.items }
         ensures homes { AreHomes self.new.homes.items }
+        ensures refused { Refuses result self.old.refused self.new.refused }
         ensures tickets { (kept : List Ticket) × KeptBy result kept × Wakes kept self.old.homes.items self.old.entry self.new.homes.items self.new.entry }
     {
         let Some(ticket) = ticket_at(&mut self.homes, port) else {
@@ -33,7 +36,10 @@ impl<B: PortBody> JobSeats<B> {
         };
         match self.entry.put(rt, ticket) {
             Ok(()) => Ok(()),
-            Err((_, no_memory)) => Err(no_memory),
+            Err((_, no_memory)) => {
+                self.refused = true;
+                Err(no_memory)
+            }
         }
     }
 }
