@@ -1,30 +1,27 @@
 -- The seats of a run in the midst of being joined, and the account of their tickets.
-use Rattle.std.proofs.Common.{◌≡◌, ℕ, zero, suc, ◌+◌, ◌-◌, ◌<◌, ◌≤◌, Bool, List, [], ◌∷◌, ◌++◌, Option, Some, None, MatchOption, length, slice_get, sym, refl, ap, ◌∙◌, subst, arith, length-append, append_assoc}
+use Rattle.std.proofs.Common.{◌≡◌, ℕ, zero, suc, ◌+◌, ◌-◌, ◌<◌, ◌≤◌, List, [], ◌∷◌, ◌++◌, Option, Some, None, MatchOption, length, slice_get, sym, refl, ap, ◌∙◌, subst, arith, length-append, append_assoc}
 use Rattle.std.specs.List.{All, sum_by}
 use Rattle.std.proofs.lemmas.List.Sums.{sum_by-cons}
-use Rattle.std.proofs.lemmas.List.Elements.{All-nil, All-cons, All-head, All-tail, All-append}
-use Rattle.std.proofs.lemmas.Option.{same_Some, slice_get_within}
+use Rattle.std.proofs.lemmas.List.Elements.{All-head, All-tail, All-append}
+use Rattle.std.proofs.lemmas.Option.{slice_get_within}
 use Rattle.port_words.specs.declared.home.homes.Ticket.{Ticket}
 use Rattle.port_words.specs.home.Seats.{HomeKnown}
 use Rattle.run_queue.specs.Account.{all_parts}
-use Rattle.run_queue.specs.Seats.{RunKnown, EntryKnown, entry_parts, fresh_seat, joined_seat, joined_entry, HasEvery, IsLeftOf, AreOfOneQueue, put_by, taken_by}
-use Rattle.run_queue.proofs.OpeningLemmas.{fresh_row}
+use Rattle.run_queue.specs.Seats.{RunKnown, EntryKnown, entry_parts, joined_seat, joined_entry, HasEvery, IsLeftOf, AreOfOneQueue}
 use Rattle.run_queue.proofs.SeatLemmas.{all_from_get, get_middle}
 use Rattle.port_sched.specs.declared.body.PortBody.{Ghosts}
-use Rattle.port_sched.specs.declared.lodger.Lodger.{Lodger}
 use Rattle.port_sched.specs.declared.scheduling.SchedEnd.{SchedEnd}
 use Rattle.port_sched.specs.declared.scheduling.SchedEnd.TheVariants.{Done, NoMemory}
 use Rattle.port_sched.specs.declared.scheduling.SchedSeats.{SchedSeats}
 use Rattle.port_sched.specs.declared.schedulers.Scheduler.{Scheduler}
 use Rattle.port_sched.specs.declared.waking.JobSeats.{JobSeats}
 use Rattle.port_sched.specs.Closing.{joined_homes, CanJoinHomes, IsWhole}
-use Rattle.port_sched.specs.Homes.{used_at, made_at, used_of, made_of, weighed}
-use Rattle.port_sched.specs.Schedulers.{EndsAs, Ended}
+use Rattle.port_sched.specs.Homes.{made_at, made_of, weighed}
+use Rattle.port_sched.specs.Schedulers.{EndsAs}
 use Rattle.port_sched.specs.Serving.{KeptAtEnd}
-use Rattle.port_sched.specs.Tickets.{IsQueueSeat}
 use Rattle.port_words.specs.over.Over.{OverKnown}
-use Rattle.ticket_account.specs.Account.{IsAccount, IsJobAccount, IsUnused, HasNoTickets}
-use Rattle.ticket_account.specs.Run.{IsDealt, AreDealt, IsOpenedScheduler, IsOpenedJob, HasRun, HasWoken, IsDone, HasPutAll, IsSettled}
+use Rattle.ticket_account.specs.Account.{IsAccount, IsJobAccount, HasNoTickets}
+use Rattle.ticket_account.specs.Run.{AreDealt, HasRun, IsDone, HasPutAll, IsSettled}
 use Rattle.ticket_account.proofs.Sums.{new_account, served_account, joined_account, joined_job_account, each_once, no_tickets, unused_seat}
 use Rattle.ticket_account.proofs.Seats.{found_at, QueueOne, QueueFrom, one_of_fresh, one_after, from_last, from_more, of_one_queue, owners_apart, has_all, AreHeld, held_after, held_both, can_join_homes, same_ports, held_whole}
 
@@ -245,7 +242,7 @@ module _ {B : Type 0} {g : Ghosts B} {S : List (Scheduler B g)} {J : List (JobSe
       record {
         queue = subst (λ r. QueueFrom run.opened.deques run.opened.injector left (length S - left) rest r) (sym queue)
             (subst (λ n. QueueFrom run.opened.deques run.opened.injector left n rest (joined_seat all.run s.seats.run)) (let one : length S - (left + 1) + 1 ≡ length S - left = omega arith in one)
-                (from_more run.opened.deques run.opened.injector left (length S - (left + 1)) rest all.run s.seats.run before.queue part.queue));
+            (from_more run.opened.deques run.opened.injector left (length S - (left + 1)) rest all.run s.seats.run before.queue part.queue));
         entry_later = λ some. (
             let p = parts_later (length S) (length J) left _ some part.entry in
             let b = before.entry_later (omega arith) in
@@ -259,14 +256,14 @@ module _ {B : Type 0} {g : Ghosts B} {S : List (Scheduler B g)} {J : List (JobSe
             omega arith);
         held = subst (λ m. AreHeld run.opened.homes (length S + length J) (length S - left + (length J - length J)) m) (sym homes)
             (subst (λ n. AreHeld run.opened.homes (length S + length J) n (joined_homes all.homes.items s.seats.homes.items))
-                (let one : length S - (left + 1) + (length J - length J) + 1 ≡ length S - left + (length J - length J) = omega arith in one)
-                (held_both run.opened.homes _ _ _ all.homes.items s.seats.homes.items before.held part.held));
+            (let one : length S - (left + 1) + (length J - length J) + 1 ≡ length S - left + (length J - length J) = omega arith in one)
+            (held_both run.opened.homes _ _ _ all.homes.items s.seats.homes.items before.held part.held));
         word = word ∙ before.word;
         kept = before.kept ++ part.kept;
         strange = before.strange ++ part.strange;
         account = subst (λ m. IsAccount (before.kept ++ part.kept) (before.strange ++ part.strange) m new.run) (sym homes)
             (subst (λ r. IsAccount (before.kept ++ part.kept) (before.strange ++ part.strange) (joined_homes all.homes.items s.seats.homes.items) r) (sym queue)
-                (joined_account _ before.kept before.strange part.kept part.strange _ _ _ _ ports apart before.account part.account));
+            (joined_account _ before.kept before.strange part.kept part.strange _ _ _ _ ports apart before.account part.account));
         no_port = All-append (OfNoPort (length run.opened.homes)) before.strange part.strange before.no_port part.no_port;
         all_put = λ done jobs. both_none before.kept part.kept (before.all_put (All-tail IsDone s gone done) jobs) (part.all_put (All-head IsDone s gone done));
       }
@@ -293,14 +290,14 @@ module _ {B : Type 0} {g : Ghosts B} {S : List (Scheduler B g)} {J : List (JobSe
             omega arith);
         held = subst (λ m. AreHeld run.opened.homes (length S + length J) (length S - 0 + (length J - left)) m) (sym homes)
             (subst (λ n. AreHeld run.opened.homes (length S + length J) n (joined_homes all.homes.items j.homes.items))
-                (let one : length S - 0 + (length J - (left + 1)) + 1 ≡ length S - 0 + (length J - left) = omega arith in one)
-                (held_both run.opened.homes _ _ _ all.homes.items j.homes.items before.held part.held));
+            (let one : length S - 0 + (length J - (left + 1)) + 1 ≡ length S - 0 + (length J - left) = omega arith in one)
+            (held_both run.opened.homes _ _ _ all.homes.items j.homes.items before.held part.held));
         word = word ∙ before.word;
         kept = before.kept ++ part.kept;
         strange = before.strange;
         account = subst (λ m. IsAccount (before.kept ++ part.kept) before.strange m new.run) (sym homes)
             (subst (λ r. IsAccount (before.kept ++ part.kept) before.strange (joined_homes all.homes.items j.homes.items) r) (sym queue)
-                (joined_job_account _ before.kept before.strange part.kept _ _ _ _ ports before.account part.account));
+            (joined_job_account _ before.kept before.strange part.kept _ _ _ _ ports before.account part.account));
         no_port = before.no_port;
         all_put = λ done jobs. both_none before.kept part.kept (before.all_put done (All-tail HasPutAll j gone_jobs jobs)) (part.all_put (All-head HasPutAll j gone_jobs jobs));
       }

@@ -1,7 +1,7 @@
 -- The seats of a run in the midst of being made.
-use Rattle.std.proofs.Common.{◌≡◌, ℕ, zero, suc, ◌+◌, ◌-◌, ◌<◌, ◌≤◌, ◌^◌, Bool, true, false, List, [], ◌∷◌, ◌++◌, Option, Some, None, map, length, take, drop, set, get_or, slice_get, replicate, sym, refl, ap, ◌∙◌, subst, arith, length-append, append-nil, add-one, ◌⊎◌, inl, inr, ⊎_elim}
+use Rattle.std.proofs.Common.{◌≡◌, ℕ, zero, suc, ◌+◌, ◌<◌, ◌≤◌, ◌^◌, List, [], ◌∷◌, ◌++◌, Some, map, length, take, drop, set, get_or, slice_get, replicate, sym, refl, ap, ◌∙◌, subst, arith, length-append, ⊎_elim}
 use Rattle.std.specs.List.{All}
-use Rattle.std.proofs.lemmas.List.Elements.{All-nil, All-cons, All-head, All-tail, All-drop, All-push, All-pop, All-map, All-weaker, All-same}
+use Rattle.std.proofs.lemmas.List.Elements.{All-nil, All-cons, All-drop, All-pop, All-map, All-weaker, All-same}
 use Rattle.std.proofs.lemmas.Option.{same_Some, none-some, slice_get_within}
 use Rattle.std.proofs.lemmas.Bool.Decides.{nat_tests}
 use Rattle.std.specs.declared.snapshot.Snapshot.{Snapshot}
@@ -11,7 +11,7 @@ use Rattle.atomic_table.specs.Seated.{TableId}
 use Rattle.port_words.specs.home.Home.{fresh_view}
 use Rattle.port_words.specs.home.Seats.{HomeKnown, home_known, AreSeatsOf}
 use Rattle.port_words.specs.over.Over.{OverKnown, over_size, fresh_seat, fresh_seats}
-use Rattle.run_queue.specs.Account.{hand, all_parts}
+use Rattle.run_queue.specs.Account.{hand}
 use Rattle.run_queue.specs.Seats.{RunKnown, EntryKnown, entry_known, entry_parts, changed_at, AreSeats}
 use Rattle.run_queue.specs.Seats as seats
 use Rattle.run_queue.proofs.OpeningLemmas.{get_push}
@@ -23,7 +23,7 @@ use Rattle.port_sched.specs.declared.schedulers.Scheduler.{Scheduler}
 use Rattle.port_sched.specs.declared.waking.JobSeats.{JobSeats}
 use Rattle.port_sched.specs.Homes.{AreHomes}
 use Rattle.port_sched.specs.Schedulers.{CanBegin}
-use Rattle.ticket_account.specs.Run.{IsDealt, AreDealt, IsOpenedScheduler, IsOpenedJob, IsOpened}
+use Rattle.ticket_account.specs.Run.{IsDealt, AreDealt, IsOpened}
 use Rattle.ticket_account.specs.Opening.{IsOther, IsCounted, ArePlaces, GivesEach, AreAlike, IsSeated, AreSeated, IsJobSeat, AreJobSeats, IsReadyJob}
 use Rattle.ticket_account.proofs.Seats.{found_at}
 
@@ -165,13 +165,13 @@ module _ {B : Type 0} {g : Ghosts B} where
     length-append all (s ∷ []) ∙ ap (λ n. n + 1) before.0 ∙ sym (length-append runs (run ∷ [])),
     λ n r t here there. ⊎_elim
         (λ (a : slice_get runs n ≡ Some r). ⊎_elim
-            (λ (b : slice_get all n ≡ Some t). before.1 n r t a b)
-            (λ (b : (n ≡ length all) × (t ≡ s)). absurd (let w = slice_get_within runs n r a in let c = before.0 in let e = b.0 in omega arith))
-            (get_push all s t n there))
+        (λ (b : slice_get all n ≡ Some t). before.1 n r t a b)
+        (λ (b : (n ≡ length all) × (t ≡ s)). absurd (let w = slice_get_within runs n r a in let c = before.0 in let e = b.0 in omega arith))
+        (get_push all s t n there))
         (λ (a : (n ≡ length runs) × (r ≡ run)). ⊎_elim
-            (λ (b : slice_get all n ≡ Some t). absurd (let w = slice_get_within all n t b in let c = before.0 in let e = a.0 in omega arith))
-            (λ (b : (n ≡ length all) × (t ≡ s)). subst (λ (x : RunKnown). IsSeated x row word t) (sym a.1) (subst (λ (u : Scheduler B g). IsSeated run row word u) (sym b.1) seat))
-            (get_push all s t n there))
+        (λ (b : slice_get all n ≡ Some t). absurd (let w = slice_get_within all n t b in let c = before.0 in let e = a.0 in omega arith))
+        (λ (b : (n ≡ length all) × (t ≡ s)). subst (λ (x : RunKnown). IsSeated x row word t) (sym a.1) (subst (λ (u : Scheduler B g). IsSeated run row word u) (sym b.1) seat))
+        (get_push all s t n there))
         (get_push runs run r n here),
   )
 
@@ -184,13 +184,13 @@ module _ {B : Type 0} {g : Ghosts B} where
     length-append all (j ∷ []) ∙ ap (λ n. n + 1) before.0 ∙ sym (length-append entries (entry ∷ [])),
     λ n r t here there. ⊎_elim
         (λ (a : slice_get entries n ≡ Some r). ⊎_elim
-            (λ (b : slice_get all n ≡ Some t). before.1 n r t a b)
-            (λ (b : (n ≡ length all) × (t ≡ j)). absurd (let w = slice_get_within entries n r a in let c = before.0 in let e = b.0 in omega arith))
-            (get_push all j t n there))
+        (λ (b : slice_get all n ≡ Some t). before.1 n r t a b)
+        (λ (b : (n ≡ length all) × (t ≡ j)). absurd (let w = slice_get_within entries n r a in let c = before.0 in let e = b.0 in omega arith))
+        (get_push all j t n there))
         (λ (a : (n ≡ length entries) × (r ≡ entry)). ⊎_elim
-            (λ (b : slice_get all n ≡ Some t). absurd (let w = slice_get_within all n t b in let c = before.0 in let e = a.0 in omega arith))
-            (λ (b : (n ≡ length all) × (t ≡ j)). subst (λ (x : EntryKnown). IsJobSeat x row t) (sym a.1) (subst (λ (u : JobSeats B g). IsJobSeat entry row u) (sym b.1) seat))
-            (get_push all j t n there))
+        (λ (b : slice_get all n ≡ Some t). absurd (let w = slice_get_within all n t b in let c = before.0 in let e = a.0 in omega arith))
+        (λ (b : (n ≡ length all) × (t ≡ j)). subst (λ (x : EntryKnown). IsJobSeat x row t) (sym a.1) (subst (λ (u : JobSeats B g). IsJobSeat entry row u) (sym b.1) seat))
+        (get_push all j t n there))
         (get_push entries entry r n here),
   )
 

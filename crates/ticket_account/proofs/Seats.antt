@@ -1,8 +1,8 @@
 -- What seats of one run have together, in the midst of being joined.
-use Rattle.std.proofs.Common.{◌≡◌, ◌≢◌, ◌⊎◌, ℕ, zero, suc, ◌+◌, ◌-◌, ◌<◌, ◌≤◌, Bool, true, false, true≢false, List, [], ◌∷◌, ◌++◌, Option, Some, None, map, length, slice_get, sym, refl, ap, ◌∙◌, subst, arith, inl, inr, ⊎_elim}
-use Rattle.std.specs.Prelude.{is_some, option_to_list}
-use Rattle.std.specs.List.{All, sum_by}
-use Rattle.std.proofs.lemmas.List.Sums.{sum_by-cons, sum_by-append}
+use Rattle.std.proofs.Common.{◌≡◌, ◌≢◌, ◌⊎◌, ℕ, zero, suc, ◌+◌, ◌-◌, ◌<◌, ◌≤◌, Bool, true, false, true≢false, List, [], ◌∷◌, Option, Some, None, map, length, slice_get, sym, refl, ap, ◌∙◌, subst, arith, inl, inr}
+use Rattle.std.specs.Prelude.{is_some}
+use Rattle.std.specs.List.{All}
+use Rattle.std.proofs.lemmas.List.Sums.{sum_by-cons}
 use Rattle.std.proofs.lemmas.Option.{same_Some, none-some, slice_get_within}
 use mathlib.Core.Logic.{dite}
 use native.Mathlib.Decide.{ℕ_discrete}
@@ -12,7 +12,7 @@ use Rattle.atomic_table.specs.Seated.{TableId}
 use Rattle.port_words.specs.home.Seats.{HomeKnown}
 use Rattle.run_queue.specs.declared.account.Hand.{Hand}
 use Rattle.run_queue.specs.Account.{hand, all_parts, parts_of}
-use Rattle.run_queue.specs.Seats.{DequeKnown, RunKnown, the_own, hands_of, joined_deque, joined_deques, joined_seat, changed_at, with_own, guest_end, fresh_seat, HasAll, AreOfOneQueue}
+use Rattle.run_queue.specs.Seats.{DequeKnown, RunKnown, the_own, joined_deque, joined_deques, joined_seat, changed_at, with_own, guest_end, fresh_seat, HasAll, AreOfOneQueue}
 use Rattle.run_queue.proofs.SeatLemmas.{all_from_get}
 use Rattle.port_sched.specs.Homes.{AreHomes, HomesStep}
 use Rattle.port_sched.specs.Closing.{joined_home, joined_homes, CanJoinHomes, IsWhole}
@@ -203,9 +203,9 @@ from_more ids injector number count rest v w all one =
           let at = joined_at v.deques w.deques m k size e in
           dite (ℕ_discrete m number)
           (λ same. resized true k (count + (1 + rest)) (count + 1 + rest) (omega arith)
-              (guest_first at.0 at.1 k count (1 + rest) true at.4 (all.below m at.0 at.2 (omega arith)) (one.mine m at.1 at.3 same)))
+          (guest_first at.0 at.1 k count (1 + rest) true at.4 (all.below m at.0 at.2 (omega arith)) (one.mine m at.1 at.3 same)))
           (λ differ. resized true k (count + rest + 1) (count + 1 + rest) (omega arith)
-              (guest_second at.0 at.1 k (count + rest) 1 at.4 (all.above m at.0 at.2 (omega arith)) (one.other m at.1 at.3 differ)));
+          (guest_second at.0 at.1 k (count + rest) 1 at.4 (all.above m at.0 at.2 (omega arith)) (one.other m at.1 at.3 differ)));
     }
 
 -- they can be joined, and no deque has its owner in both

@@ -1,5 +1,5 @@
 -- The seats of a run in the midst of being made.
-use Rattle.std.specs.Prelude.{◌≡◌, ℕ, ◌+◌, Bool, true, false, List, [], ◌∷◌, ◌++◌, length, map, slice_get, replicate, All, Some}
+use Rattle.std.specs.Prelude.{◌≡◌, ℕ, true, false, List, [], ◌∷◌, ◌++◌, length, map, slice_get, replicate, All, Some}
 use Rattle.atomic_table.specs.Seated.{TableId}
 use Rattle.port_words.specs.home.Seats.{HomeKnown}
 use Rattle.port_words.specs.over.Over.{OverKnown, HasToFinish, HasNotStopped}

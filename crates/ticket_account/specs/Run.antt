@@ -1,5 +1,5 @@
 -- The seats of one run, from their making until they are joined.
-use Rattle.std.specs.Prelude.{◌≡◌, ℕ, ◌+◌, ◌<◌, ◌≤◌, Bool, false, List, [], length, slice_get, sum_by, All, Option, Some, None}
+use Rattle.std.specs.Prelude.{◌≡◌, ℕ, ◌+◌, ◌<◌, ◌≤◌, false, List, [], length, slice_get, sum_by, All, Some, None}
 use Rattle.atomic_blocks.specs.Laid.{WebId}
 use Rattle.atomic_blocks.specs.Lent.{RowsId}
 use Rattle.atomic_table.specs.Seated.{TableId}

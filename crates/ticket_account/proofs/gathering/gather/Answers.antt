@@ -1,5 +1,4 @@
-use Rattle.std.proofs.Common.{◌≡◌, ◌+◌, ◌∷◌, ◌++◌, [], List, length, sym, ap, ◌∙◌, subst, append-nil, arith}
-use Rattle.ticket_account.specs.Run.{HasRun}
+use Rattle.std.proofs.Common.{◌≡◌, ◌∷◌, [], length, sym, ap, subst, append-nil, arith}
 use Rattle.ticket_account.proofs.Gathered.{Gathered, next_of, gathered_last, gathered_more, gathered_job, gathered_every, gathered_whole, gathered_settled, can_join_part, can_join_job, all_schedulers, all_jobs}
 use Rattle.ticket_account.proofs.gathering.gather.Goals as goal
 

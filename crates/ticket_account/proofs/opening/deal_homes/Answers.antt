@@ -1,5 +1,4 @@
-use Rattle.std.proofs.Common.{◌≡◌, ◌+◌, ◌∷◌, [], Some, map, length, sym, ap, ◌∙◌, subst, arith, length-append}
-use Rattle.std.specs.List.{All}
+use Rattle.std.proofs.Common.{◌+◌, ◌∷◌, [], Some, map, length, sym, ap, ◌∙◌, subst, arith, length-append}
 use Rattle.std.proofs.lemmas.List.Elements.{All-pop}
 use Rattle.ticket_account.specs.Opening.{IsCounted, AreAlike}
 use Rattle.ticket_account.proofs.Openings.{alike_none}

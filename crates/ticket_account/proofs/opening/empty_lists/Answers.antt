@@ -1,4 +1,4 @@
-use Rattle.std.proofs.Common.{◌≡◌, ◌+◌, [], ◌∷◌, map, length, refl, ap, ◌∙◌, subst, sym, length-append, arith}
+use Rattle.std.proofs.Common.{◌≡◌, [], ◌∷◌, map, length, ap, ◌∙◌, subst, sym, length-append, arith}
 use Rattle.std.specs.List.{All}
 use Rattle.std.proofs.lemmas.List.Elements.{All-push}
 use Rattle.run_queue.proofs.EndLemmas.{map_push}

@@ -1,5 +1,4 @@
-use Rattle.std.proofs.Common.{◌≡◌, suc, ◌+◌, ◌∷◌, ◌++◌, [], map, length, replicate, sym, ap, ◌∙◌, arith, add-one, length-append}
-use Rattle.port_words.specs.home.Seats.{HomeKnown}
+use Rattle.std.proofs.Common.{◌≡◌, ◌+◌, ◌∷◌, ◌++◌, [], map, length, sym, ap, ◌∙◌, arith, add-one, length-append}
 use Rattle.run_queue.specs.Seats.{changed_at}
 use Rattle.run_queue.proofs.OpeningLemmas.{length_changed}
 use Rattle.ticket_account.proofs.Seats.{map_length}

@@ -8,4 +8,4 @@ invariant-jobs g l =
     (length l.lists.items ≡ length l.fn.lists.items)
     × (length l.seats.items + l.job ≡ length l.fn.lists.items)
     × ((s : HomeKnown _) → l.fn.seats.items ≡ replicate (length (map (λ v. v.items) l.fn.lists.items)) s
-        → (l.seats.items ≡ replicate (length l.seats.items) s) × (map (λ v. v.items) l.lists.items ≡ given l.job s (map (λ v. v.items) l.fn.lists.items)))
+    → (l.seats.items ≡ replicate (length l.seats.items) s) × (map (λ v. v.items) l.lists.items ≡ given l.job s (map (λ v. v.items) l.fn.lists.items)))

@@ -1,4 +1,4 @@
-use Rattle.std.proofs.Common.{◌≡◌, ◌+◌, length, ap, sym, ◌∙◌, arith}
+use Rattle.std.proofs.Common.{◌+◌, length, ap, ◌∙◌, arith}
 use Rattle.ticket_account.proofs.Openings.{alike_length, opened, can_begin, ready_jobs}
 use Rattle.ticket_account.proofs.opening.open_run.Goals as goal
 

@@ -1,5 +1,4 @@
-use Rattle.std.proofs.Common.{◌≡◌, ◌+◌, length, ap, sym, ◌∙◌, arith}
-use Rattle.port_words.specs.over.Over.{over_size}
+use Rattle.std.proofs.Common.{◌+◌, length, ap, arith}
 use Rattle.ticket_account.proofs.Openings.{fresh_length, places_split}
 use Rattle.ticket_account.proofs.opening.places.Goals as goal
 

@@ -1,4 +1,4 @@
-use Rattle.std.proofs.Common.{◌≡◌, ◌+◌, ◌∷◌, ◌++◌, [], Some, false, map, length, sym, refl, ap, ◌∙◌, subst, arith, length-append, append_assoc, append-nil}
+use Rattle.std.proofs.Common.{◌≡◌, ◌∷◌, ◌++◌, [], false, length, sym, refl, ap, ◌∙◌, subst, arith, length-append, append_assoc, append-nil}
 use Rattle.ticket_account.specs.Opening.{AreJobSeats}
 use Rattle.ticket_account.proofs.Gathered.{nil_of}
 use Rattle.ticket_account.proofs.Openings.{pop_row, jobs_more}

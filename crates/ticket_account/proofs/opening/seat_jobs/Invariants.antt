@@ -11,4 +11,4 @@ invariant-entries g l =
     × (l.entry-iterator.rest.len ≡ length l.entry-iterator.rest.items)
     × (length l.lists.items + length done ≡ length l.fn.lists.items)
     × ((row : List (HomeKnown _)) → All (λ r. r ≡ row) (map (λ v. v.items) l.fn.lists.items)
-        → AreJobSeats done row l.all.items × All (λ r. r ≡ row) (map (λ v. v.items) l.lists.items))
+    → AreJobSeats done row l.all.items × All (λ r. r ≡ row) (map (λ v. v.items) l.lists.items))

@@ -13,4 +13,4 @@ invariant-runs g l =
     × (length l.lists.items + length done ≡ length l.fn.lists.items)
     × (length l.places.items + length done ≡ length l.fn.places.items)
     × ((row : List (HomeKnown _)) (word : TableId) → All (λ r. r ≡ row) (map (λ v. v.items) l.fn.lists.items) → All (IsOther word) l.fn.places.items
-        → AreSeated done row word l.all.items × All (λ r. r ≡ row) (map (λ v. v.items) l.lists.items) × All (IsOther word) l.places.items)
+    → AreSeated done row word l.all.items × All (λ r. r ≡ row) (map (λ v. v.items) l.lists.items) × All (IsOther word) l.places.items)
