@@ -1,5 +1,5 @@
 -- Homes in the midst of a join, and bodies in the midst of the closing.
-use Rattle.std.proofs.Common.{◌≡◌, ℕ, zero, suc, ◌<◌, List, [], ◌∷◌, ◌++◌, Some, length, slice_get, sym, refl, ap, arith}
+use Rattle.std.proofs.Common.{◌≡◌, ℕ, zero, suc, List, [], ◌∷◌, ◌++◌, Some, length, slice_get, sym, refl, ap, arith}
 use Rattle.std.proofs.lemmas.Option.{same_Some, none-some}
 use Rattle.port_words.specs.home.Home.{IsLastBody}
 use Rattle.port_words.specs.home.Seats.{HomeKnown}

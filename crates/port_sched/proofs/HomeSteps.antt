@@ -1,8 +1,8 @@
 -- What stays of the seats of all homes where one of them makes a step.
-use Rattle.std.proofs.Common.{◌≡◌, ℕ, zero, suc, ◌+◌, ◌<◌, List, [], ◌∷◌, ◌++◌, Option, Some, None, IfSome, length, set, get_or, slice_get, sym, refl, ap, ◌∙◌, subst, arith}
+use Rattle.std.proofs.Common.{◌≡◌, ℕ, zero, suc, ◌+◌, ◌<◌, List, [], ◌∷◌, Option, Some, None, IfSome, length, set, get_or, slice_get, sym, refl, ap, ◌∙◌, subst, arith}
 use Rattle.std.specs.Prelude.{option_to_list}
 use Rattle.std.specs.List.{sum_by}
-use Rattle.std.proofs.lemmas.List.Sums.{sum_by-cons, sum_by-append}
+use Rattle.std.proofs.lemmas.List.Sums.{sum_by-cons}
 use Rattle.std.proofs.lemmas.List.{length-set}
 use Rattle.std.proofs.lemmas.Option.{slice_get_read, slice_get-get_or, same_Some, slice_get_within, none-some}
 use mathlib.Core.Logic.{dite}
@@ -10,7 +10,7 @@ use native.Mathlib.Decide.{ℕ_discrete}
 use Rattle.port_words.specs.declared.home.homes.Ticket.{Ticket}
 use Rattle.port_words.specs.home.Seats.{HomeKnown}
 use Rattle.run_queue.proofs.SeatLemmas.{get_other, get_written}
-use Rattle.port_sched.specs.Homes.{HomeStep, AreHomes, HomesStep, HomesUse, IsSameHome, turns_of, used_at, made_at, used_of, made_of, weighed}
+use Rattle.port_sched.specs.Homes.{HomeStep, AreHomes, HomesStep, HomesUse, IsSameHome, turns_of, used_at, made_at, weighed}
 
 module _ {B : Type 0} where
   same_home : (s : HomeKnown B) → IsSameHome s s

@@ -3,3 +3,4 @@ pub mod QueueSteps
 pub mod Served
 pub mod Looks
 pub mod Closings
+pub mod Wakings

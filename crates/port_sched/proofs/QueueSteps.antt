@@ -1,15 +1,15 @@
 -- What a seat of queues knows after it put a ticket, or took one.
-use Rattle.std.proofs.Common.{◌≡◌, ◌≢◌, true≢false, ℕ, zero, suc, ◌+◌, ◌<◌, List, [], ◌∷◌, ◌++◌, Option, Some, None, IsSome, map, length, get_or, slice_get, sym, refl, ap, ◌∙◌, subst, arith, inl, inr}
-use Rattle.std.specs.Prelude.{option_map, option_to_list}
-use Rattle.std.specs.List.{All, sum_by}
+use Rattle.std.proofs.Common.{◌≡◌, true≢false, ℕ, zero, suc, ◌+◌, ◌<◌, List, [], ◌∷◌, ◌++◌, Option, Some, None, IsSome, map, length, slice_get, sym, refl, ap, ◌∙◌, subst, arith, inl, inr}
+use Rattle.std.specs.Prelude.{option_map, option_to_list, is_some}
+use Rattle.std.specs.List.{sum_by}
 use Rattle.std.proofs.lemmas.List.Sums.{sum_by-cons, sum_by-append}
 use Rattle.std.proofs.lemmas.Option.{get_or_from_slice_get, slice_get_within, same_Some, none-some}
 use Rattle.port_words.specs.declared.home.homes.Ticket.{Ticket}
 use Rattle.run_queue.specs.declared.account.Hand.{Hand}
-use Rattle.run_queue.specs.Account.{after_put, after_take, put_weight, taken_weight}
-use Rattle.run_queue.specs.Seats.{DequeKnown, RunKnown, changed_first, changed_at, hands_of, put_own, took_own, stole, took_entry, KeepsShape, KeepsEnds, IsDequeEnd, put_by, taken_by, put_by_owner, Took}
+use Rattle.run_queue.specs.Account.{after_put, after_take, parts_of, put_weight, taken_weight}
+use Rattle.run_queue.specs.Seats.{DequeKnown, RunKnown, changed_first, changed_at, hands_of, took_own, stole, took_entry, KeepsShape, KeepsEnds, IsDequeEnd, put_by_owner, Took}
 use Rattle.run_queue.proofs.SeatLemmas.{at_set, keeps, all_to_get}
-use Rattle.port_sched.specs.Tickets.{IsQueueSeat, IsSameSeat, QueueStep}
+use Rattle.port_sched.specs.Tickets.{has_owner, parts_in, IsQueueSeat, IsSameSeat, QueueStep}
 
 module _ {A : Type 0} where
   found : (xs : List A) (n : ℕ) → n < length xs → (x : A) × (slice_get xs n ≡ Some x)
@@ -53,6 +53,23 @@ guest_changed f h a each own (v ∷ vs) has =
     let one = each v in
     omega (arith, sum_by-append f (option_to_list own) (h v ∷ vs), sum_by-append f (option_to_list own) (v ∷ vs), sum_by-cons f v vs, sum_by-cons f (h v) vs)
 
+-- the owner stays where it is, and each hand has the parts that it had
+same_owner : (h : Hand → Hand) (own : Option Hand) → is_some (option_map h own) ≡ is_some own
+same_owner h None = refl
+same_owner h (Some v) = refl
+
+own_parts : (h : Hand → Hand) → ((v : Hand) → parts_of (h v) ≡ parts_of v) → (own : Option Hand) (guests : List Hand)
+    → sum_by parts_of (option_to_list (option_map h own) ++ guests) ≡ sum_by parts_of (option_to_list own ++ guests)
+own_parts h each None guests = refl
+own_parts h each (Some v) guests = let one = each v in omega (arith, sum_by-cons parts_of v guests, sum_by-cons parts_of (h v) guests)
+
+guest_parts : (h : Hand → Hand) → ((v : Hand) → parts_of (h v) ≡ parts_of v) → (own : Option Hand) (guests : List Hand)
+    → sum_by parts_of (option_to_list own ++ changed_first h guests) ≡ sum_by parts_of (option_to_list own ++ guests)
+guest_parts h each own [] = refl
+guest_parts h each own (v ∷ vs) =
+    let one = each v in
+    omega (arith, sum_by-append parts_of (option_to_list own) (h v ∷ vs), sum_by-append parts_of (option_to_list own) (v ∷ vs), sum_by-cons parts_of v vs, sum_by-cons parts_of (h v) vs)
+
 -- what a put and a take add to a hand
 put_more : (weight : Ticket → ℕ) (t : Ticket) (v : Hand) → put_weight weight (after_put (t ∷ []) v) ≡ put_weight weight v + sum_by weight (t ∷ [])
 put_more weight t v = sum_by-append weight v.put (t ∷ [])
@@ -77,15 +94,18 @@ own_deque : (s : RunKnown) → IsQueueSeat s → (k : DequeKnown) × (slice_get 
 own_deque s is = let k = found s.deques s.number is.0.0 in (k.0, k.1, is.0.1 k.0 k.1)
 
 -- one of the deques changes as its owner's hand does
-own_step : (h : Hand → Hand) (s : RunKnown)
+own_step : (h : Hand → Hand) (s : RunKnown) → ((v : Hand) → parts_of (h v) ≡ parts_of v)
     → IsSameSeat s (record s { deques = changed_at (λ (k : DequeKnown). record k { own = option_map h k.own }) s.number s.deques })
-own_step h s =
+own_step h s each =
     let F : DequeKnown → DequeKnown = λ k. record k { own = option_map h k.own } in
     record {
       number = refl;
       seats = refl;
       deques = map_changed (λ (k : DequeKnown). k.deque) F s.number s.deques (λ x. refl);
+      owners = map_changed has_owner F s.number s.deques (λ x. same_owner h x.own);
+      parts = map_changed parts_in F s.number s.deques (λ x. own_parts h each x.own x.guests);
       injector = refl;
+      entry_parts = refl;
       is_seat = λ is.
           let mine = own_deque s is in
           let kept = keeps_changed s.deques s.number F mine.0 mine.1 (record { deque = refl; owner = some_map h mine.0.own; guests = refl; room = refl }) in
@@ -101,21 +121,21 @@ own_sum f h a s each is =
 -- the owner put a ticket
 pub pushed : (ticket : Ticket) (old new : RunKnown) → new ≡ put_by_owner ticket old → QueueStep [] (ticket ∷ []) old new
 pushed ticket old new e = subst (QueueStep [] (ticket ∷ []) old) (sym e) (record {
-  same = own_step (after_put (ticket ∷ [])) old;
+  same = own_step (after_put (ticket ∷ [])) old (λ v. refl);
   taken_tickets = λ is weight. let s = own_sum (taken_weight weight) (after_put (ticket ∷ [])) (sum_by weight []) old (taken_same weight ticket) is in omega arith;
   put_tickets = λ is weight. let s = own_sum (put_weight weight) (after_put (ticket ∷ [])) (sum_by weight (ticket ∷ [])) old (put_more weight ticket) is in omega arith;
 })
 
 took_of_own : (ticket : Ticket) (old : RunKnown) → QueueStep (ticket ∷ []) [] old (record old { deques = changed_at (took_own (ticket ∷ [])) old.number old.deques })
 took_of_own ticket old = record {
-  same = own_step (after_take (ticket ∷ [])) old;
+  same = own_step (after_take (ticket ∷ [])) old (λ v. refl);
   taken_tickets = λ is weight. let s = own_sum (taken_weight weight) (after_take (ticket ∷ [])) (sum_by weight (ticket ∷ [])) old (taken_more weight ticket) is in omega arith;
   put_tickets = λ is weight. let s = own_sum (put_weight weight) (after_take (ticket ∷ [])) (sum_by weight []) old (put_same weight ticket) is in omega arith;
 }
 
 took_of_entry : (ticket : Ticket) (old : RunKnown) → QueueStep (ticket ∷ []) [] old (record old { entry = took_entry (ticket ∷ []) old.entry })
 took_of_entry ticket old = record {
-  same = record { number = refl; seats = refl; deques = refl; injector = refl; is_seat = λ is. is };
+  same = record { number = refl; seats = refl; deques = refl; owners = refl; parts = refl; injector = refl; entry_parts = refl; is_seat = λ is. is };
   taken_tickets = λ is weight. let s = taken_more weight ticket old.entry.hand in omega arith;
   put_tickets = λ is weight. let s = put_same weight ticket old.entry.hand in omega arith;
 }
@@ -131,7 +151,10 @@ took_of_other ticket n old lt =
         number = refl;
         seats = refl;
         deques = map_changed (λ (k : DequeKnown). k.deque) (stole (ticket ∷ [])) n old.deques (λ x. refl);
+        owners = map_changed has_owner (stole (ticket ∷ [])) n old.deques (λ x. refl);
+        parts = map_changed parts_in (stole (ticket ∷ [])) n old.deques (λ x. guest_parts (after_take (ticket ∷ [])) (λ v. refl) x.own x.guests);
         injector = refl;
+        entry_parts = refl;
         is_seat = λ is. let kept = keeps_changed old.deques n (stole (ticket ∷ [])) there.0 there.1 (stolen_shape ticket there.0) in (kept.owns old.number is.0, kept.ends old.seats is.1);
       };
       taken_tickets = λ is weight.

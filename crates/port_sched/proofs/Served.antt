@@ -1,27 +1,29 @@
 -- What was served by one call after another.
-use Rattle.std.proofs.Common.{◌≡◌, true≢false, ℕ, ◌+◌, ◌≤◌, List, [], ◌∷◌, ◌++◌, Result, Ok, Err, map, length, sym, refl, ap, ◌∙◌, subst, arith, inl, inr}
+use Rattle.std.proofs.Common.{◌≡◌, true≢false, ℕ, ◌≤◌, List, [], ◌∷◌, ◌++◌, Result, Ok, Err, length, sym, refl, ◌∙◌, subst, arith, inl, inr}
 use Rattle.std.specs.Prelude.{IsErr}
-use Rattle.std.specs.List.{All, sum_by}
-use Rattle.std.proofs.lemmas.List.Sums.{sum_by-cons, sum_by-append}
+use Rattle.std.proofs.lemmas.List.Sums.{sum_by-append}
 use Rattle.std.proofs.lemmas.List.Elements.{All-nil, All-cons, All-append, All-weaker}
 use Rattle.port_words.specs.declared.home.homes.Ticket.{Ticket}
 use Rattle.port_words.specs.home.Seats.{HomeKnown}
 use Rattle.run_queue.specs.Seats.{RunKnown, put_by_owner, Took}
-use Rattle.port_sched.specs.Homes.{HomesStep, HomesUse, used_of, made_of, weighed}
-use Rattle.port_sched.specs.Tickets.{IsSameSeat, QueueStep, Serves}
+use Rattle.port_sched.specs.Homes.{HomesUse, weighed}
+use Rattle.port_sched.specs.Tickets.{IsSameSeat, Serves}
 use Rattle.port_sched.specs.Serving.{QueuedNext, KeptNext, KeptBy}
 use Rattle.port_sched.proofs.HomeSteps.{steps_none, steps_then}
 use Rattle.port_sched.proofs.QueueSteps.{pushed, took}
 
 same_none : (s : RunKnown) → IsSameSeat s s
-same_none s = record { number = refl; seats = refl; deques = refl; injector = refl; is_seat = λ is. is }
+same_none s = record { number = refl; seats = refl; deques = refl; owners = refl; parts = refl; injector = refl; entry_parts = refl; is_seat = λ is. is }
 
 same_then : (r s t : RunKnown) → IsSameSeat r s → IsSameSeat s t → IsSameSeat r t
 same_then r s t one two = record {
   number = two.number ∙ one.number;
   seats = two.seats ∙ one.seats;
   deques = two.deques ∙ one.deques;
+  owners = two.owners ∙ one.owners;
+  parts = two.parts ∙ one.parts;
   injector = two.injector ∙ one.injector;
+  entry_parts = two.entry_parts ∙ one.entry_parts;
   is_seat = λ is. two.is_seat (one.is_seat is);
 }
 

@@ -1,5 +1,5 @@
 -- The end of a run: the seats of all schedulers are joined, and the homes are closed.
-use Rattle.std.specs.Prelude.{◌≡◌, ◌≤◌, ℕ, ◌+◌, List, [], ◌∷◌, length, slice_get, Some, None}
+use Rattle.std.specs.Prelude.{◌≡◌, ℕ, List, [], ◌∷◌, length, slice_get, Some, None}
 use Rattle.port_words.specs.home.Home.{joined, IsLastBody}
 use Rattle.port_words.specs.home.Seats.{HomeKnown, home_known}
 

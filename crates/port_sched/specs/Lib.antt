@@ -1,6 +1,7 @@
 pub mod Lodging
 pub mod Homes
 pub mod Tickets
+pub mod Waking
 pub mod Serving
 pub mod Running
 pub mod Jobs

@@ -2,12 +2,13 @@
 ghost use Rattle.std.specs.Prelude.{◌≡◌, ◌+◌, ◌<◌, ◌≤◌, List, [], ◌∷◌, ◌++◌, length, slice_get, Some, vec_len, vec_capacity, All};
 ghost use Rattle.port_words.specs.home.Seats.{HomeKnown};
 ghost use Rattle.port_words.specs.over.Over.{over_known, joined as joined_places};
-ghost use Rattle.run_queue.specs.Seats.{changed_at, AreOfOneQueue, joined_seat};
+ghost use Rattle.run_queue.specs.Seats.{changed_at, AreOfOneQueue, joined_entry, joined_seat};
 ghost use Rattle.port_sched.specs.Closing.{joined_home, joined_homes, CanJoinHome, CanJoinHomes, IsWhole, AreLastBodies};
 
 use crate::body::PortBody;
 use crate::lodger::Lodger;
 use crate::scheduling::SchedSeats;
+use crate::waking::JobSeats;
 use port_words::home::{HomeSeat, Lodged};
 
 // Takes in a seat of the home of this port.
@@ -67,5 +68,22 @@ impl<B: PortBody> SchedSeats<B> {
         join_homes(&mut self.homes, homes);
         self.run.join(run);
         self.over.join(over);
+    }
+
+    /// Takes in the seats of a job beside the schedulers of the same run.
+    pub fn join_job(&mut self, job: JobSeats<B>)
+        requires homes { CanJoinHomes self.old.homes.items job.homes.items }
+        requires entry { job.entry.injector ≡ self.old.run.entry.injector }
+        ensures homes { self.new.homes.items ≡ joined_homes self.old.homes.items job.homes.items }
+        ensures run { self.new.run ≡ record self.old.run { entry = joined_entry self.old.run.entry job.entry } }
+        ensures over { self.new.over ≡ self.old.over }
+    {
+        let JobSeats {
+            homes: theirs,
+            entry,
+            refused: _,
+        } = job;
+        join_homes(&mut self.homes, theirs);
+        self.run.join_entry(entry);
     }
 }

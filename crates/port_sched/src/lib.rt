@@ -13,6 +13,7 @@ mod lodger;
 mod schedulers;
 mod scheduling;
 mod turns;
+mod waking;
 
 pub use body::{PortBody, Turn};
 pub use closing::{close_homes, join_homes};
@@ -21,3 +22,4 @@ pub use lodger::Lodger;
 pub use no_memory::NoMemory;
 pub use schedulers::{Scheduler, run};
 pub use scheduling::{SchedEnd, SchedSeats, scheduler};
+pub use waking::JobSeats;

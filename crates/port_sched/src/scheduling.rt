@@ -74,7 +74,7 @@ fn idle_at<B: PortBody, G: Gate, R: Wait>(
 }
 
 // The ticket of the next turn of this port.
-fn ticket_at<B: PortBody>(homes: &mut Vec<Home<B>>, port: usize) -> Option<Ticket>
+pub(crate) fn ticket_at<B: PortBody>(homes: &mut Vec<Home<B>>, port: usize) -> Option<Ticket>
     requires homes { AreHomes homes.old.items }
     requires port { port < length homes.old.items }
     ensures homes { AreHomes homes.new.items × HomesUse [] (option_to_list result) homes.old.items homes.new.items }

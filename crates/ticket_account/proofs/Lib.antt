@@ -1,1 +1,4 @@
 pub mod Sums
+pub mod Seats
+pub mod Gathered
+pub mod Openings

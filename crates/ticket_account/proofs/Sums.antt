@@ -5,16 +5,17 @@ use Rattle.std.specs.List.{All, sum_by}
 use Rattle.std.proofs.lemmas.List.Sums.{sum_by-cons, sum_by-append}
 use Rattle.std.proofs.lemmas.List.Elements.{All-head, All-tail}
 use Rattle.std.proofs.lemmas.Option.{none-some, slice_get_within}
+use Rattle.atomic_blocks.specs.Laid.{WebId}
 use Rattle.atomic_blocks.specs.Lent.{RowsId}
 use Rattle.port_words.specs.home.Seats.{HomeKnown}
 use Rattle.run_queue.specs.declared.account.Hand.{Hand}
 use Rattle.run_queue.specs.Account.{hand, all_parts, put_weight, taken_weight}
-use Rattle.run_queue.specs.Seats.{DequeKnown, RunKnown, the_own, hands_of, joined_deque, joined_deques, changed_at, with_own, guest_end}
+use Rattle.run_queue.specs.Seats.{DequeKnown, RunKnown, the_own, hands_of, joined_deque, joined_deques, changed_at, with_own, guest_end, fresh_seat, entry_parts}
 use Rattle.run_queue.proofs.OpeningLemmas.{fresh_row}
 use Rattle.port_sched.specs.Homes.{used_at, made_at, used_of, made_of, weighed}
 use Rattle.port_sched.specs.Closing.{joined_home, joined_homes}
 use Rattle.port_sched.specs.Tickets.{IsQueueSeat}
-use Rattle.ticket_account.specs.Account.{OwnApart, HomesAddUp, SeatsAddUp, EndsAddUp, IsUnused, NewSeatIsUnused, HasNoTickets, NewAccount, ServedAccount, EachTicketOnce}
+use Rattle.ticket_account.specs.Account.{OwnApart, HomesAddUp, SeatsAddUp, EndsAddUp, IsUnused, NewSeatIsUnused, HasNoTickets, NewAccount, ServedAccount, JoinedAccount, JoinedJobAccount, EachTicketOnce}
 
 module _ {B : Type 0} where
   made_both : (v w : HomeKnown B) (weight : ℕ → ℕ → ℕ) → w.port ≡ v.port → made_at (weight v.port) (joined_home v w) ≡ made_at (weight v.port) v + made_at (weight w.port) w
@@ -43,7 +44,7 @@ homes_add_up B vs ws same weight = (
   homes_add (λ s. used_at (weight s.port) s) (λ v w e. used_both v w weight e) vs ws same.0 same.1,
 )
 
-own_add : (f : Hand → ℕ) (a b : Option Hand) (g h : List Hand) → (a ≡ None) ⊎ (b ≡ None)
+pub own_add : (f : Hand → ℕ) (a b : Option Hand) (g h : List Hand) → (a ≡ None) ⊎ (b ≡ None)
     → sum_by f (option_to_list (the_own a b) ++ (g ++ h)) ≡ sum_by f (option_to_list a ++ g) + sum_by f (option_to_list b ++ h)
 own_add f None b g h apart = omega (arith, sum_by-append f (option_to_list b) (g ++ h), sum_by-append f g h, sum_by-append f (option_to_list b) h)
 own_add f (Some x) None g h apart = omega (arith, sum_by-cons f x (g ++ h), sum_by-append f g h, sum_by-cons f x g)
@@ -75,14 +76,43 @@ ends_add_up s e weight = (
 )
 
 pub served_account : (B : Type 0) → ServedAccount B
-served_account B kept strange more homes homes' run run' is account served = (
-  kept ++ more,
-  strange ++ served.strange,
-  record {
-    made = λ weight. let a = account.made weight in let s = served.made is weight in omega (arith, sum_by-append (weighed weight) kept more);
-    used = λ weight. let a = account.used weight in let s = served.used is weight in omega (arith, sum_by-append (weighed weight) strange served.strange);
-  },
-)
+served_account B kept strange more homes homes' run run' is account served = record {
+  made = λ weight. let a = account.made weight in let s = served.made is weight in omega (arith, sum_by-append (weighed weight) kept more);
+  used = λ weight. let a = account.used weight in let s = served.used is weight in omega (arith, sum_by-append (weighed weight) strange served.strange);
+}
+
+pub joined_account : (B : Type 0) → JoinedAccount B
+joined_account B kept strange more stranger homes homes' run run' same apart one two = record {
+  made = λ weight.
+      let h = (homes_add_up B homes homes' same weight).0 in
+      let q = (seats_add_up run run' apart (weighed weight)).0 in
+      let a = one.made weight in
+      let b = two.made weight in
+      omega (arith, sum_by-append (weighed weight) kept more);
+  used = λ weight.
+      let h = (homes_add_up B homes homes' same weight).1 in
+      let q = (seats_add_up run run' apart (weighed weight)).1 in
+      let a = one.used weight in
+      let b = two.used weight in
+      omega (arith, sum_by-append (weighed weight) strange stranger);
+}
+
+pub joined_job_account : (B : Type 0) → JoinedJobAccount B
+joined_job_account B kept strange more homes homes' run entry same one two = record {
+  made = λ weight.
+      let h = (homes_add_up B homes homes' same weight).0 in
+      let q = (ends_add_up run entry (weighed weight)).0 in
+      let a = one.made weight in
+      let b = two.made weight in
+      omega (arith, sum_by-append (weighed weight) kept more);
+  used = λ weight.
+      let h = (homes_add_up B homes homes' same weight).1 in
+      let q = (ends_add_up run entry (weighed weight)).1 in
+      let a = one.used weight in
+      let b = two.used weight in
+      let none : taken_weight (weighed weight) entry.hand ≡ 0 = ap (sum_by (weighed weight)) two.taken in
+      omega arith;
+}
 
 pub each_once : (B : Type 0) → EachTicketOnce B
 each_once B kept strange left homes run account is_left weight =
@@ -119,22 +149,25 @@ no_row f none parts (suc n) most (id ∷ ids) =
     let rest : sum_by F (changed_at (with_own (hand parts [] [])) n (map (guest_end most) ids)) ≡ 0 = no_row f none parts n most ids in
     omega (arith, sum_by-cons F (guest_end most id) (changed_at (with_own (hand parts [] [])) n (map (guest_end most) ids)))
 
-pub new_seat_is_unused : NewSeatIsUnused
-new_seat_is_unused schedulers entries seats ends are n s here =
-    let ids = are.deques in
+-- a seat that was just made, whatever parts of the injector it has
+pub unused_seat : (ids : List RowsId) (injector : WebId) (number entry : ℕ) (s : RunKnown) → number < length ids → s ≡ fresh_seat ids injector number entry → IsQueueSeat s × IsUnused s
+unused_seat ids injector number entry s within is =
     let parts = all_parts - length ids in
-    let row = changed_at (with_own (hand parts [] [])) n (map (guest_end (length ids)) ids) in
-    let lt = slice_get_within seats n s here in
-    let within : n < length ids = (let a = are.deques_count in let b = are.seats_count in omega arith) in
-    subst (λ (r : RunKnown). IsQueueSeat r × IsUnused r) (sym (are.each n s here)) (
-      fresh_row (length ids) n (hand parts [] []) ids row refl refl within,
+    let row = changed_at (with_own (hand parts [] [])) number (map (guest_end (length ids)) ids) in
+    subst (λ (r : RunKnown). IsQueueSeat r × IsUnused r) (sym is) (
+      fresh_row (length ids) number (hand parts [] []) ids row refl refl within,
       λ weight. (
-        (let d = no_row (put_weight weight) (λ p. refl) parts n (length ids) ids in omega arith),
-        (let d = no_row (taken_weight weight) (λ p. refl) parts n (length ids) ids in omega arith),
+        (let d = no_row (put_weight weight) (λ p. refl) parts number (length ids) ids in omega arith),
+        (let d = no_row (taken_weight weight) (λ p. refl) parts number (length ids) ids in omega arith),
       ),
     )
 
-no_tickets : {B : Type 0} (homes : List (HomeKnown B)) → All HasNoTickets homes → (weight : ℕ → ℕ → ℕ) → (made_of weight homes ≡ 0) × (used_of weight homes ≡ 0)
+pub new_seat_is_unused : NewSeatIsUnused
+new_seat_is_unused schedulers entries seats ends are n s here =
+    unused_seat are.deques are.injector n (entry_parts schedulers entries n) s
+    (let lt = slice_get_within seats n s here in let a = are.deques_count in let b = are.seats_count in omega arith) (are.each n s here)
+
+pub no_tickets : {B : Type 0} (homes : List (HomeKnown B)) → All HasNoTickets homes → (weight : ℕ → ℕ → ℕ) → (made_of weight homes ≡ 0) × (used_of weight homes ≡ 0)
 no_tickets [] all weight = (refl, refl)
 no_tickets (s ∷ ss) all weight =
     let is = All-head HasNoTickets s ss all in

@@ -1,5 +1,5 @@
 -- The account of a run's tickets.
-use Rattle.std.specs.Prelude.{◌≡◌, ◌⊎◌, ℕ, ◌+◌, List, [], length, slice_get, sum_by, All, Some, None}
+use Rattle.std.specs.Prelude.{◌≡◌, ◌⊎◌, ℕ, ◌+◌, List, [], ◌++◌, length, slice_get, sum_by, All, Some, None}
 use Rattle.port_words.specs.declared.home.homes.Ticket.{Ticket}
 use Rattle.port_words.specs.home.Seats.{HomeKnown}
 use Rattle.run_queue.specs.Account.{put_weight, taken_weight}
@@ -59,7 +59,24 @@ NewAccount B = (homes : List (HomeKnown B)) (run : RunKnown) → All HasNoTicket
 -- a scheduler that goes on from an account has one when it ends
 abbrev pub ServedAccount : Type 0 → Type 0
 ServedAccount B = (kept strange more : List Ticket) (homes homes' : List (HomeKnown B)) (run run' : RunKnown) → IsQueueSeat run → IsAccount kept strange homes run
-    → (served : Serves [] more homes run homes' run') → (kept' strange' : List Ticket) × IsAccount kept' strange' homes' run'
+    → (served : Serves [] more homes run homes' run') → IsAccount (kept ++ more) (strange ++ served.strange) homes' run'
+
+-- two schedulers' accounts are one where their seats are joined
+abbrev pub JoinedAccount : Type 0 → Type 0
+JoinedAccount B = (kept strange more stranger : List Ticket) (homes homes' : List (HomeKnown B)) (run run' : RunKnown) → AreOfSamePorts homes homes' → OwnersApart run run'
+    → IsAccount kept strange homes run → IsAccount more stranger homes' run' → IsAccount (kept ++ more) (strange ++ stranger) (joined_homes homes homes') (joined_seat run run')
+
+-- Each ticket that another job's homes made was put into the injector, but those that were kept, and it used none
+pub record IsJobAccount {B : Type 0} (kept : List Ticket) (homes : List (HomeKnown B)) (entry : EntryKnown) : Type 0 where
+  pub made : (weight : ℕ → ℕ → ℕ) → made_of weight homes ≡ put_weight (weighed weight) entry.hand + sum_by (weighed weight) kept
+  pub used : (weight : ℕ → ℕ → ℕ) → used_of weight homes ≡ 0
+  pub taken : entry.hand.taken ≡ []
+
+-- and so are those of schedulers and of another job
+abbrev pub JoinedJobAccount : Type 0 → Type 0
+JoinedJobAccount B = (kept strange more : List Ticket) (homes homes' : List (HomeKnown B)) (run : RunKnown) (entry : EntryKnown) → AreOfSamePorts homes homes'
+    → IsAccount kept strange homes run → IsJobAccount more homes' entry
+    → IsAccount (kept ++ more) strange (joined_homes homes homes') (record run { entry = joined_entry run.entry entry })
 
 -- of the tickets made, those that weren't claimed or found stale are left in a queue, kept, or of no port, each once
 abbrev pub EachTicketOnce : Type 0 → Type 0

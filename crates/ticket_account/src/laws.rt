@@ -1,4 +1,4 @@
-ghost use Rattle.ticket_account.specs.Account.{HomesAddUp, SeatsAddUp, EndsAddUp, NewSeatIsUnused, NewAccount, ServedAccount, EachTicketOnce};
+ghost use Rattle.ticket_account.specs.Account.{HomesAddUp, SeatsAddUp, EndsAddUp, NewSeatIsUnused, NewAccount, ServedAccount, JoinedAccount, JoinedJobAccount, EachTicketOnce};
 
 use port_words::home::Lodged;
 
@@ -9,11 +9,13 @@ pub fn seats_add_up_at_each_join<B: Lodged>()
     ensures ends { EndsAddUp }
 {}
 
-/// Seats that have done nothing have an account of their tickets, and a scheduler keeps it. Where an account has every seat, each ticket that was made was claimed or
+/// Seats that have done nothing have an account of their tickets, a scheduler keeps it, and two of them are one where their seats are joined. Where an account has every seat, each ticket that was made was claimed or
 /// found stale, is left in a queue, is kept by a job whose push found no memory, or is of no port, each once.
 pub fn each_ticket_once_at_the_end<B: Lodged>()
     ensures seats { NewSeatIsUnused }
     ensures begins { NewAccount B }
     ensures served { ServedAccount B }
+    ensures joined { JoinedAccount B }
+    ensures jobs { JoinedJobAccount B }
     ensures once { EachTicketOnce B }
 {}

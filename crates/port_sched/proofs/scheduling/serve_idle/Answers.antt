@@ -1,4 +1,4 @@
-use Rattle.std.proofs.Common.{[], refl}
+use Rattle.std.proofs.Common.{[]}
 use Rattle.port_sched.proofs.Served.{served_none, served_homes, served_then, served_all, kept_err}
 use Rattle.port_sched.proofs.scheduling.serve_idle.Goals as goal
 

@@ -1,0 +1,95 @@
+// A run under a load.
+ghost use Rattle.std.specs.Prelude.{◌≡◌, ◌+◌, ◌<◌, ◌≤◌, length, map, All, IfOk};
+ghost use Rattle.port_sched.specs.Closing.{IsWhole};
+ghost use Rattle.port_sched.specs.Jobs.{WentEach};
+ghost use Rattle.port_sched.specs.Schedulers.{CanBegin, Ended};
+
+use crate::loading::{LoadSize, load, putters};
+use crate::putter::Putter;
+use crate::till::Till;
+use outside::Gate;
+use port_sched::{
+    Job, JobSeats, Lodger, NoMemory, PortBody, SchedEnd, Scheduler, close_homes, run,
+};
+use port_words::home::HomeSeat;
+use std::alloc::Global;
+use std::sync::Wait;
+use std::thread::Threads;
+use ticket_account::{RunSize, gather, open_run};
+
+/// How a run ended: whether each scheduler saw its end, and the ports that came back.
+#[derive(Drop)]
+pub struct Outcome {
+    pub all_done: bool,
+    pub tills: Vec<Lodger<Till>>,
+}
+
+// Runs schedulers beside jobs, and gives them back.
+fn run_owned<B: PortBody + Send, G: Gate + Sync, K: Job + Send, R: Threads + Wait + Sync>(
+    rt: &R,
+    gate: &G,
+    mut schedulers: Vec<Scheduler<B>>,
+    mut jobs: Vec<K>,
+) -> (Vec<Scheduler<B>>, Vec<K>)
+    requires schedulers { All CanBegin schedulers.items }
+    requires jobs { All K.can_run jobs.items }
+    ensures schedulers { WentEach Ended schedulers.items result.0.items }
+    ensures jobs { WentEach K.went jobs.items result.1.items }
+{
+    run(rt, gate, schedulers.as_mut_slice(), jobs.as_mut_slice());
+    (schedulers, jobs)
+}
+
+// The jobs' seats.
+fn seats_of(alloc: Global, jobs: Vec<Putter>) -> Result<Vec<JobSeats<Till>>, NoMemory>
+    ensures { IfOk result (λ all. all.items ≡ map (λ p. p.seats) jobs.items) }
+{
+    let mut all = Vec::new(alloc);
+    'jobs: for job in jobs {
+        all.push(job.seats)?;
+    }
+    Ok(all)
+}
+
+// The ports come out of their homes.
+fn come_out(
+    alloc: Global,
+    homes: Vec<HomeSeat<Lodger<Till>>>,
+) -> Result<Vec<Lodger<Till>>, NoMemory>
+    requires { All IsWhole homes.items }
+{
+    let mut tills = Vec::with_capacity(alloc, homes.len())?;
+    close_homes(homes, &mut tills);
+    Ok(tills)
+}
+
+fn all_done(schedulers: &[Scheduler<Till>]) -> bool {
+    schedulers
+        .iter()
+        .all(|scheduler| scheduler.end == Some(SchedEnd::Done))
+}
+
+/// Runs so many schedulers and jobs on so many ports, to the end. Where no memory is found before it or after it, the ports are dropped.
+pub fn run_load<G: Gate + Sync, R: Threads + Wait + Sync>(
+    rt: &R,
+    alloc: Global,
+    gate: &G,
+    size: LoadSize,
+) -> Result<Outcome, NoMemory>
+    requires schedulers { (0 < size.schedulers) × (size.schedulers ≤ 16) }
+    requires few { size.ports + size.schedulers + size.jobs ≤ 1024 }
+{
+    let (tills, lists) = load(alloc, size)?;
+    let run = RunSize {
+        schedulers: size.schedulers,
+        finishing: 0,
+        others: size.jobs,
+    };
+    let opened = open_run(alloc, tills, run)?;
+    let jobs = putters(alloc, opened.jobs, lists, opened.others, size)?;
+    let (schedulers, jobs) = run_owned(rt, gate, opened.schedulers, jobs);
+    let all_done = all_done(&schedulers);
+    let jobs = seats_of(alloc, jobs)?;
+    let tills = come_out(alloc, gather(rt, schedulers, jobs))?;
+    Ok(Outcome { all_done, tills })
+}
