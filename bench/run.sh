@@ -41,17 +41,47 @@ time_program() (
     done
 )
 
-if [ "${1:-}" = gateway_run ]; then
-    time_program "${2:-2000}"
-    exit
-fi
-cd "$here/crates/bench" || exit 1
-if ! log=$(rt run 2>&1); then
-    echo "$log"
-    exit 1
-fi
-if [ $# -gt 0 ]; then
-    out/bench "$@"
-    exit
-fi
-out/bench all && time_program 2000
+# The best time of five copies of a file by `cat`, in microseconds.
+best_copy() {
+    local best='' from to
+    for _ in 1 2 3 4 5; do
+        from=$(date +%s%N)
+        cat <"$1" >"$1.copy" || return 1
+        to=$(date +%s%N)
+        if [ -z "$best" ] || [ $(((to - from) / 1000)) -lt "$best" ]; then best=$(((to - from) / 1000)); fi
+    done
+    echo "$best"
+}
+
+# `cat < in > out` of so many bytes, and of two and four times as many: what program_cat is to be compared with.
+time_cat() (
+    before=''
+    folder=$(mktemp -d)
+    trap 'rm -rf "$folder"' EXIT
+    for count in "$1" $(($1 * 2)) $(($1 * 4)); do
+        head -c "$count" /dev/zero >"$folder/in"
+        time=$(best_copy "$folder/in") || return 1
+        growth=-
+        [ -n "$before" ] && growth=$((time * 100 / before))
+        echo "cat_alone $count $time $((time * 1000 / count)) $growth"
+        before=$time
+    done
+)
+
+# Builds a program of the project, and runs it with the further words.
+built() {
+    local name=$1 log
+    shift
+    if ! log=$(cd "$here/crates/$name" && rt run 2>&1); then
+        echo "$log"
+        return 1
+    fi
+    "$here/crates/$name/out/$name" "$@"
+}
+
+case "${1:-all}" in
+gateway_run) time_program "${2:-2000}" ;;
+program_cat) built program_bench "${2:-8388608}" && time_cat "${2:-8388608}" ;;
+all) built bench all && built program_bench 8388608 && time_cat 8388608 && time_program 2000 ;;
+*) built bench "$@" ;;
+esac

@@ -21,3 +21,23 @@ fn an_end_without_options_closes_the_port(rt: HostRuntime) -> Result<(), Fail> {
     assert!(rt; ends(rt.alloc(), false, false, b"end;read off;fail normal;")?);
     Ok(())
 }
+
+#[test]
+fn an_end_that_is_told_keeps_the_port(rt: HostRuntime) -> Result<(), Fail> {
+    assert!(rt; ends(rt.alloc(), true, false, b"end;eof;read off;")?);
+    Ok(())
+}
+
+#[test]
+fn a_status_that_is_told_closes_the_port(rt: HostRuntime) -> Result<(), Fail> {
+    let wanted = b"end;ended 3;status 3;read off;fail normal;";
+    assert!(rt; ends(rt.alloc(), false, true, wanted)?);
+    Ok(())
+}
+
+#[test]
+fn an_end_and_a_status_that_are_told_keep_the_port(rt: HostRuntime) -> Result<(), Fail> {
+    let wanted = b"end;ended 3;eof;status 3;read off;";
+    assert!(rt; ends(rt.alloc(), true, true, wanted)?);
+    Ok(())
+}

@@ -1,12 +1,118 @@
-//! Starts that fail.
-use crate::port::{fresh_context, options, spawner};
-use outside::{MemProgram, MemSpawner};
+//! Failures of the outside, each alone.
+ghost use Rattle.std.specs.Prelude.{◌≡◌, IfOk};
+ghost use Rattle.outside.specs.Programs.{shown};
+
+use crate::port::{Port, fresh_context, options, spawner};
+use outside::{MemChild, MemProgram, MemSpawner, NoMemory, SpawnFault, Spawner};
 use packet_framing::Mode;
-use port_driver::{Driver, StartRefusal};
+use port_driver::{Driver, Life, StartRefusal};
 use port_model::Piece;
-use spawn_driver::spawn_driver;
+use spawn_driver::{SpawnDriver, spawn_driver};
 use std::alloc::Global;
 use std::test::Fail;
+
+/// The call of a program that is to fail, the first time that it is made.
+#[derive(Clone, Copy)]
+enum Planned {
+    Offer,
+    Fetch,
+    Status,
+}
+
+/// What starts a program of memory of whose calls one is to fail.
+#[derive(Drop)]
+struct FaultySpawner {
+    spawner: MemSpawner,
+    planned: Planned,
+}
+
+/// Makes the call fail.
+fn plan(child: &mut MemChild, planned: Planned) -> Result<(), NoMemory>
+    ensures shown { shown child.new ≡ shown child.old }
+    ensures faults { child.new.faults ≡ child.old.faults }
+{
+    match planned {
+        Planned::Offer => child.fail_offer(0),
+        Planned::Fetch => child.fail_fetch(0),
+        Planned::Status => child.fail_status(0),
+    }
+}
+
+impl Spawner for FaultySpawner {
+    type Program = MemChild;
+
+    ghost faults = { λ s. s.spawner.faults };
+
+    fn start(&mut self, alloc: Global, command: &[u8]) -> Result<MemChild, SpawnFault> {
+        let mut child = self.spawner.start(alloc, command)?;
+        match plan(&mut child, self.planned) {
+            Ok(()) => Ok(child),
+            Err(_) => Err(SpawnFault::NoMemory),
+        }
+    }
+}
+
+/// A port of a program that ends at once, in whose queue is `abc`. The planned call is to fail.
+fn faulty(alloc: Global, planned: Planned) -> Result<Port<SpawnDriver<FaultySpawner>>, Fail>
+    ensures { IfOk result (λ port. port.driver.life ≡ Life.Started) }
+{
+    let mut program = MemProgram::new(alloc, 2);
+    program.end(3);
+    let spawner = spawner(alloc, program)?;
+    let faulty = FaultySpawner { spawner, planned };
+    let mut config = options(alloc, Mode::Stream)?;
+    config.exit_status = true;
+    let mut port = Port::open(alloc, spawn_driver(faulty), &config)?;
+    port.takes(alloc, b"abc", b"write on;")?;
+    Ok(port)
+}
+
+/// Whether a call because there is room to write is recorded so, and leaves nothing queued.
+fn writes_last<D: Driver>(alloc: Global, port: &mut Port<D>, wanted: &[u8]) -> Result<bool, Fail>
+    requires { D.stage port.old.driver ≡ Life.Started }
+{
+    let shows = port.writes(alloc, wanted)?;
+    Ok(shows && port.is_drained())
+}
+
+/// Whether a call because there is something to read is recorded so, and leaves nothing queued.
+fn reads_last<D: Driver>(alloc: Global, port: &mut Port<D>, wanted: &[u8]) -> Result<bool, Fail>
+    requires { D.stage port.old.driver ≡ Life.Started }
+{
+    let shows = port.reads(alloc, wanted)?;
+    Ok(shows && port.is_drained())
+}
+
+/// Whether an offer that fails is recorded so.
+fn a_failing_offer_shows(alloc: Global, wanted: &[u8]) -> Result<bool, Fail> {
+    let mut port = faulty(alloc, Planned::Offer)?;
+    writes_last(alloc, &mut port, wanted)
+}
+
+/// Whether a fetch or a status that fails is recorded so.
+fn a_failing_read_shows(alloc: Global, planned: Planned, wanted: &[u8]) -> Result<bool, Fail> {
+    let mut port = faulty(alloc, planned)?;
+    reads_last(alloc, &mut port, wanted)
+}
+
+#[test]
+fn an_offer_that_fails_empties_the_queue(rt: HostRuntime) -> Result<(), Fail> {
+    assert!(rt; a_failing_offer_shows(rt.alloc(), b"failed;fail eio;")?);
+    Ok(())
+}
+
+#[test]
+fn a_fetch_that_fails_empties_the_queue(rt: HostRuntime) -> Result<(), Fail> {
+    assert!(rt; a_failing_read_shows(rt.alloc(), Planned::Fetch, b"failed;fail eio;")?);
+    Ok(())
+}
+
+#[test]
+fn a_status_that_fails_is_not_sent(rt: HostRuntime) -> Result<(), Fail> {
+    let wanted = b"end;failed;fail eio;read off;";
+    assert!(rt; a_failing_read_shows(rt.alloc(), Planned::Status, wanted)?);
+    Ok(())
+}
 
 /// How a driver of this spawner refuses to start with this command text.
 fn refusal(alloc: Global, spawner: MemSpawner, run: &[u8]) -> Result<Option<StartRefusal>, Fail> {

@@ -68,6 +68,14 @@ fn lines_are_found_over_chunks(rt: HostRuntime) -> Result<(), Fail> {
 }
 
 #[test]
+fn the_rest_of_a_line_is_told_at_the_end(rt: HostRuntime) -> Result<(), Fail> {
+    let program = ending(rt.alloc(), b"xy")?;
+    let second = b"end;noeol xy;read off;fail normal;";
+    assert!(rt; reads(rt.alloc(), Mode::Line(3), program, b"got xy;", second)?);
+    Ok(())
+}
+
+#[test]
 fn each_chunk_of_a_stream_is_a_message(rt: HostRuntime) -> Result<(), Fail> {
     let program = giving(rt.alloc(), b"a", b"bc")?;
     let second = b"got bc;plain bc;";

@@ -88,6 +88,17 @@ impl<D: Driver> Port<D> {
         Ok(Port { driver, queue })
     }
 
+    /// Whether these bytes are queued.
+    pub(crate) fn has_queued(&self, bytes: &[u8]) -> Result<bool, Fail> {
+        let queued = self.queue.to_piece()?;
+        Ok(queued.as_slice() == bytes)
+    }
+
+    /// Whether nothing is queued.
+    pub(crate) fn is_drained(&self) -> bool {
+        self.queue.is_empty()
+    }
+
     /// The context of the next callback, which has the queue.
     fn begin(&mut self, alloc: Global) -> Result<DriverCtx, Fail>
         ensures driver { self.new.driver ≡ self.old.driver }
