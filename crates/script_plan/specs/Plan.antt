@@ -30,11 +30,11 @@ plan_of parts = record {
 
 -- the places that an act names are below these counts of processes and ports, and a file is cut into pieces of 1 to 262,143 bytes
 abbrev pub IsWithin : ℕ → ℕ → Act → Type 0
-IsWithin processes ports (Command port data force nosuspend) = port < ports
+IsWithin processes ports (Command port bytes force nosuspend) = port < ports
 IsWithin processes ports (File port size file force nosuspend) = (port < ports) × (1 ≤ size) × (size ≤ 262143)
-IsWithin processes ports (Send port data) = port < ports
-IsWithin processes ports (Control port op data) = port < ports
-IsWithin processes ports (Call port op data) = port < ports
+IsWithin processes ports (Send port bytes) = port < ports
+IsWithin processes ports (Control port op bytes) = port < ports
+IsWithin processes ports (Call port op bytes) = port < ports
 IsWithin processes ports (Close port) = port < ports
 IsWithin processes ports (Connect port to) = (port < ports) × (to < processes)
 IsWithin processes ports (SendClose port) = port < ports

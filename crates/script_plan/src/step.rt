@@ -15,7 +15,7 @@ pub enum Act {
     /// Sends a command, as `port_command/3` of module erlang with the options `force` and `nosuspend`.
     Command {
         port: u32,
-        data: Piece,
+        bytes: Piece,
         force: bool,
         nosuspend: bool,
     },
@@ -30,19 +30,19 @@ pub enum Act {
     /// Sends a command as a message to the port, as `Port ! {Owner, {command, Data}}`.
     Send {
         port: u32,
-        data: Piece,
+        bytes: Piece,
     },
     /// Controls the driver, and waits for its answer.
     Control {
         port: u32,
         op: u32,
-        data: Piece,
+        bytes: Piece,
     },
     /// Calls the driver with the external form of a term, and waits for its answer.
     Call {
         port: u32,
         op: u32,
-        data: Piece,
+        bytes: Piece,
     },
     /// Asks a port to close, and waits for its answer.
     Close(u32),
