@@ -17,8 +17,7 @@ seats-preserved c =
     let seat = c.in-Some.seat in
     let rest = c.next.new.self.rest.items in
     let table = c.args.port.now.table in
-    let v = c.args.port.now.known in
-    (
+    let v = c.args.port.now.known in (
       (
         inv.0.0 ++ seat ∷ [],
         append_assoc inv.0.0 (seat ∷ []) rest ∙ (ap (λ l. inv.0.0 ++ l) (sym steps.0) ∙ inv.0.1),
