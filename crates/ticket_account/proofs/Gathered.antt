@@ -21,15 +21,15 @@ use Rattle.port_sched.specs.Schedulers.{EndsAs}
 use Rattle.port_sched.specs.Serving.{KeptAtEnd}
 use Rattle.port_words.specs.over.Over.{OverKnown}
 use Rattle.ticket_account.specs.Account.{IsAccount, IsJobAccount, HasNoTickets}
-use Rattle.ticket_account.specs.Run.{AreDealt, HasRun, IsDone, HasPutAll, IsSettled}
+use Rattle.ticket_account.specs.Run.{AreDealt, HasRun, HomesOfRun, IsDone, HasPutAll, IsSettled}
 use Rattle.ticket_account.proofs.Sums.{new_account, served_account, joined_account, joined_job_account, each_once, no_tickets, unused_seat}
-use Rattle.ticket_account.proofs.Seats.{found_at, QueueOne, QueueFrom, one_of_fresh, one_after, from_last, from_more, of_one_queue, owners_apart, has_all, AreHeld, held_after, held_both, can_join_homes, same_ports, held_whole}
+use Rattle.ticket_account.proofs.Seats.{found_at, QueueOne, QueueFrom, one_of_fresh, one_after, from_last, from_more, of_one_queue, owners_apart, has_all, AreHeld, held_after, held_both, can_join_homes, same_ports, held_whole, homes_of}
 
 abbrev pub OfNoPort : ℕ → Ticket → Type 0
 OfNoPort ports t = ports ≤ t.port
 
-dealt_unused : {B : Type 0} (homes : List _) (seats : ℕ) (mine : List (HomeKnown B)) → AreDealt homes seats mine → All HasNoTickets mine
-dealt_unused homes seats mine dealt = all_from_get HasNoTickets mine (λ n s e. (dealt.1 n s e).unused)
+dealt_unused : {B : Type 0} (homes : List _) (bodies : List B) (seats : ℕ) (mine : List (HomeKnown B)) → AreDealt homes bodies seats mine → All HasNoTickets mine
+dealt_unused homes bodies seats mine dealt = all_from_get HasNoTickets mine (λ n s e. (dealt.1 n s e).unused)
 
 -- a word of OVER stays the same
 same_word : (old new : OverKnown) (end : Option SchedEnd) → EndsAs old new end → new.word ≡ old.word
@@ -117,7 +117,7 @@ module _ {B : Type 0} {g : Ghosts B} {S : List (Scheduler B g)} {J : List (JobSe
   pub record IsPart (run : HasRun S J) (number : ℕ) (s : Scheduler B g) : Type 0 where
     pub queue : QueueOne run.opened.deques run.opened.injector number (all_parts - length S) s.seats.run
     pub entry : s.seats.run.entry.hand.parts ≡ entry_parts (length S) (length J) number
-    pub held : AreHeld run.opened.homes (length S + length J) 1 s.seats.homes.items
+    pub held : AreHeld run.opened.homes run.opened.bodies (length S + length J) 1 s.seats.homes.items
     pub word : s.seats.over.word ≡ run.opened.word
     pub kept : List Ticket
     pub strange : List Ticket
@@ -144,12 +144,12 @@ module _ {B : Type 0} {g : Ghosts B} {S : List (Scheduler B g)} {J : List (JobSe
             (one_after o.deques o.injector number (all_parts - length o.deques) old.seats.run s.seats.run (one_of_fresh o.deques o.injector number _ old.seats.run fresh.run) served.same);
         entry = served.same.entry_parts ∙ ap (λ (r : RunKnown). r.entry.hand.parts) fresh.run ∙ ap (λ n. entry_parts n (length run.before_jobs) number) (sym count)
             ∙ ap (λ n. entry_parts (length S) n number) (sym jobs);
-        held = subst (λ t. AreHeld o.homes t 1 s.seats.homes.items) total
-            (held_after o.homes (length run.before + length run.before_jobs) old.seats.homes.items s.seats.homes.items fresh.homes_are served.steps ended.homes);
+        held = subst (λ t. AreHeld o.homes o.bodies t 1 s.seats.homes.items) total
+            (held_after o.homes o.bodies (length run.before + length run.before_jobs) old.seats.homes.items s.seats.homes.items fresh.homes_are served.steps ended.homes);
         word = same_word old.seats.over s.seats.over s.end ended.ends ∙ fresh.over;
         kept = [] ++ ended.tickets.0;
         strange = [] ++ served.strange;
-        account = served_account _ [] [] ended.tickets.0 _ _ _ _ unused.0 (new_account _ _ _ (dealt_unused o.homes _ old.seats.homes.items fresh.homes_are) unused.1) served;
+        account = served_account _ [] [] ended.tickets.0 _ _ _ _ unused.0 (new_account _ _ _ (dealt_unused o.homes o.bodies _ old.seats.homes.items fresh.homes_are) unused.1) served;
         no_port = subst (λ n. All (OfNoPort n) served.strange) fresh.homes_are.0 served.no_port;
         all_put = λ done. kept_none s.end ended.tickets.0 ended.tickets.1 done;
       }
@@ -158,7 +158,7 @@ module _ {B : Type 0} {g : Ghosts B} {S : List (Scheduler B g)} {J : List (JobSe
   pub record IsJobPart (run : HasRun S J) (j : JobSeats B g) : Type 0 where
     pub injector : j.entry.injector ≡ run.opened.injector
     pub parts : j.entry.hand.parts ≡ 1
-    pub held : AreHeld run.opened.homes (length S + length J) 1 j.homes.items
+    pub held : AreHeld run.opened.homes run.opened.bodies (length S + length J) 1 j.homes.items
     pub kept : List Ticket
     pub account : IsJobAccount kept j.homes.items j.entry
     pub all_put : HasPutAll j → kept ≡ []
@@ -173,12 +173,12 @@ module _ {B : Type 0} {g : Ghosts B} {S : List (Scheduler B g)} {J : List (JobSe
       let fresh = o.each_job number old was.1 in
       let woke = (run.woke.each number old j was.1 e).1 in
       let total : length run.before + length run.before_jobs ≡ length S + length J = omega arith in
-      let unused = dealt_unused o.homes _ old.homes.items fresh.homes_are in
+      let unused = dealt_unused o.homes o.bodies _ old.homes.items fresh.homes_are in
       record {
         injector = woke.tickets.same.injector ∙ ap (λ (k : EntryKnown). k.injector) fresh.entry_is;
         parts = woke.tickets.same.parts ∙ ap (λ (k : EntryKnown). k.hand.parts) fresh.entry_is;
-        held = subst (λ t. AreHeld o.homes t 1 j.homes.items) total
-            (held_after o.homes (length run.before + length run.before_jobs) old.homes.items j.homes.items fresh.homes_are woke.tickets.steps woke.homes);
+        held = subst (λ t. AreHeld o.homes o.bodies t 1 j.homes.items) total
+            (held_after o.homes o.bodies (length run.before + length run.before_jobs) old.homes.items j.homes.items fresh.homes_are woke.tickets.steps woke.homes);
         kept = (run.woke.each number old j was.1 e).0;
         account = record {
           made = λ weight.
@@ -197,7 +197,7 @@ module _ {B : Type 0} {g : Ghosts B} {S : List (Scheduler B g)} {J : List (JobSe
     pub queue : QueueFrom run.opened.deques run.opened.injector left (length S - left) (all_parts - length S) all.run
     pub entry_later : 0 < left → all.run.entry.hand.parts + left ≡ length S
     pub entry_whole : left ≡ 0 → all.run.entry.hand.parts + left_jobs ≡ all_parts
-    pub held : AreHeld run.opened.homes (length S + length J) (length S - left + (length J - left_jobs)) all.homes.items
+    pub held : AreHeld run.opened.homes run.opened.bodies (length S + length J) (length S - left + (length J - left_jobs)) all.homes.items
     pub word : all.over.word ≡ run.opened.word
     pub kept : List Ticket
     pub strange : List Ticket
@@ -218,7 +218,7 @@ module _ {B : Type 0} {g : Ghosts B} {S : List (Scheduler B g)} {J : List (JobSe
             (from_last run.opened.deques run.opened.injector left (all_parts - length S) s.seats.run part.queue (let d = z.0 in omega arith));
         entry_later = λ some. (let p = parts_later (length S) (length J) left _ some part.entry in omega arith);
         entry_whole = λ none. (let p = parts_first (length S) (length J) left _ none part.entry in let f = z.1 in omega arith);
-        held = subst (λ n. AreHeld run.opened.homes (length S + length J) n s.seats.homes.items) (let one : 1 ≡ length S - left + (length J - length J) = omega arith in one) part.held;
+        held = subst (λ n. AreHeld run.opened.homes run.opened.bodies (length S + length J) n s.seats.homes.items) (let one : 1 ≡ length S - left + (length J - length J) = omega arith in one) part.held;
         word = part.word;
         kept = part.kept;
         strange = part.strange;
@@ -238,7 +238,7 @@ module _ {B : Type 0} {g : Ghosts B} {S : List (Scheduler B g)} {J : List (JobSe
       let within = slice_get_within S left s e in
       let rest = all_parts - length S in
       let apart = owners_apart run.opened.deques run.opened.injector left _ rest all.run s.seats.run before.queue part.queue in
-      let ports = same_ports run.opened.homes _ _ _ all.homes.items s.seats.homes.items before.held part.held in
+      let ports = same_ports run.opened.homes run.opened.bodies _ _ _ all.homes.items s.seats.homes.items before.held part.held in
       record {
         queue = subst (λ r. QueueFrom run.opened.deques run.opened.injector left (length S - left) rest r) (sym queue)
             (subst (λ n. QueueFrom run.opened.deques run.opened.injector left n rest (joined_seat all.run s.seats.run)) (let one : length S - (left + 1) + 1 ≡ length S - left = omega arith in one)
@@ -254,10 +254,10 @@ module _ {B : Type 0} {g : Ghosts B} {S : List (Scheduler B g)} {J : List (JobSe
             let f = z.1 in
             let now : new.run.entry.hand.parts ≡ all.run.entry.hand.parts + s.seats.run.entry.hand.parts = ap (λ (r : RunKnown). r.entry.hand.parts) queue in
             omega arith);
-        held = subst (λ m. AreHeld run.opened.homes (length S + length J) (length S - left + (length J - length J)) m) (sym homes)
-            (subst (λ n. AreHeld run.opened.homes (length S + length J) n (joined_homes all.homes.items s.seats.homes.items))
+        held = subst (λ m. AreHeld run.opened.homes run.opened.bodies (length S + length J) (length S - left + (length J - length J)) m) (sym homes)
+            (subst (λ n. AreHeld run.opened.homes run.opened.bodies (length S + length J) n (joined_homes all.homes.items s.seats.homes.items))
             (let one : length S - (left + 1) + (length J - length J) + 1 ≡ length S - left + (length J - length J) = omega arith in one)
-            (held_both run.opened.homes _ _ _ all.homes.items s.seats.homes.items before.held part.held));
+            (held_both run.opened.homes run.opened.bodies _ _ _ all.homes.items s.seats.homes.items before.held part.held));
         word = word ∙ before.word;
         kept = before.kept ++ part.kept;
         strange = before.strange ++ part.strange;
@@ -278,7 +278,7 @@ module _ {B : Type 0} {g : Ghosts B} {S : List (Scheduler B g)} {J : List (JobSe
       let within = slice_get_within J left j e in
       let q = before.queue in
       let rest = all_parts - length S in
-      let ports = same_ports run.opened.homes _ _ _ all.homes.items j.homes.items before.held part.held in
+      let ports = same_ports run.opened.homes run.opened.bodies _ _ _ all.homes.items j.homes.items before.held part.held in
       record {
         queue = subst (λ r. QueueFrom run.opened.deques run.opened.injector 0 (length S - 0) rest r) (sym queue)
             (record { ids_are = q.ids_are; injector_is = q.injector_is; seats_are = q.seats_are; below = q.below; above = q.above });
@@ -288,10 +288,10 @@ module _ {B : Type 0} {g : Ghosts B} {S : List (Scheduler B g)} {J : List (JobSe
             let p = part.parts in
             let now : new.run.entry.hand.parts ≡ all.run.entry.hand.parts + j.entry.hand.parts = ap (λ (r : RunKnown). r.entry.hand.parts) queue in
             omega arith);
-        held = subst (λ m. AreHeld run.opened.homes (length S + length J) (length S - 0 + (length J - left)) m) (sym homes)
-            (subst (λ n. AreHeld run.opened.homes (length S + length J) n (joined_homes all.homes.items j.homes.items))
+        held = subst (λ m. AreHeld run.opened.homes run.opened.bodies (length S + length J) (length S - 0 + (length J - left)) m) (sym homes)
+            (subst (λ n. AreHeld run.opened.homes run.opened.bodies (length S + length J) n (joined_homes all.homes.items j.homes.items))
             (let one : length S - 0 + (length J - (left + 1)) + 1 ≡ length S - 0 + (length J - left) = omega arith in one)
-            (held_both run.opened.homes _ _ _ all.homes.items j.homes.items before.held part.held));
+            (held_both run.opened.homes run.opened.bodies _ _ _ all.homes.items j.homes.items before.held part.held));
         word = word ∙ before.word;
         kept = before.kept ++ part.kept;
         strange = before.strange;
@@ -315,7 +315,7 @@ module _ {B : Type 0} {g : Ghosts B} {S : List (Scheduler B g)} {J : List (JobSe
   can_join_part run gone left all s e before =
       let part = part_of run left s e in
       let within = slice_get_within S left s e in (
-        can_join_homes run.opened.homes _ _ _ all.homes.items s.seats.homes.items before.held part.held,
+        can_join_homes run.opened.homes run.opened.bodies _ _ _ all.homes.items s.seats.homes.items before.held part.held,
         of_one_queue run.opened.deques run.opened.injector left _ _ all.run s.seats.run before.queue part.queue (let d = (sizes run).0 in omega arith),
         part.word ∙ sym before.word,
       )
@@ -324,7 +324,7 @@ module _ {B : Type 0} {g : Ghosts B} {S : List (Scheduler B g)} {J : List (JobSe
       → Gathered run gone gone_jobs 0 (left + 1) all → CanJoinHomes all.homes.items j.homes.items × (j.entry.injector ≡ all.run.entry.injector)
   can_join_job run gone gone_jobs left all j e before =
       let part = job_part_of run left j e in (
-        can_join_homes run.opened.homes _ _ _ all.homes.items j.homes.items before.held part.held,
+        can_join_homes run.opened.homes run.opened.bodies _ _ _ all.homes.items j.homes.items before.held part.held,
         part.injector ∙ sym before.queue.injector_is,
       )
 
@@ -342,8 +342,11 @@ module _ {B : Type 0} {g : Ghosts B} {S : List (Scheduler B g)} {J : List (JobSe
       subst (λ (l : List (JobSeats B g)). Gathered run S l 0 0 all) whole (subst (λ n. Gathered run S gone 0 n all) none is)
 
   pub gathered_whole : (run : HasRun S J) (all : SchedSeats B g) → Gathered run S J 0 0 all → All IsWhole all.homes.items
-  gathered_whole run all is = held_whole run.opened.homes (length S + length J) all.homes.items
-      (subst (λ n. AreHeld run.opened.homes (length S + length J) n all.homes.items) (let one : length S - 0 + (length J - 0) ≡ length S + length J = omega arith in one) is.held)
+  gathered_whole run all is = held_whole run.opened.homes run.opened.bodies (length S + length J) all.homes.items
+      (subst (λ n. AreHeld run.opened.homes run.opened.bodies (length S + length J) n all.homes.items) (let one : length S - 0 + (length J - 0) ≡ length S + length J = omega arith in one) is.held)
+
+  pub gathered_homes : (all : SchedSeats B g) → ((run : HasRun S J) → Gathered run S J 0 0 all) → HomesOfRun S J all.homes.items
+  gathered_homes all each run = homes_of run.opened.homes run.opened.bodies _ _ all.homes.items run.opened.each_home (each run).held
 
   -- no ticket was of no port
   none_strange : (run : HasRun S J) (all : SchedSeats B g) (is : Gathered run S J 0 0 all) (left : List Ticket) → IsLeftOf all.run left → is.strange ≡ []

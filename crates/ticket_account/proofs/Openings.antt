@@ -23,7 +23,7 @@ use Rattle.port_sched.specs.declared.schedulers.Scheduler.{Scheduler}
 use Rattle.port_sched.specs.declared.waking.JobSeats.{JobSeats}
 use Rattle.port_sched.specs.Homes.{AreHomes}
 use Rattle.port_sched.specs.Schedulers.{CanBegin}
-use Rattle.ticket_account.specs.Run.{IsDealt, AreDealt, IsOpened}
+use Rattle.ticket_account.specs.Run.{IsDealt, AreDealt, IsOpenedFor}
 use Rattle.ticket_account.specs.Opening.{IsOther, IsCounted, ArePlaces, GivesEach, AreAlike, IsSeated, AreSeated, IsJobSeat, AreJobSeats, IsReadyJob}
 use Rattle.ticket_account.proofs.Seats.{found_at}
 
@@ -110,35 +110,37 @@ module _ {H : Type 0} where
   get_alike (suc n) (suc count) x k e = get_alike n count x k e
 
 module _ {B : Type 0} where
-  fresh_dealt : (homes : List TableId) (home : TableId) (first : Snapshot B) (seats port : ℕ) → slice_get homes port ≡ Some home
-      → IsDealt homes seats port (home_known home port (fresh_view (Some first) seats 1))
-  fresh_dealt homes home first seats port at = record { home = at; port_is = refl; rests = refl; share = refl; seats_are = refl; unused = (refl, refl, refl) }
+  fresh_dealt : (homes : List TableId) (bodies : List B) (home : TableId) (first : Snapshot B) (seats port : ℕ) → slice_get homes port ≡ Some home → slice_get bodies port ≡ Some first.value
+      → IsDealt homes bodies seats port (home_known home port (fresh_view (Some first) seats 1))
+  fresh_dealt homes bodies home first seats port at stands = record { home = at; home_of = record { first = first; fixed = refl; made_with = stands }; port_is = refl; rests = refl; share = refl; seats_are = refl; unused = (refl, refl, refl) }
 
-  pub alike_none : (seats : ℕ) (rows : List (List (HomeKnown B))) → All (λ r. r ≡ []) rows → AreAlike seats 0 rows
+  pub alike_none : (seats : ℕ) (rows : List (List (HomeKnown B))) → All (λ r. r ≡ []) rows → AreAlike seats [] rows
   alike_none seats rows all = record { homes = []; many = refl; row = []; dealt = (refl, λ port s e. absurd (none-some s e)); same = all }
 
   pub alike_more : (seats port : ℕ) (body : B) (all : List (HomeKnown B)) (rows rows' : List (List (HomeKnown B))) → length rows ≡ seats → AreSeatsOf port body seats all → GivesEach all rows rows'
-      → AreAlike seats port rows → AreAlike seats (port + 1) rows'
-  alike_more seats port body all rows rows' many are gives alike =
+      → (bodies : List B) → length bodies ≡ port → AreAlike seats bodies rows → AreAlike seats (bodies ++ body ∷ []) rows'
+  alike_more seats port body all rows rows' many are gives bodies so_many alike =
       let s = home_known are.home port (fresh_view (Some are.first) seats 1) in
       let homes = alike.homes ++ are.home ∷ [] in
       let row = alike.row ++ s ∷ [] in
-      let count : length alike.row ≡ port = alike.dealt.0 ∙ alike.many in
+      let count : length alike.row ≡ port = alike.dealt.0 ∙ alike.many ∙ so_many in
       let now : rows' ≡ map (λ r. r ++ s ∷ []) rows = gives s (are.dealt ∙ ap (λ n. replicate n s) (sym many)) in
       record {
         homes = homes;
-        many = length-append alike.homes (are.home ∷ []) ∙ ap (λ n. n + 1) alike.many;
+        many = length-append alike.homes (are.home ∷ []) ∙ ap (λ n. n + 1) alike.many ∙ sym (length-append bodies (body ∷ []));
         row = row;
         dealt = (
           length-append alike.row (s ∷ []) ∙ ap (λ n. n + 1) alike.dealt.0 ∙ sym (length-append alike.homes (are.home ∷ [])),
           λ p t e. ⊎_elim
               (λ (before : slice_get alike.row p ≡ Some t).
               let d = alike.dealt.1 p t before in
-              record { home = get_before alike.homes are.home t.home p d.home; port_is = d.port_is; rests = d.rests; share = d.share; seats_are = d.seats_are; unused = d.unused })
+              record { home = get_before alike.homes are.home t.home p d.home; home_of = record { first = d.home_of.first; fixed = d.home_of.fixed; made_with = get_before bodies body _ p d.home_of.made_with }; port_is = d.port_is; rests = d.rests; share = d.share; seats_are = d.seats_are; unused = d.unused })
               (λ (last : (p ≡ length alike.row) × (t ≡ s)).
               let at : p ≡ port = last.0 ∙ count in
-              let stands : slice_get homes port ≡ Some are.home = ap (slice_get homes) (sym alike.many) ∙ get_last alike.homes are.home in
-              subst (λ (u : HomeKnown B). IsDealt homes seats p u) (sym last.1) (subst (λ n. IsDealt homes seats n s) (sym at) (fresh_dealt homes are.home are.first seats port stands)))
+              let stands : slice_get homes port ≡ Some are.home = ap (slice_get homes) (sym (alike.many ∙ so_many)) ∙ get_last alike.homes are.home in
+              let mine : slice_get (bodies ++ body ∷ []) port ≡ Some are.first.value = ap (slice_get (bodies ++ body ∷ [])) (sym so_many) ∙ get_last bodies body ∙ ap Some (sym are.made_with) in
+              subst (λ (u : HomeKnown B). IsDealt homes (bodies ++ body ∷ []) seats p u) (sym last.1)
+                  (subst (λ n. IsDealt homes (bodies ++ body ∷ []) seats n s) (sym at) (fresh_dealt homes (bodies ++ body ∷ []) are.home are.first seats port stands mine)))
               (get_push alike.row s t p e),
         );
         same = All-same (λ r. r ≡ row) rows' (map (λ r. r ++ s ∷ []) rows) now
@@ -146,8 +148,8 @@ module _ {B : Type 0} where
       }
 
   -- the seats that were dealt rest, each in its place
-  pub dealt_homes : (homes : List TableId) (seats : ℕ) (mine : List (HomeKnown B)) → AreDealt homes seats mine → AreHomes mine
-  dealt_homes homes seats mine dealt port s e = let d = dealt.1 port s e in (d.port_is, d.rests)
+  pub dealt_homes : (homes : List TableId) (bodies : List B) (seats : ℕ) (mine : List (HomeKnown B)) → AreDealt homes bodies seats mine → AreHomes mine
+  dealt_homes homes bodies seats mine dealt port s e = let d = dealt.1 port s e in (d.port_is, d.rests)
 
 -- the last row of rows that are all alike
 pub pop_row : {V H : Type 0} (items : V → List H) (old rest : List V) (x : V) (row : List H) → old ≡ rest ++ x ∷ [] → All (λ r. r ≡ row) (map items old)
@@ -195,18 +197,20 @@ module _ {B : Type 0} {g : Ghosts B} where
   )
 
   -- what was seated are the seats of one run
-  pub opened : (schedulers jobs : ℕ) (runs : List RunKnown) (entries : List EntryKnown) (row : List (HomeKnown (Lodger B g))) (homes : List TableId) (word : TableId)
-      (all : List (Scheduler B g)) (others : List (JobSeats B g)) → 0 < schedulers → jobs + schedulers ≤ 2 ^ 32 → AreSeats schedulers jobs runs entries → AreDealt homes (schedulers + jobs) row
-      → AreSeated runs row word all → AreJobSeats entries row others → IsOpened all others
-  opened schedulers jobs runs entries row homes word all others some few are dealt seated job_seats =
+  pub opened : (schedulers jobs : ℕ) (runs : List RunKnown) (entries : List EntryKnown) (row : List (HomeKnown (Lodger B g))) (homes : List TableId) (bodies : List (Lodger B g)) (word : TableId)
+      (all : List (Scheduler B g)) (others : List (JobSeats B g)) → 0 < schedulers → jobs + schedulers ≤ 2 ^ 32 → AreSeats schedulers jobs runs entries → length homes ≡ length bodies → AreDealt homes bodies (schedulers + jobs) row
+      → AreSeated runs row word all → AreJobSeats entries row others → (given : List B) → map (λ l. l.body) bodies ≡ given → IsOpenedFor given all others
+  opened schedulers jobs runs entries row homes bodies word all others some few are each_home dealt seated job_seats given stand =
       let many : length all ≡ schedulers = seated.0 ∙ are.seats_count in
       let ends_many : length entries ≡ jobs = ap length are.ends ∙ alike_length jobs (entry_known are.injector (hand 1 [] [])) in
       let jobs_many : length others ≡ jobs = job_seats.0 ∙ ends_many in
       let total : schedulers + jobs ≡ length all + length others = omega arith in
-      record {
+      (record {
         deques = are.deques;
         injector = are.injector;
         homes = homes;
+        bodies = bodies;
+        each_home = each_home;
         word = word;
         some = omega arith;
         deques_count = are.deques_count ∙ sym many;
@@ -216,7 +220,7 @@ module _ {B : Type 0} {g : Ghosts B} where
             let seat = seated.1 n run.0 s run.1 e in
             record {
               run = seat.run_is ∙ are.each n run.0 run.1 ∙ (λ i. fresh_at are.deques are.injector n (sym many i) (sym jobs_many i));
-              homes_are = subst (λ l. AreDealt homes (length all + length others) l) (sym seat.homes_are) (subst (λ t. AreDealt homes t row) total dealt);
+              homes_are = subst (λ l. AreDealt homes bodies (length all + length others) l) (sym seat.homes_are) (subst (λ t. AreDealt homes bodies t row) total dealt);
               over = seat.over.word_is;
             };
         each_job = λ n j e.
@@ -224,32 +228,32 @@ module _ {B : Type 0} {g : Ghosts B} where
             let seat = job_seats.1 n entry.0 j entry.1 e in
             record {
               entry_is = seat.entry_is ∙ get_alike n jobs _ entry.0 (ap (λ l. slice_get l n) (sym are.ends) ∙ entry.1);
-              homes_are = subst (λ l. AreDealt homes (length all + length others) l) (sym seat.homes_are) (subst (λ t. AreDealt homes t row) total dealt);
+              homes_are = subst (λ l. AreDealt homes bodies (length all + length others) l) (sym seat.homes_are) (subst (λ t. AreDealt homes bodies t row) total dealt);
             };
-      }
+      }, stand)
     where
       fresh_at : (deques : List RowsId) (injector : WebId) (n schedulers jobs : ℕ) → RunKnown
       fresh_at deques injector n schedulers jobs = seats.fresh_seat deques injector n (entry_parts schedulers jobs n)
 
   -- each scheduler can begin
-  pub can_begin : (runs : List RunKnown) (row : List (HomeKnown (Lodger B g))) (homes : List TableId) (seats : ℕ) (word : TableId) (all : List (Scheduler B g)) → AreDealt homes seats row → length row ≤ 2 ^ 32
+  pub can_begin : (runs : List RunKnown) (row : List (HomeKnown (Lodger B g))) (homes : List TableId) (bodies : List (Lodger B g)) (seats : ℕ) (word : TableId) (all : List (Scheduler B g)) → AreDealt homes bodies seats row → length row ≤ 2 ^ 32
       → AreSeated runs row word all → All CanBegin all
-  can_begin runs row homes seats word all dealt few seated = all_from_get CanBegin all (λ n s e.
+  can_begin runs row homes bodies seats word all dealt few seated = all_from_get CanBegin all (λ n s e.
       let run = found_at runs n (let w = slice_get_within all n s e in let c = seated.0 in omega arith) in
       let seat = seated.1 n run.0 s run.1 e in
       record {
-        homes = subst AreHomes (sym seat.homes_are) (dealt_homes homes seats row dealt);
+        homes = subst AreHomes (sym seat.homes_are) (dealt_homes homes bodies seats row dealt);
         few = (let l = ap length seat.homes_are in omega arith);
         stop = seat.over.runs;
       })
 
   -- and each job can wake each port
-  pub ready_jobs : (ports : ℕ) (entries : List EntryKnown) (row : List (HomeKnown (Lodger B g))) (homes : List TableId) (seats : ℕ) (all : List (JobSeats B g)) → AreDealt homes seats row → length homes ≡ ports
+  pub ready_jobs : (ports : ℕ) (entries : List EntryKnown) (row : List (HomeKnown (Lodger B g))) (homes : List TableId) (bodies : List (Lodger B g)) (seats : ℕ) (all : List (JobSeats B g)) → AreDealt homes bodies seats row → length homes ≡ ports
       → AreJobSeats entries row all → All (IsReadyJob ports) all
-  ready_jobs ports entries row homes seats all dealt many job_seats = all_from_get (IsReadyJob ports) all (λ n j e.
+  ready_jobs ports entries row homes bodies seats all dealt many job_seats = all_from_get (IsReadyJob ports) all (λ n j e.
       let entry = found_at entries n (let w = slice_get_within all n j e in let c = job_seats.0 in omega arith) in
       let seat = job_seats.1 n entry.0 j entry.1 e in
       record {
         many = ap length seat.homes_are ∙ dealt.0 ∙ many;
-        homes_are = subst AreHomes (sym seat.homes_are) (dealt_homes homes seats row dealt);
+        homes_are = subst AreHomes (sym seat.homes_are) (dealt_homes homes bodies seats row dealt);
       })

@@ -6,9 +6,11 @@ use Rattle.std.proofs.lemmas.List.Sums.{sum_by-cons}
 use Rattle.std.proofs.lemmas.Option.{same_Some, none-some, slice_get_within}
 use mathlib.Core.Logic.{dite}
 use native.Mathlib.Decide.{ℕ_discrete}
+use Rattle.std.specs.declared.snapshot.Snapshot.{Snapshot}
 use Rattle.atomic_blocks.specs.Laid.{WebId}
 use Rattle.atomic_blocks.specs.Lent.{RowsId}
 use Rattle.atomic_table.specs.Seated.{TableId}
+use Rattle.port_words.specs.home.Home.{IsNamed}
 use Rattle.port_words.specs.home.Seats.{HomeKnown}
 use Rattle.run_queue.specs.declared.account.Hand.{Hand}
 use Rattle.run_queue.specs.Account.{hand, all_parts, parts_of}
@@ -18,7 +20,7 @@ use Rattle.port_sched.specs.Homes.{AreHomes, HomesStep}
 use Rattle.port_sched.specs.Closing.{joined_home, joined_homes, CanJoinHomes, IsWhole}
 use Rattle.port_sched.specs.Tickets.{has_owner, parts_in, IsSameSeat}
 use Rattle.ticket_account.specs.Account.{AreOfSamePorts, OwnersApart}
-use Rattle.ticket_account.specs.Run.{AreDealt}
+use Rattle.ticket_account.specs.Run.{IsHomeOf, AreHomesOf, AreDealt, KeepNames}
 use Rattle.ticket_account.proofs.Sums.{own_add}
 
 module _ {A C : Type 0} where
@@ -234,19 +236,20 @@ has_all ids injector count rest s all whole = all_from_get HasAll s.deques (λ m
 
 module _ {B : Type 0} where
   -- a seat of the home of this port that rests, with so many of its shares
-  pub record IsHeld (homes : List TableId) (seats shares port : ℕ) (s : HomeKnown B) : Type 0 where
+  pub record IsHeld (homes : List TableId) (bodies : List B) (seats shares port : ℕ) (s : HomeKnown B) : Type 0 where
     pub home : slice_get homes port ≡ Some s.home
+    pub home_of : IsHomeOf bodies port s
     pub port_is : s.port ≡ port
     pub rests : s.known.running ≡ None
     pub shares_are : s.known.shares ≡ shares
     pub seats_are : s.known.seats ≡ seats
 
-  abbrev pub AreHeld : List TableId → ℕ → ℕ → List (HomeKnown B) → Type 0
-  AreHeld homes seats shares mine = (length mine ≡ length homes) × ((port : ℕ) (s : HomeKnown B) → slice_get mine port ≡ Some s → IsHeld homes seats shares port s)
+  abbrev pub AreHeld : List TableId → List B → ℕ → ℕ → List (HomeKnown B) → Type 0
+  AreHeld homes bodies seats shares mine = (length mine ≡ length homes) × ((port : ℕ) (s : HomeKnown B) → slice_get mine port ≡ Some s → IsHeld homes bodies seats shares port s)
 
   -- the seats that were dealt, after the run
-  pub held_after : (homes : List TableId) (seats : ℕ) (old new : List (HomeKnown B)) → AreDealt homes seats old → HomesStep old new → AreHomes new → AreHeld homes seats 1 new
-  held_after homes seats old new dealt steps rest = (
+  pub held_after : (homes : List TableId) (bodies : List B) (seats : ℕ) (old new : List (HomeKnown B)) → AreDealt homes bodies seats old → HomesStep old new → AreHomes new → AreHeld homes bodies seats 1 new
+  held_after homes bodies seats old new dealt steps rest = (
     steps.count ∙ dealt.0,
     λ port s e.
         let was = found_at old port (let w = slice_get_within new port s e in let c = steps.count in omega arith) in
@@ -254,6 +257,7 @@ module _ {B : Type 0} where
         let d = dealt.1 port was.0 was.1 in
         record {
           home = d.home ∙ ap Some (sym same.home);
+          home_of = record { first = d.home_of.first; fixed = same.body ∙ d.home_of.fixed; made_with = d.home_of.made_with };
           port_is = (rest port s e).0;
           rests = (rest port s e).1;
           shares_are = same.shares ∙ d.share;
@@ -273,15 +277,17 @@ module _ {B : Type 0} where
   homes_size (v ∷ vs) [] = refl
   homes_size (v ∷ vs) (w ∷ ws) = ap suc (homes_size vs ws)
 
-  pub held_both : (homes : List TableId) (seats a b : ℕ) (vs ws : List (HomeKnown B)) → AreHeld homes seats a vs → AreHeld homes seats b ws → AreHeld homes seats (a + b) (joined_homes vs ws)
-  held_both homes seats a b vs ws one two = (
+  pub held_both : (homes : List TableId) (bodies : List B) (seats a b : ℕ) (vs ws : List (HomeKnown B)) → AreHeld homes bodies seats a vs → AreHeld homes bodies seats b ws
+      → AreHeld homes bodies seats (a + b) (joined_homes vs ws)
+  held_both homes bodies seats a b vs ws one two = (
     homes_size vs ws ∙ one.0,
     λ m k e.
         let at = homes_at vs ws m k (two.0 ∙ sym one.0) e in
         let v = one.1 m at.0 at.2 in
         let w = two.1 m at.1 at.3 in
-        subst (IsHeld homes seats (a + b) m) at.4 (record {
+        subst (IsHeld homes bodies seats (a + b) m) at.4 (record {
           home = v.home;
+          home_of = record { first = v.home_of.first; fixed = v.home_of.fixed; made_with = v.home_of.made_with };
           port_is = v.port_is;
           rests = v.rests;
           shares_are = (let x = v.shares_are in let y = w.shares_are in omega arith);
@@ -289,19 +295,40 @@ module _ {B : Type 0} where
         }),
   )
 
-  pub can_join_homes : (homes : List TableId) (seats a b : ℕ) (vs ws : List (HomeKnown B)) → AreHeld homes seats a vs → AreHeld homes seats b ws → CanJoinHomes vs ws
-  can_join_homes homes seats a b vs ws one two = (
+  pub can_join_homes : (homes : List TableId) (bodies : List B) (seats a b : ℕ) (vs ws : List (HomeKnown B)) → AreHeld homes bodies seats a vs → AreHeld homes bodies seats b ws → CanJoinHomes vs ws
+  can_join_homes homes bodies seats a b vs ws one two = (
     two.0 ∙ sym one.0,
     λ n v w here there. (same_Some w.home v.home (sym (two.1 n w there).home ∙ (one.1 n v here).home), (two.1 n w there).rests),
   )
 
-  pub same_ports : (homes : List TableId) (seats a b : ℕ) (vs ws : List (HomeKnown B)) → AreHeld homes seats a vs → AreHeld homes seats b ws → AreOfSamePorts vs ws
-  same_ports homes seats a b vs ws one two = (
+  pub same_ports : (homes : List TableId) (bodies : List B) (seats a b : ℕ) (vs ws : List (HomeKnown B)) → AreHeld homes bodies seats a vs → AreHeld homes bodies seats b ws → AreOfSamePorts vs ws
+  same_ports homes bodies seats a b vs ws one two = (
     two.0 ∙ sym one.0,
     λ n v w here there. (two.1 n w there).port_is ∙ sym (one.1 n v here).port_is,
   )
 
-  pub held_whole : (homes : List TableId) (seats : ℕ) (mine : List (HomeKnown B)) → AreHeld homes seats seats mine → All IsWhole mine
-  held_whole homes seats mine held = all_from_get IsWhole mine (λ n s e.
+  pub held_whole : (homes : List TableId) (bodies : List B) (seats : ℕ) (mine : List (HomeKnown B)) → AreHeld homes bodies seats seats mine → All IsWhole mine
+  held_whole homes bodies seats mine held = all_from_get IsWhole mine (λ n s e.
       let h = held.1 n s e in
       (h.shares_are ∙ sym h.seats_are, h.rests))
+
+  pub homes_of : (homes : List TableId) (bodies : List B) (seats shares : ℕ) (mine : List (HomeKnown B)) → length homes ≡ length bodies → AreHeld homes bodies seats shares mine → AreHomesOf bodies mine
+  homes_of homes bodies seats shares mine many held = (held.0 ∙ many, λ port s e. (held.1 port s e).home_of)
+
+  -- the bodies that come out have the names of those that went in
+  pub keep_names : {N : Type 0} (name : B → N) → KeepNames name
+  keep_names name [] [] [] are last = refl
+  keep_names name [] (x ∷ xs) [] are last = absurd last
+  keep_names name (b ∷ bs) [] [] are last = absurd (let l = are.0 in omega arith)
+  keep_names name (b ∷ bs) (x ∷ xs) [] are last = absurd last
+  keep_names name [] last (h ∷ hs) are is_last = absurd (let l = are.0 in omega arith)
+  keep_names name (b ∷ bs) [] (h ∷ hs) are last = absurd last
+  keep_names name (b ∷ bs) (x ∷ xs) (h ∷ hs) are last =
+      let of = are.1 0 h refl in
+      let here : name x ≡ name of.first.value = subst (λ (o : Option (Snapshot B)). IsNamed name o x) of.fixed last.0.0 in
+      let same : of.first.value ≡ b = same_Some of.first.value b (sym of.made_with) in
+      let rest = keep_names name bs xs hs (
+        (let l = are.0 in omega arith),
+        λ p s e. (let o = are.1 (suc p) s e in record { first = o.first; fixed = o.fixed; made_with = o.made_with }),
+      ) last.1 in
+      (λ i. (here ∙ ap name same) i ∷ rest i)

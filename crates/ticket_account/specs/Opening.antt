@@ -37,15 +37,19 @@ module _ {B : Type 0} where
   abbrev pub GivesEach : List (HomeKnown B) → List (List (HomeKnown B)) → List (List (HomeKnown B)) → Type 0
   GivesEach seats old new = (s : HomeKnown B) → seats ≡ replicate (length old) s → new ≡ map (λ row. row ++ s ∷ []) old
 
-  -- each has the same seats of the homes of so many ports
-  pub record AreAlike (seats ports : ℕ) (rows : List (List (HomeKnown B))) : Type 0 where
+  -- each has the same seats of the homes of these bodies
+  pub record AreAlike (seats : ℕ) (bodies : List B) (rows : List (List (HomeKnown B))) : Type 0 where
     pub homes : List TableId
-    pub many : length homes ≡ ports
+    pub many : length homes ≡ length bodies
     pub row : List (HomeKnown B)
-    pub dealt : AreDealt homes seats row
+    pub dealt : AreDealt homes bodies seats row
     pub same : All (λ r. r ≡ row) rows
 
 module _ {B : Type 0} {g : Ghosts B} where
+  -- homes in which these bodies stand
+  abbrev pub HomesOfBodies : ℕ → List B → List (List (HomeKnown (Lodger B g))) → Type 0
+  HomesOfBodies seats bodies rows = (lodgers : List (Lodger B g)) × (map (λ l. l.body) lodgers ≡ bodies) × AreAlike seats lodgers rows
+
   -- the seats of queues got seats of homes and of OVER, each in its place
   pub record IsSeated (run : RunKnown) (row : List (HomeKnown (Lodger B g))) (word : TableId) (s : Scheduler B g) : Type 0 where
     pub run_is : s.seats.run ≡ run

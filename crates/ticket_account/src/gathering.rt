@@ -1,7 +1,7 @@
 // The end of a run: the seats of all its jobs are joined, and its queues end.
 ghost use Rattle.std.specs.Prelude.{All};
 ghost use Rattle.port_sched.specs.Closing.{IsWhole};
-ghost use Rattle.ticket_account.specs.Run.{HasRun, IsSettled};
+ghost use Rattle.ticket_account.specs.Run.{HasRun, HomesOfRun, IsSettled};
 
 use port_sched::{JobSeats, Lodger, PortBody, Scheduler};
 use port_words::home::HomeSeat;
@@ -16,6 +16,7 @@ pub fn gather<B: PortBody, R: Wait>(
 ) -> Vec<HomeSeat<Lodger<B>>>
     requires { HasRun schedulers.items jobs.items }
     ensures whole { All IsWhole result.items }
+    ensures homes { HomesOfRun schedulers.items jobs.items result.items }
     ensures tickets { IsSettled schedulers.items jobs.items result.items }
 {
     let Some(last) = schedulers.pop() else {

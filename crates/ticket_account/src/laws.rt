@@ -1,4 +1,5 @@
 ghost use Rattle.ticket_account.specs.Account.{HomesAddUp, SeatsAddUp, EndsAddUp, NewSeatIsUnused, NewAccount, ServedAccount, JoinedAccount, JoinedJobAccount, EachTicketOnce};
+ghost use Rattle.ticket_account.specs.Run.{KeepNames};
 
 use port_words::home::Lodged;
 
@@ -18,4 +19,9 @@ pub fn each_ticket_once_at_the_end<B: Lodged>()
     ensures joined { JoinedAccount B }
     ensures jobs { JoinedJobAccount B }
     ensures once { EachTicketOnce B }
+{}
+
+/// The bodies that come out of the homes of a run have the names of those that it was opened for.
+pub fn bodies_keep_their_names<B: Lodged>()
+    ensures { KeepNames B.name }
 {}

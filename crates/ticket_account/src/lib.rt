@@ -8,6 +8,6 @@ mod laws;
 mod opening;
 
 pub use gathering::gather;
-pub use laws::{each_ticket_once_at_the_end, seats_add_up_at_each_join};
+pub use laws::{bodies_keep_their_names, each_ticket_once_at_the_end, seats_add_up_at_each_join};
 pub use no_memory::NoMemory;
 pub use opening::{Opened, RunSize, open_run};

@@ -4,8 +4,8 @@ ghost use Rattle.atomic_table.specs.Seated.{TableId};
 ghost use Rattle.port_words.specs.home.Seats.{HomeKnown};
 ghost use Rattle.run_queue.specs.Seats.{changed_at};
 ghost use Rattle.port_sched.specs.Schedulers.{CanBegin};
-ghost use Rattle.ticket_account.specs.Run.{IsOpened};
-ghost use Rattle.ticket_account.specs.Opening.{IsCounted, IsOther, ArePlaces, AreAlike, GivesEach, AreSeated, AreJobSeats, IsReadyJob};
+ghost use Rattle.ticket_account.specs.Run.{IsOpenedFor};
+ghost use Rattle.ticket_account.specs.Opening.{IsCounted, IsOther, ArePlaces, AreAlike, HomesOfBodies, GivesEach, AreSeated, AreJobSeats, IsReadyJob};
 
 use no_memory::NoMemory;
 use port_sched::{JobSeats, Lodger, PortBody, SchedSeats, Scheduler};
@@ -88,7 +88,8 @@ fn add_port<B: PortBody>(
     lodger: Lodger<B>,
 ) -> Result<(), NoMemory>
     requires some { (0 < length lists.old.items) × (length lists.old.items ≤ 1024) }
-    ensures alike { OnOk result (AreAlike (length lists.old.items) port (map (λ l. l.items) lists.old.items) → AreAlike (length lists.old.items) (port + 1) (map (λ l. l.items) lists.new.items)) }
+    ensures alike { OnOk result ((bodies : List (Lodger _ _)) → length bodies ≡ port → AreAlike (length lists.old.items) bodies (map (λ l. l.items) lists.old.items)
+        → AreAlike (length lists.old.items) (bodies ++ lodger ∷ []) (map (λ l. l.items) lists.new.items)) }
     ensures many { OnOk result (length lists.new.items ≡ length lists.old.items) }
 {
     match home(alloc, port, lodger, lists.len() as u32) {
@@ -118,7 +119,7 @@ fn deal_homes<B: PortBody>(
     requires jobs { (0 < jobs) × (jobs ≤ 1024) }
     requires places { (word : TableId) × All (IsCounted word) places.old.items }
     requires enough { (length bodies.items ≤ length places.old.items) × (length places.old.items ≤ 1024) }
-    ensures homes { IfOk result (λ lists. (length lists.items ≡ jobs) × AreAlike jobs (length bodies.items) (map (λ l. l.items) lists.items)) }
+    ensures homes { IfOk result (λ lists. (length lists.items ≡ jobs) × HomesOfBodies jobs bodies.items (map (λ l. l.items) lists.items)) }
     ensures places { OnOk result ((word : TableId) → All (IsCounted word) places.old.items → All (IsCounted word) places.new.items) }
     ensures left { OnOk result (length places.new.items + length bodies.items ≡ length places.old.items) }
 {
@@ -190,7 +191,7 @@ pub fn open_run<B: PortBody>(
 ) -> Result<Opened<B>, NoMemory>
     requires schedulers { (0 < size.schedulers) × (size.schedulers ≤ 16) }
     requires few { length bodies.items + size.schedulers + size.finishing + size.others ≤ 1024 }
-    ensures opened { IfOk result (λ o. IsOpened o.schedulers.items o.jobs.items) }
+    ensures opened { IfOk result (λ o. IsOpenedFor bodies.items o.schedulers.items o.jobs.items) }
     ensures schedulers { IfOk result (λ o. (length o.schedulers.items ≡ size.schedulers) × All CanBegin o.schedulers.items) }
     ensures jobs { IfOk result (λ o. (length o.jobs.items ≡ size.finishing + size.others) × All (IsReadyJob (length bodies.items)) o.jobs.items) }
     ensures places { IfOk result (λ o. ArePlaces size.finishing size.others o.finishing.items o.others.items) }

@@ -1,5 +1,5 @@
 use Rattle.std.proofs.Common.{◌≡◌, ◌∷◌, [], length, sym, ap, subst, append-nil, arith}
-use Rattle.ticket_account.proofs.Gathered.{Gathered, next_of, gathered_last, gathered_more, gathered_job, gathered_every, gathered_whole, gathered_settled, can_join_part, can_join_job, all_schedulers, all_jobs}
+use Rattle.ticket_account.proofs.Gathered.{Gathered, next_of, gathered_last, gathered_more, gathered_job, gathered_every, gathered_whole, gathered_homes, gathered_settled, can_join_part, can_join_job, all_schedulers, all_jobs}
 use Rattle.ticket_account.proofs.gathering.gather.Goals as goal
 
 pub schedulers-init : goal.schedulers-init
@@ -97,6 +97,12 @@ returns-clause-whole g c =
     let inv = c.jobs.invariant in
     let none : length c.jobs.jobs.items ≡ 0 = (let e = c.in_default-pop-2.ensures.cases.0 in let l = c.jobs.jobs.ok.0 in omega arith) in
     gathered_whole c.requires c.jobs.all (all_jobs c.requires inv.0 c.jobs.jobs.items c.jobs.all inv.1 none (inv.2 c.requires))
+
+pub returns-clause-homes : goal.returns-clause-homes
+returns-clause-homes g c =
+    let inv = c.jobs.invariant in
+    let none : length c.jobs.jobs.items ≡ 0 = (let e = c.in_default-pop-2.ensures.cases.0 in let l = c.jobs.jobs.ok.0 in omega arith) in
+    gathered_homes c.jobs.all (λ run. all_jobs run inv.0 c.jobs.jobs.items c.jobs.all inv.1 none (inv.2 run))
 
 pub returns-clause-tickets : goal.returns-clause-tickets
 returns-clause-tickets g c =

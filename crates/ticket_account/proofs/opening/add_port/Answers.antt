@@ -11,6 +11,6 @@ returns-in-Ok-clause-alike g c =
     let seats = length c.args.lists.now.items in
     let len : c.len.result ≡ seats = c.len.ensures ∙ c.args.lists.now.ok.0 in
     on_ok c.give_each.result
-    (λ gives alike. alike_more seats c.args.port c.args.lodger c.in-Ok.seats.items rows _ (map_length (λ v. v.items) c.args.lists.now.items)
-    (subst (λ n. AreSeatsOf c.args.port c.args.lodger n c.in-Ok.seats.items) len c.in-Ok.ensures.ok) gives alike)
+    (λ gives bodies many alike. alike_more seats c.args.port c.args.lodger c.in-Ok.seats.items rows _ (map_length (λ v. v.items) c.args.lists.now.items)
+    (subst (λ n. AreSeatsOf c.args.port c.args.lodger n c.in-Ok.seats.items) len c.in-Ok.ensures.ok) gives bodies many alike)
     c.give_each.ensures.each

@@ -1,6 +1,8 @@
-use Rattle.std.proofs.Common.{◌+◌, ◌∷◌, [], Some, map, length, sym, ap, ◌∙◌, subst, arith, length-append}
+use Rattle.std.proofs.Common.{◌≡◌, ◌+◌, ◌∷◌, ◌++◌, [], Some, map, length, sym, refl, ap, ◌∙◌, subst, arith, length-append, append_assoc, append-nil}
 use Rattle.std.proofs.lemmas.List.Elements.{All-pop}
-use Rattle.ticket_account.specs.Opening.{IsCounted, AreAlike}
+use Rattle.run_queue.proofs.EndLemmas.{map_push}
+use Rattle.ticket_account.specs.Opening.{IsCounted, AreAlike, HomesOfBodies}
+use Rattle.ticket_account.proofs.Gathered.{nil_of}
 use Rattle.ticket_account.proofs.Openings.{alike_none}
 use Rattle.ticket_account.proofs.opening.deal_homes.Goals as goal
 
@@ -14,7 +16,7 @@ ports-init g c =
       omega arith,
       (λ word all. all),
       c.in_ok-lists.ensures.0,
-      alike_none c.args.jobs (map (λ v. v.items) c.in_ok-lists.lists.items) c.in_ok-lists.ensures.1,
+      ([], refl, gives.0, alike_none c.args.jobs (map (λ v. v.items) c.in_ok-lists.lists.items) c.in_ok-lists.ensures.1),
     )
 
 pub new-requires-clause-counted : goal.new-requires-clause-counted
@@ -41,12 +43,27 @@ ports-preserved g c =
     let one = steps.1 in
     let was = inv.0 in
     let ports = inv.1 in
-    let places = inv.2 in (
+    let places = inv.2 in
+    let bodies = inv.5.0 in
+    let lodger = c.new.result in (
       omega arith,
       omega arith,
       omega arith,
       (λ word all. (All-pop (IsCounted word) c.ports.places.items c.pop.new.self.items (Some over) c.in-Some-pop.ensures.items (inv.3 word all)).0),
       c.in_ok-add_port.ensures.many ∙ inv.4,
-      subst (λ n. AreAlike n (c.ports.port + 1) (map (λ v. v.items) c.add_port.new.lists.items)) inv.4
-          (c.in_ok-add_port.ensures.alike (subst (λ n. AreAlike n c.ports.port (map (λ v. v.items) c.ports.lists.items)) (sym inv.4) inv.5)),
+      (
+        bodies ++ lodger ∷ [],
+        length-append bodies (lodger ∷ []) ∙ ap (λ n. n + 1) inv.5.1,
+        ap (λ l. l ++ rest) (map_push (λ b. b.body) bodies lodger) ∙ append_assoc (map (λ b. b.body) bodies) (lodger.body ∷ []) rest
+            ∙ ap (λ b. map (λ x. x.body) bodies ++ (b ∷ rest)) c.new.ensures.0 ∙ ap (λ l. map (λ x. x.body) bodies ++ l) (sym steps.0) ∙ inv.5.2,
+        subst (λ n. AreAlike n (bodies ++ lodger ∷ []) (map (λ v. v.items) c.add_port.new.lists.items)) inv.4
+            (c.in_ok-add_port.ensures.alike bodies inv.5.1 (subst (λ n. AreAlike n bodies (map (λ v. v.items) c.ports.lists.items)) (sym inv.4) inv.5.3)),
+      ),
     )
+
+pub returns-clause-homes : goal.returns-clause-homes
+returns-clause-homes g c =
+    let inv = c.ports.invariant in
+    let none : length c.ports.body-iterator.rest.items ≡ 0 = sym inv.0 ∙ c.in-None.ensures.steps.0 in
+    let whole = sym (append-nil (map (λ b. b.body) inv.5.0)) ∙ ap (λ l. map (λ b. b.body) inv.5.0 ++ l) (sym (nil_of c.ports.body-iterator.rest.items none)) ∙ inv.5.2 in
+    (inv.4, (inv.5.0, whole, inv.5.3))

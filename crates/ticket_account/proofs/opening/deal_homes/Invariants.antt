@@ -1,6 +1,7 @@
-use Rattle.std.proofs.Common.{◌≡◌, ◌+◌, length, map}
+use Rattle.std.proofs.Common.{◌≡◌, ◌+◌, ◌++◌, List, length, map}
 use Rattle.std.specs.List.{All}
 use Rattle.atomic_table.specs.Seated.{TableId}
+use Rattle.port_sched.specs.declared.lodger.Lodger.{Lodger}
 use Rattle.ticket_account.specs.Opening.{AreAlike, IsCounted}
 use Rattle.ticket_account.proofs.opening.deal_homes.Given as goal
 
@@ -11,4 +12,4 @@ invariant-ports g l =
     × (length l.places.items + l.port ≡ length l.fn.places.items)
     × ((word : TableId) → All (IsCounted word) l.fn.places.items → All (IsCounted word) l.places.items)
     × (length l.lists.items ≡ l.jobs)
-    × AreAlike l.jobs l.port (map (λ v. v.items) l.lists.items)
+    × ((lodgers : List (Lodger _ _)) × (length lodgers ≡ l.port) × (map (λ b. b.body) lodgers ++ l.body-iterator.rest.items ≡ l.fn.bodies.items) × AreAlike l.jobs lodgers (map (λ v. v.items) l.lists.items))
