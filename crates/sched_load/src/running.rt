@@ -85,7 +85,9 @@ pub fn run_load<G: Gate + Sync, R: Threads + Wait + Sync>(
         finishing: 0,
         others: size.jobs,
     };
-    let opened = open_run(alloc, tills, run)?;
+    let Ok(opened) = open_run(alloc, tills, run) else {
+        return Err(NoMemory);
+    };
     let jobs = putters(alloc, opened.jobs, lists, opened.others, size)?;
     let (schedulers, jobs) = run_owned(rt, gate, opened.schedulers, jobs);
     let all_done = all_done(&schedulers);

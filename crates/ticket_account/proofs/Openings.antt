@@ -1,7 +1,7 @@
 -- The seats of a run in the midst of being made.
-use Rattle.std.proofs.Common.{◌≡◌, ℕ, zero, suc, ◌+◌, ◌<◌, ◌≤◌, ◌^◌, List, [], ◌∷◌, ◌++◌, Some, map, length, take, drop, set, get_or, slice_get, replicate, sym, refl, ap, ◌∙◌, subst, arith, length-append, ⊎_elim}
+use Rattle.std.proofs.Common.{◌≡◌, ◌≢◌, ℕ, zero, suc, ◌+◌, ◌<◌, ◌≤◌, ◌^◌, List, [], ◌∷◌, ◌++◌, Some, map, length, take, drop, set, get_or, slice_get, replicate, sym, refl, ap, ◌∙◌, subst, arith, length-append, ⊎_elim}
 use Rattle.std.specs.List.{All}
-use Rattle.std.proofs.lemmas.List.Elements.{All-nil, All-cons, All-drop, All-pop, All-map, All-weaker, All-same}
+use Rattle.std.proofs.lemmas.List.Elements.{All-nil, All-cons, All-head, All-tail, All-drop, All-pop, All-map, All-weaker, All-same}
 use Rattle.std.proofs.lemmas.Option.{same_Some, none-some, slice_get_within}
 use Rattle.std.proofs.lemmas.Bool.Decides.{nat_tests}
 use Rattle.std.specs.declared.snapshot.Snapshot.{Snapshot}
@@ -112,7 +112,7 @@ module _ {H : Type 0} where
 module _ {B : Type 0} where
   fresh_dealt : (homes : List TableId) (bodies : List B) (home : TableId) (first : Snapshot B) (seats port : ℕ) → slice_get homes port ≡ Some home → slice_get bodies port ≡ Some first.value
       → IsDealt homes bodies seats port (home_known home port (fresh_view (Some first) seats 1))
-  fresh_dealt homes bodies home first seats port at stands = record { home = at; home_of = record { first = first; fixed = refl; made_with = stands }; port_is = refl; rests = refl; share = refl; seats_are = refl; unused = (refl, refl, refl) }
+  fresh_dealt homes bodies home first seats port at stands = record { home = at; home_of = record { first = first; fixed = refl; made_with = stands }; port_is = refl; rests = refl; share = refl; seats_are = refl; unused = (refl, refl, refl); begun_none = record { claimed = refl; idle = refl; withdrawn = refl } }
 
   pub alike_none : (seats : ℕ) (rows : List (List (HomeKnown B))) → All (λ r. r ≡ []) rows → AreAlike seats [] rows
   alike_none seats rows all = record { homes = []; many = refl; row = []; dealt = (refl, λ port s e. absurd (none-some s e)); same = all }
@@ -134,13 +134,13 @@ module _ {B : Type 0} where
           λ p t e. ⊎_elim
               (λ (before : slice_get alike.row p ≡ Some t).
               let d = alike.dealt.1 p t before in
-              record { home = get_before alike.homes are.home t.home p d.home; home_of = record { first = d.home_of.first; fixed = d.home_of.fixed; made_with = get_before bodies body _ p d.home_of.made_with }; port_is = d.port_is; rests = d.rests; share = d.share; seats_are = d.seats_are; unused = d.unused })
+              record { home = get_before alike.homes are.home t.home p d.home; home_of = record { first = d.home_of.first; fixed = d.home_of.fixed; made_with = get_before bodies body _ p d.home_of.made_with }; port_is = d.port_is; rests = d.rests; share = d.share; seats_are = d.seats_are; unused = d.unused; begun_none = d.begun_none })
               (λ (last : (p ≡ length alike.row) × (t ≡ s)).
               let at : p ≡ port = last.0 ∙ count in
               let stands : slice_get homes port ≡ Some are.home = ap (slice_get homes) (sym (alike.many ∙ so_many)) ∙ get_last alike.homes are.home in
               let mine : slice_get (bodies ++ body ∷ []) port ≡ Some are.first.value = ap (slice_get (bodies ++ body ∷ [])) (sym so_many) ∙ get_last bodies body ∙ ap Some (sym are.made_with) in
               subst (λ (u : HomeKnown B). IsDealt homes (bodies ++ body ∷ []) seats p u) (sym last.1)
-                  (subst (λ n. IsDealt homes (bodies ++ body ∷ []) seats n s) (sym at) (fresh_dealt homes (bodies ++ body ∷ []) are.home are.first seats port stands mine)))
+              (subst (λ n. IsDealt homes (bodies ++ body ∷ []) seats n s) (sym at) (fresh_dealt homes (bodies ++ body ∷ []) are.home are.first seats port stands mine)))
               (get_push alike.row s t p e),
         );
         same = All-same (λ r. r ≡ row) rows' (map (λ r. r ++ s ∷ []) rows) now
@@ -204,33 +204,35 @@ module _ {B : Type 0} {g : Ghosts B} where
       let many : length all ≡ schedulers = seated.0 ∙ are.seats_count in
       let ends_many : length entries ≡ jobs = ap length are.ends ∙ alike_length jobs (entry_known are.injector (hand 1 [] [])) in
       let jobs_many : length others ≡ jobs = job_seats.0 ∙ ends_many in
-      let total : schedulers + jobs ≡ length all + length others = omega arith in
-      (record {
-        deques = are.deques;
-        injector = are.injector;
-        homes = homes;
-        bodies = bodies;
-        each_home = each_home;
-        word = word;
-        some = omega arith;
-        deques_count = are.deques_count ∙ sym many;
-        few = omega arith;
-        each = λ n s e.
-            let run = found_at runs n (let w = slice_get_within all n s e in let c = seated.0 in omega arith) in
-            let seat = seated.1 n run.0 s run.1 e in
-            record {
-              run = seat.run_is ∙ are.each n run.0 run.1 ∙ (λ i. fresh_at are.deques are.injector n (sym many i) (sym jobs_many i));
-              homes_are = subst (λ l. AreDealt homes bodies (length all + length others) l) (sym seat.homes_are) (subst (λ t. AreDealt homes bodies t row) total dealt);
-              over = seat.over.word_is;
-            };
-        each_job = λ n j e.
-            let entry = found_at entries n (let w = slice_get_within others n j e in let c = job_seats.0 in omega arith) in
-            let seat = job_seats.1 n entry.0 j entry.1 e in
-            record {
-              entry_is = seat.entry_is ∙ get_alike n jobs _ entry.0 (ap (λ l. slice_get l n) (sym are.ends) ∙ entry.1);
-              homes_are = subst (λ l. AreDealt homes bodies (length all + length others) l) (sym seat.homes_are) (subst (λ t. AreDealt homes bodies t row) total dealt);
-            };
-      }, stand)
+      let total : schedulers + jobs ≡ length all + length others = omega arith in (
+        record {
+          deques = are.deques;
+          injector = are.injector;
+          homes = homes;
+          bodies = bodies;
+          each_home = each_home;
+          word = word;
+          some = omega arith;
+          deques_count = are.deques_count ∙ sym many;
+          few = omega arith;
+          each = λ n s e.
+              let run = found_at runs n (let w = slice_get_within all n s e in let c = seated.0 in omega arith) in
+              let seat = seated.1 n run.0 s run.1 e in
+              record {
+                run = seat.run_is ∙ are.each n run.0 run.1 ∙ (λ i. fresh_at are.deques are.injector n (sym many i) (sym jobs_many i));
+                homes_are = subst (λ l. AreDealt homes bodies (length all + length others) l) (sym seat.homes_are) (subst (λ t. AreDealt homes bodies t row) total dealt);
+                over = seat.over.word_is;
+              };
+          each_job = λ n j e.
+              let entry = found_at entries n (let w = slice_get_within others n j e in let c = job_seats.0 in omega arith) in
+              let seat = job_seats.1 n entry.0 j entry.1 e in
+              record {
+                entry_is = seat.entry_is ∙ get_alike n jobs _ entry.0 (ap (λ l. slice_get l n) (sym are.ends) ∙ entry.1);
+                homes_are = subst (λ l. AreDealt homes bodies (length all + length others) l) (sym seat.homes_are) (subst (λ t. AreDealt homes bodies t row) total dealt);
+              };
+        },
+        stand,
+      )
     where
       fresh_at : (deques : List RowsId) (injector : WebId) (n schedulers jobs : ℕ) → RunKnown
       fresh_at deques injector n schedulers jobs = seats.fresh_seat deques injector n (entry_parts schedulers jobs n)
@@ -257,3 +259,22 @@ module _ {B : Type 0} {g : Ghosts B} where
         many = ap length seat.homes_are ∙ dealt.0 ∙ many;
         homes_are = subst AreHomes (sym seat.homes_are) (dealt_homes homes bodies seats row dealt);
       })
+
+module _ {X : Type 0} where
+  -- a write leaves what stands elsewhere
+  pub set_others : (xs : List X) (i : ℕ) (y : X) (n : ℕ) → n ≢ i → slice_get (set xs i y) n ≡ slice_get xs n
+  set_others [] i y n differ = refl
+  set_others (x ∷ xs) zero y zero differ = absurd (differ refl)
+  set_others (x ∷ xs) zero y (suc n) differ = refl
+  set_others (x ∷ xs) (suc i) y zero differ = refl
+  set_others (x ∷ xs) (suc i) y (suc n) differ = set_others xs i y n (λ same. differ (ap suc same))
+
+-- lists that are all one row have room for more where each has room for so many
+pub room_left : {V H : Type 0} (items : V → List H) (len room_of : V → ℕ) (room : ℕ) (row : List H) → ((v : V) → len v ≡ length (items v)) → length row < room
+    → (vs : List V) → All (λ r. r ≡ row) (map items vs) → All (λ v. room ≤ room_of v) vs → All (λ v. (len v < room) × (room ≤ room_of v)) vs
+room_left items len room_of room row sizes few [] same rooms = All-nil (λ v. (len v < room) × (room ≤ room_of v))
+room_left items len room_of room row sizes few (v ∷ vs) same rooms =
+    let size = sizes v in
+    let is = ap length (All-head (λ r. r ≡ row) (items v) (map items vs) same) in
+    All-cons (λ v. (len v < room) × (room ≤ room_of v)) v vs (omega arith, All-head (λ v. room ≤ room_of v) v vs rooms)
+    (room_left items len room_of room row sizes few vs (All-tail (λ r. r ≡ row) (items v) (map items vs) same) (All-tail (λ v. room ≤ room_of v) v vs rooms))

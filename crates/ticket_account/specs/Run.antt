@@ -5,6 +5,7 @@ use Rattle.atomic_blocks.specs.Laid.{WebId}
 use Rattle.atomic_blocks.specs.Lent.{RowsId}
 use Rattle.atomic_table.specs.Seated.{TableId}
 use Rattle.port_words.specs.declared.home.homes.Ticket.{Ticket}
+use Rattle.port_words.specs.home.Home.{HasBegunNone}
 use Rattle.port_words.specs.home.Seats.{HomeKnown}
 use Rattle.run_queue.specs.Account.{hand, all_parts}
 use Rattle.run_queue.specs.Seats.{entry_known, fresh_seat, entry_parts}
@@ -39,6 +40,7 @@ module _ {B : Type 0} where
     pub share : s.known.shares ≡ 1
     pub seats_are : s.known.seats ≡ seats
     pub unused : HasNoTickets s
+    pub begun_none : HasBegunNone s.known
 
   -- one of each home, in the order of ports
   abbrev pub AreDealt : List TableId → List B → ℕ → List (HomeKnown B) → Type 0

@@ -4,6 +4,7 @@
 #![tactic(auto)]
 
 mod gathering;
+mod homes;
 mod laws;
 mod opening;
 

@@ -1,20 +1,17 @@
 // How the seats of a run are made.
-ghost use Rattle.std.specs.Prelude.{◌≡◌, ◌+◌, ◌<◌, ◌≤◌, List, [], ◌∷◌, ◌++◌, length, vec_len, map, All, IfOk, OnOk};
+ghost use Rattle.std.specs.Prelude.{◌≡◌, ◌+◌, ◌<◌, ◌≤◌, List, [], length, vec_capacity, map, All, IfOk, IfErr};
 ghost use Rattle.atomic_table.specs.Seated.{TableId};
 ghost use Rattle.port_words.specs.home.Seats.{HomeKnown};
-ghost use Rattle.run_queue.specs.Seats.{changed_at};
 ghost use Rattle.port_sched.specs.Schedulers.{CanBegin};
 ghost use Rattle.ticket_account.specs.Run.{IsOpenedFor};
-ghost use Rattle.ticket_account.specs.Opening.{IsCounted, IsOther, ArePlaces, AreAlike, HomesOfBodies, GivesEach, AreSeated, AreJobSeats, IsReadyJob};
+ghost use Rattle.ticket_account.specs.Opening.{IsOther, ArePlaces, AreSeated, AreJobSeats, IsReadyJob};
 
+use crate::homes::{Home, add, deal_homes, empty_lists};
 use no_memory::NoMemory;
-use port_sched::{JobSeats, Lodger, PortBody, SchedSeats, Scheduler};
-use port_words::home::{HomeSeat, home};
+use port_sched::{JobSeats, PortBody, SchedSeats, Scheduler};
 use port_words::over::{OverSeat, over_word};
 use run_queue::{EntrySeat, RunSeat, run_queue};
 use std::alloc::Global;
-
-type Home<B> = HomeSeat<Lodger<B>>;
 
 /// How many schedulers a run has, and how many jobs beside them: those that have to finish before it is over, and the others.
 #[derive(Clone, Copy, Debug)]
@@ -34,6 +31,13 @@ pub struct Opened<B: PortBody> {
     pub others: Vec<OverSeat>,
 }
 
+type Room<B> = (
+    Vec<Vec<Home<B>>>,
+    Vec<Scheduler<B>>,
+    Vec<JobSeats<B>>,
+    Vec<B>,
+);
+
 // The seats of a new word OVER: the counted ones, and the others.
 fn places(
     alloc: Global,
@@ -49,105 +53,39 @@ fn places(
     Ok((all, rest))
 }
 
-// One seat more for the job of this number.
-fn give<B: PortBody>(
-    lists: &mut Vec<Vec<Home<B>>>,
-    job: usize,
-    seat: Home<B>,
-) -> Result<(), NoMemory>
-    requires { job < length lists.old.items }
-    ensures { OnOk result (map (λ l. l.items) lists.new.items ≡ changed_at (λ row. row ++ seat ∷ []) job (map (λ l. l.items) lists.old.items)) }
-{
-    lists[job].push(seat)?;
-    Ok(())
-}
-
-// One seat more for each job.
-fn give_each<B: PortBody>(
-    lists: &mut Vec<Vec<Home<B>>>,
-    mut seats: Vec<Home<B>>,
-) -> Result<(), NoMemory>
-    requires { length seats.items ≡ length lists.old.items }
-    ensures each { OnOk result (GivesEach seats.items (map (λ l. l.items) lists.old.items) (map (λ l. l.items) lists.new.items)) }
-    ensures many { OnOk result (length lists.new.items ≡ length lists.old.items) }
-{
-    'jobs: for job in 0..lists.len() {
-        let Some(seat) = seats.pop() else {
-            unreachable!();
-        };
-        give(lists, job, seat)?;
-    }
-    Ok(())
-}
-
-// The home of one port more, of which each job gets a seat.
-fn add_port<B: PortBody>(
+// The empty lists that a run fills: a list of homes for each job, the schedulers, the other jobs, and what the bodies come back in.
+fn room<B: PortBody>(
     alloc: Global,
-    lists: &mut Vec<Vec<Home<B>>>,
-    port: u32,
-    lodger: Lodger<B>,
-) -> Result<(), NoMemory>
-    requires some { (0 < length lists.old.items) × (length lists.old.items ≤ 1024) }
-    ensures alike { OnOk result ((bodies : List (Lodger _ _)) → length bodies ≡ port → AreAlike (length lists.old.items) bodies (map (λ l. l.items) lists.old.items)
-        → AreAlike (length lists.old.items) (bodies ++ lodger ∷ []) (map (λ l. l.items) lists.new.items)) }
-    ensures many { OnOk result (length lists.new.items ≡ length lists.old.items) }
-{
-    match home(alloc, port, lodger, lists.len() as u32) {
-        Ok(seats) => give_each(lists, seats),
-        Err((_, no_memory)) => Err(no_memory),
-    }
-}
-
-// An empty list for each job.
-fn empty_lists<B: PortBody>(alloc: Global, jobs: u32) -> Result<Vec<Vec<Home<B>>>, NoMemory>
-    ensures { IfOk result (λ lists. (length lists.items ≡ jobs) × All (λ row. row ≡ []) (map (λ l. l.items) lists.items)) }
-{
-    let mut lists = Vec::new(alloc);
-    'jobs: for _ in 0..jobs {
-        lists.push(Vec::new(alloc))?;
-    }
-    Ok(lists)
-}
-
-// The bodies go home, each beside a counted seat of OVER. Each job gets a seat of each home.
-fn deal_homes<B: PortBody>(
-    alloc: Global,
-    bodies: Vec<B>,
-    places: &mut Vec<OverSeat>,
+    ports: usize,
+    schedulers: u32,
     jobs: u32,
-) -> Result<Vec<Vec<Home<B>>>, NoMemory>
-    requires jobs { (0 < jobs) × (jobs ≤ 1024) }
-    requires places { (word : TableId) × All (IsCounted word) places.old.items }
-    requires enough { (length bodies.items ≤ length places.old.items) × (length places.old.items ≤ 1024) }
-    ensures homes { IfOk result (λ lists. (length lists.items ≡ jobs) × HomesOfBodies jobs bodies.items (map (λ l. l.items) lists.items)) }
-    ensures places { OnOk result ((word : TableId) → All (IsCounted word) places.old.items → All (IsCounted word) places.new.items) }
-    ensures left { OnOk result (length places.new.items + length bodies.items ≡ length places.old.items) }
+) -> Result<Room<B>, NoMemory>
+    requires { schedulers + jobs ≤ 1024 }
+    ensures lists { IfOk result (λ room. (length room.0.items ≡ schedulers + jobs) × All (λ l. (l.items ≡ []) × (ports ≤ vec_capacity l)) room.0.items) }
+    ensures seats { IfOk result (λ room. (room.1.items ≡ []) × (schedulers ≤ vec_capacity room.1) × (room.2.items ≡ []) × (jobs ≤ vec_capacity room.2)) }
+    ensures bodies { IfOk result (λ room. (room.3.items ≡ []) × (ports ≤ vec_capacity room.3)) }
 {
-    let mut lists = empty_lists(alloc, jobs)?;
-    let mut port = 0;
-    'ports: for body in bodies {
-        let Some(over) = places.pop() else {
-            unreachable!();
-        };
-        add_port(alloc, &mut lists, port, Lodger::new(body, over))?;
-        port += 1;
-    }
-    Ok(lists)
+    Ok((
+        empty_lists(alloc, schedulers + jobs, ports)?,
+        Vec::with_capacity(alloc, schedulers as usize)?,
+        Vec::with_capacity(alloc, jobs as usize)?,
+        Vec::with_capacity(alloc, ports)?,
+    ))
 }
 
 // The schedulers, by the numbers of their deques.
 fn seat_schedulers<B: PortBody>(
-    alloc: Global,
+    mut all: Vec<Scheduler<B>>,
     runs: Vec<RunSeat>,
     lists: &mut Vec<Vec<Home<B>>>,
     places: &mut Vec<OverSeat>,
-) -> Result<Vec<Scheduler<B>>, NoMemory>
+) -> Vec<Scheduler<B>>
+    requires room { (all.items ≡ []) × (length runs.items ≤ vec_capacity all) }
     requires enough { (length runs.items ≤ length lists.old.items) × (length runs.items ≤ length places.old.items) }
-    ensures seated { IfOk result (λ all. (row : List (HomeKnown _)) (word : TableId) → All (λ r. r ≡ row) (map (λ l. l.items) lists.old.items) → All (IsOther word) places.old.items
-        → AreSeated runs.items row word all.items × All (λ r. r ≡ row) (map (λ l. l.items) lists.new.items) × All (IsOther word) places.new.items) }
-    ensures left { OnOk result ((length lists.new.items + length runs.items ≡ length lists.old.items) × (length places.new.items + length runs.items ≡ length places.old.items)) }
+    ensures seated { (row : List (HomeKnown _)) (word : TableId) → All (λ r. r ≡ row) (map (λ l. l.items) lists.old.items) → All (IsOther word) places.old.items
+        → AreSeated runs.items row word result.items × All (λ r. r ≡ row) (map (λ l. l.items) lists.new.items) × All (IsOther word) places.new.items }
+    ensures left { (length lists.new.items + length runs.items ≡ length lists.old.items) × (length places.new.items + length runs.items ≡ length places.old.items) }
 {
-    let mut all = Vec::new(alloc);
     'runs: for run in runs {
         let Some(homes) = lists.pop() else {
             unreachable!();
@@ -155,57 +93,69 @@ fn seat_schedulers<B: PortBody>(
         let Some(over) = places.pop() else {
             unreachable!();
         };
-        all.push(Scheduler::new(SchedSeats { homes, run, over }))?;
+        add(&mut all, Scheduler::new(SchedSeats { homes, run, over }));
     }
-    Ok(all)
+    all
 }
 
 // The other jobs.
 fn seat_jobs<B: PortBody>(
-    alloc: Global,
+    mut all: Vec<JobSeats<B>>,
     entries: Vec<EntrySeat>,
     lists: &mut Vec<Vec<Home<B>>>,
-) -> Result<Vec<JobSeats<B>>, NoMemory>
+) -> Vec<JobSeats<B>>
+    requires room { (all.items ≡ []) × (length entries.items ≤ vec_capacity all) }
     requires enough { length entries.items ≤ length lists.old.items }
-    ensures { IfOk result (λ all. (row : List (HomeKnown _)) → All (λ r. r ≡ row) (map (λ l. l.items) lists.old.items) → AreJobSeats entries.items row all.items) }
+    ensures { (row : List (HomeKnown _)) → All (λ r. r ≡ row) (map (λ l. l.items) lists.old.items) → AreJobSeats entries.items row result.items }
 {
-    let mut all = Vec::new(alloc);
     'entries: for entry in entries {
         let Some(homes) = lists.pop() else {
             unreachable!();
         };
-        all.push(JobSeats {
+        let seats = JobSeats {
             homes,
             entry,
             refused: false,
-        })?;
+        };
+        add(&mut all, seats);
     }
-    Ok(all)
+    all
 }
 
-/// Makes the seats of a run for these bodies, one port each, by rising number. Where no memory is found the bodies are dropped.
+/// Makes the seats of a run for these bodies, one port each, by rising number. Where no memory is found the bodies come back as they were.
 pub fn open_run<B: PortBody>(
     alloc: Global,
     bodies: Vec<B>,
     size: RunSize,
-) -> Result<Opened<B>, NoMemory>
+) -> Result<Opened<B>, (Vec<B>, NoMemory)>
     requires schedulers { (0 < size.schedulers) × (size.schedulers ≤ 16) }
     requires few { length bodies.items + size.schedulers + size.finishing + size.others ≤ 1024 }
     ensures opened { IfOk result (λ o. IsOpenedFor bodies.items o.schedulers.items o.jobs.items) }
     ensures schedulers { IfOk result (λ o. (length o.schedulers.items ≡ size.schedulers) × All CanBegin o.schedulers.items) }
     ensures jobs { IfOk result (λ o. (length o.jobs.items ≡ size.finishing + size.others) × All (IsReadyJob (length bodies.items)) o.jobs.items) }
     ensures places { IfOk result (λ o. ArePlaces size.finishing size.others o.finishing.items o.others.items) }
+    ensures err { IfErr result (λ e. e.0.items ≡ bodies.items) }
 {
-    let jobs = size.finishing + size.others;
-    let (runs, entries) = run_queue(alloc, size.schedulers, jobs)?;
+    let many = size.finishing + size.others;
     let counted = bodies.len() as u32 + size.finishing;
-    let (mut finishing, mut others) = places(alloc, counted, size.others + size.schedulers)?;
-    let mut lists = deal_homes(alloc, bodies, &mut finishing, size.schedulers + jobs)?;
-    let schedulers = seat_schedulers(alloc, runs, &mut lists, &mut others)?;
-    let jobs = seat_jobs(alloc, entries, &mut lists)?;
+    let Ok((runs, entries)) = run_queue(alloc, size.schedulers, many) else {
+        return Err((bodies, NoMemory));
+    };
+    let Ok((mut finishing, mut others)) = places(alloc, counted, size.others + size.schedulers)
+    else {
+        return Err((bodies, NoMemory));
+    };
+    let Ok((lists, schedulers, jobs, back)) = room(alloc, bodies.len(), size.schedulers, many)
+    else {
+        return Err((bodies, NoMemory));
+    };
+    let mut lists = match deal_homes(alloc, bodies, &mut finishing, lists, back) {
+        Ok(lists) => lists,
+        Err(bodies) => return Err((bodies, NoMemory)),
+    };
     Ok(Opened {
-        schedulers,
-        jobs,
+        schedulers: seat_schedulers(schedulers, runs, &mut lists, &mut others),
+        jobs: seat_jobs(jobs, entries, &mut lists),
         finishing,
         others,
     })

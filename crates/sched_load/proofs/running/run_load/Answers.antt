@@ -7,9 +7,9 @@ use Rattle.sched_load.proofs.running.run_load.Goals as goal
 
 pub gather-requires : goal.gather-requires
 gather-requires g c = record {
-  before = c.in_ok-opened.opened.schedulers.items;
-  before_jobs = c.in_ok-opened.opened.jobs.items;
-  opened = c.in_ok-opened.ensures.opened.0;
+  before = c.in-Ok.opened.schedulers.items;
+  before_jobs = c.in-Ok.opened.jobs.items;
+  opened = c.in-Ok.ensures.opened.0;
   ran = c.run_owned-schedulers.ensures.schedulers;
   woke = subst (λ l. WentEach HasWoken l c.in_ok-jobs-2.jobs.items) c.in_ok-jobs.ensures.seats
       (subst (λ l. WentEach HasWoken (map (λ p. p.seats) c.in_ok-jobs.jobs.items) l) (sym c.in_ok-jobs-2.ensures)

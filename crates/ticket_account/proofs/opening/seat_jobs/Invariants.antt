@@ -1,4 +1,4 @@
-use Rattle.std.proofs.Common.{◌≡◌, ◌+◌, ◌++◌, List, length, map}
+use Rattle.std.proofs.Common.{◌≡◌, ◌+◌, ◌≤◌, ◌++◌, List, length, map, vec_len, vec_capacity}
 use Rattle.std.specs.List.{All}
 use Rattle.port_words.specs.home.Seats.{HomeKnown}
 use Rattle.run_queue.specs.Seats.{EntryKnown}
@@ -12,3 +12,4 @@ invariant-entries g l =
     × (length l.lists.items + length done ≡ length l.fn.lists.items)
     × ((row : List (HomeKnown _)) → All (λ r. r ≡ row) (map (λ v. v.items) l.fn.lists.items)
     → AreJobSeats done row l.all.items × All (λ r. r ≡ row) (map (λ v. v.items) l.lists.items))
+    × (vec_len l.all + l.entry-iterator.rest.len ≤ vec_capacity l.all)

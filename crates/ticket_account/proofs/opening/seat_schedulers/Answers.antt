@@ -2,8 +2,32 @@ use Rattle.std.proofs.Common.{◌≡◌, ◌∷◌, ◌++◌, [], Some, length, 
 use Rattle.std.proofs.lemmas.List.Elements.{All-pop}
 use Rattle.ticket_account.specs.Opening.{IsOther, AreSeated}
 use Rattle.ticket_account.proofs.Gathered.{nil_of}
-use Rattle.ticket_account.proofs.Openings.{pop_row, seated_more}
+use Rattle.ticket_account.proofs.Openings.{pop_row, seated_none, seated_more}
 use Rattle.ticket_account.proofs.opening.seat_schedulers.Goals as goal
+
+pub runs-init : goal.runs-init
+runs-init g c =
+    let gives = c.into_iter-run-iterator.ensures.into_iter_gives in
+    let size = c.args.runs.ok.0 in
+    let len = gives.1 in
+    let count = ap length gives.0 in
+    let room = c.requires.room.1 in
+    let empty = ap length c.requires.room.0 in
+    let all = c.args.all.ok.0 in (
+      [],
+      gives.0,
+      omega arith,
+      omega arith,
+      omega arith,
+      (λ row word rows others. (subst (AreSeated [] row word) (sym c.requires.room.0) (seated_none row word), rows, others)),
+      omega arith,
+    )
+
+pub add-requires : goal.add-requires
+add-requires g c =
+    let room = c.runs.invariant.6 in
+    let one = c.in-Some.ensures.steps.1 in
+    omega arith
 
 pub runs-preserved : goal.runs-preserved
 runs-preserved g c =
@@ -33,12 +57,13 @@ runs-preserved g c =
           let before = inv.5 row word rows others in
           let mine = pop_row (λ v. v.items) c.runs.lists.items c.pop.new.self.items homes row c.in-Some-pop.ensures.items before.1 in
           let place = All-pop (IsOther word) c.runs.places.items c.pop-in-runs.new.self.items (Some over) c.in-Some-pop-2.ensures.items before.2 in (
-            subst (AreSeated (inv.0 ++ run ∷ []) row word) (sym c.in_ok-push.ensures.items)
+            subst (AreSeated (inv.0 ++ run ∷ []) row word) (sym c.add.ensures.items)
                 (seated_more inv.0 run row word c.runs.all.items new before.0
                 (record { run_is = ap (λ s. s.run) c.new.ensures.0; homes_are = ap (λ s. s.homes.items) c.new.ensures.0 ∙ mine.1; over = subst (IsOther word) (sym (ap (λ s. s.over) c.new.ensures.0)) place.1 })),
             mine.0,
             place.0,
           ),
+      (let more = c.add.ensures.len in let kept = c.add.ensures.capacity in let room = inv.6 in omega arith),
     )
 
 pub returns-clause-seated : goal.returns-clause-seated

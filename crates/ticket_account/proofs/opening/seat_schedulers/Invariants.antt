@@ -1,4 +1,4 @@
-use Rattle.std.proofs.Common.{◌≡◌, ◌+◌, ◌++◌, List, length, map}
+use Rattle.std.proofs.Common.{◌≡◌, ◌+◌, ◌≤◌, ◌++◌, List, length, map, vec_len, vec_capacity}
 use Rattle.std.specs.List.{All}
 use Rattle.atomic_table.specs.Seated.{TableId}
 use Rattle.port_words.specs.home.Seats.{HomeKnown}
@@ -14,3 +14,4 @@ invariant-runs g l =
     × (length l.places.items + length done ≡ length l.fn.places.items)
     × ((row : List (HomeKnown _)) (word : TableId) → All (λ r. r ≡ row) (map (λ v. v.items) l.fn.lists.items) → All (IsOther word) l.fn.places.items
     → AreSeated done row word l.all.items × All (λ r. r ≡ row) (map (λ v. v.items) l.lists.items) × All (IsOther word) l.places.items)
+    × (vec_len l.all + l.run-iterator.rest.len ≤ vec_capacity l.all)
