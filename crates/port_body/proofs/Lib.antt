@@ -8,3 +8,4 @@ pub mod Waits
 pub mod Same
 pub mod Names
 pub mod Room
+pub mod Reserved
