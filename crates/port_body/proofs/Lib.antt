@@ -9,3 +9,5 @@ pub mod Same
 pub mod Names
 pub mod Room
 pub mod Reserved
+pub mod Always
+pub mod Finished
