@@ -8,3 +8,6 @@ pub mod Waits
 pub mod Same
 pub mod Names
 pub mod Room
+pub mod Reserved
+pub mod Always
+pub mod Finished

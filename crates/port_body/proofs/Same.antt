@@ -24,14 +24,14 @@ lane_port_trans a b c p q = record {
 }
 
 -- the port and the list of those that wait alone changed
-pub same_but : (old new : LanePortView) → IsSameRecorded old.port new.port → new ≡ record old { port = new.port; waiting = new.waiting } → IsSameLanePort old new
-same_but old new same e = record {
+pub same_lane : (old new : LanePortView) → IsSameRecorded old.port new.port → new.lane ≡ old.lane → new.processes ≡ old.processes → new.workers ≡ old.workers → IsSameLanePort old new
+same_lane old new same lane processes workers = record {
   port = same;
-  lane = ap (λ (v : LanePortView). v.lane) e ∙ sym (ap (λ (v : LanePortView). record old.lane { taken = v.lane.taken }) e);
+  lane = lane ∙ sym (ap (λ (l : Taking ParcelView Key). record old.lane { taken = l.taken }) lane);
   more = [];
-  taken = ap (λ (v : LanePortView). v.lane.taken) e ∙ sym (append-nil old.lane.taken);
-  processes = ap (λ (v : LanePortView). v.processes) e;
-  workers = ap (λ (v : LanePortView). v.workers) e;
+  taken = ap (λ (l : Taking ParcelView Key). l.taken) lane ∙ sym (append-nil old.lane.taken);
+  processes = processes;
+  workers = workers;
 }
 
 -- an item was taken

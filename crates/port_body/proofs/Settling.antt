@@ -1,6 +1,6 @@
 -- A task may come to its row, and what that and a resume leave.
 use Rattle.std.proofs.Common.{◌≡◌, ℕ, ◌+◌, ◌<◌, arith, cond, map, Bool, true, false, ◌&&◌, ◌||◌, List, [], ◌∷◌, ◌++◌, length, Option, Some, None, is_some, refl, sym, ap, ◌∙◌, subst, eq-eqb, inl, inr}
-use Rattle.std.specs.Prelude.{not, reverse, IfSome, Result, Ok, Err, OnOk}
+use Rattle.std.specs.Prelude.{not, reverse, IfOk, IfSome, Result, Ok, Err, OnOk}
 use Rattle.std.proofs.lemmas.Bool.{lt-ltb}
 use Rattle.waiting_parcels.specs.Waiting.{Waiting}
 use Rattle.served_port.specs.Outcomes.{is_handled}
@@ -38,6 +38,10 @@ on-both (Err error) f p q = tt
 pub on-one : {T E : Type 0} (r : Result T E) {P Q : Type 0} → (P → Q) → OnOk r P → OnOk r Q
 on-one (Ok value) f p = f p
 on-one (Err error) f p = tt
+
+pub if-ok : {T E : Type 0} (r : Result T E) {P Q : T → Type 0} → ((value : T) → P value → Q value) → IfOk r P → IfOk r Q
+if-ok (Ok value) f p = f value p
+if-ok (Err error) f p = tt
 
 if-some : {X : Type 0} {P Q : X → Type 0} (o : Option X) → ((x : X) → P x → Q x) → IfSome o P → IfSome o Q
 if-some None f p = tt

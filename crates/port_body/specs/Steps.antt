@@ -144,13 +144,13 @@ pub record LaneWent (old new : LanePortView) : Type 0 where
   pub lane : new.lane ≡ record old.lane { taken = old.lane.taken ++ item ∷ [] }
   pub went : CameToRow old new item ⊎ CameToWait old new item
 
--- none may go, and the lane was found empty, when all that its ended senders sent had been taken: nothing changed
+-- none may go, and the lane was found empty, when all that its ended senders sent had been taken: nothing changed but the room for rows
 pub record FoundNothing (old new : LanePortView) : Type 0 where
   pub none : NoneGoes (is_busy_at old) old.waiting.items
   pub empty : WasEmpty FitsLane old.lane
   pub all : TookAll old.lane
   pub order : KeepsOrder FitsLane new.lane
-  pub port : new.port ≡ old.port
+  pub port : new.port ≡ record old.port { room = new.port.room }
   pub lane : new.lane ≡ old.lane
   pub waiting : new.waiting.items ≡ old.waiting.items
 

@@ -164,7 +164,30 @@ impl<D: Driver> LanePort<D> {
         ensures same { IsSameBut self.old self.new }
     {
         self.waiting.reserve()?;
-        self.port.reserve(self.waiting.len().saturating_add(7))
+        let Some(rows) = self.waiting.len().checked_add(7) else {
+            return Err(NoMemory);
+        };
+        self.port.reserve(rows)
+    }
+
+    /// Brings the task that goes next to its row or to wait. False exactly where none of those that wait may go and the lane was found empty.
+    fn take_next<R: Wait>(&mut self, rt: &R, alloc: Global) -> Result<bool, NoMemory>
+        requires body { IsBody self.old }
+        requires place { 0 < self.old.waiting.room }
+        requires room { HasRoom (7 + length self.old.waiting.items) self.old }
+        ensures same { IsSameLanePort self.old self.new }
+        ensures body { OnOk result (IsBody self.new) }
+        ensures stepped { IfOk result (λ did. Stepped did self.old self.new) }
+    {
+        if let Some(item) = self.waiting.take_first(self.port.is_busy()) {
+            self.settle(rt, alloc, item)?;
+            return Ok(true);
+        }
+        let Some(item) = self.lane.take(rt) else {
+            return Ok(false);
+        };
+        self.arrive(rt, alloc, item)?;
+        Ok(true)
     }
 
     /// Makes one step: the first task that waits and may go comes to its row, and where none may, the next one of the lane comes to its row or to wait. False exactly where
@@ -176,14 +199,6 @@ impl<D: Driver> LanePort<D> {
         ensures stepped { IfOk result (λ did. Stepped did self.old self.new) }
     {
         self.reserve()?;
-        if let Some(item) = self.waiting.take_first(self.port.is_busy()) {
-            self.settle(rt, alloc, item)?;
-            return Ok(true);
-        }
-        let Some(item) = self.lane.take(rt) else {
-            return Ok(false);
-        };
-        self.arrive(rt, alloc, item)?;
-        Ok(true)
+        self.take_next(rt, alloc)
     }
 }

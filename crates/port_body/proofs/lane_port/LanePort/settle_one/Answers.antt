@@ -1,4 +1,4 @@
-use Rattle.std.proofs.Common.{sym, ap, subst}
+use Rattle.std.proofs.Common.{sym, ap, subst, arith}
 use Rattle.port_lanes.specs.Keys.{sender_at}
 use Rattle.recorded_port.specs.Taking.{MayTake, Takes, IsSameRecorded, UsesRoom}
 use Rattle.port_body.specs.LanePort.{LanePortView, Holds}
@@ -45,4 +45,5 @@ resume-requires-clause-room g c =
     let takes = subst (λ (v : LanePortView). Takes v.port c.take.new.self (sender_at old.lane.key x.sender) x.seq x.value.task) c.self.view_is
     (subst (λ s. Takes c.self.inside.port c.take.new.self s x.seq x.value.task) c.sender_at-from.ensures c.in_ok-take.ensures.takes) in
     let room = subst (λ (v : LanePortView). UsesRoom v.port c.take.new.self) c.self.view_is c.take.ensures.room in
-    took_room old.port c.take.new.self (sender_at old.lane.key x.sender) x.seq x.value.task c.requires.holds.settled c.in_ok-take.ensures.settled room takes 0 c.requires.room
+    let enough = took_room old.port c.take.new.self (sender_at old.lane.key x.sender) x.seq x.value.task c.requires.holds.settled c.in_ok-take.ensures.settled room takes 0 c.requires.room in
+    omega (arith, enough)
