@@ -59,7 +59,7 @@ module _ {B : Type 0} where
   home_at homes port x lt at are = are port x (slice_get_read homes (length homes) port x refl lt at)
 
   -- one seat more, in the sum over all
-  sum_written : (f : HomeKnown B → ℕ) (homes : List (HomeKnown B)) (port : ℕ) (x y : HomeKnown B) (a : ℕ) → slice_get homes port ≡ Some x → f y ≡ f x + a
+  pub sum_written : (f : HomeKnown B → ℕ) (homes : List (HomeKnown B)) (port : ℕ) (x y : HomeKnown B) (a : ℕ) → slice_get homes port ≡ Some x → f y ≡ f x + a
       → sum_by f (set homes port y) ≡ sum_by f homes + a
   sum_written f [] port x y a e more = absurd (none-some x e)
   sum_written f (z ∷ zs) zero x y a e more =

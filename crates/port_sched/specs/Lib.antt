@@ -1,5 +1,6 @@
 pub mod Lodging
 pub mod Homes
+pub mod Counts
 pub mod Tickets
 pub mod Waking
 pub mod Serving

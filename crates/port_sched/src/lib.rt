@@ -7,6 +7,7 @@
 
 mod body;
 mod closing;
+mod counts;
 mod idle;
 mod jobs;
 mod lodger;
@@ -17,6 +18,8 @@ mod waking;
 
 pub use body::{PortBody, Turn};
 pub use closing::{close_homes, join_homes};
+pub use counts::TurnCounts;
+pub use idle::Idle;
 pub use jobs::{Job, run_jobs};
 pub use lodger::Lodger;
 pub use no_memory::NoMemory;

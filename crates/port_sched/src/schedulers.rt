@@ -5,34 +5,43 @@ ghost use Rattle.port_sched.specs.Jobs.{WentEach};
 ghost use Rattle.port_sched.specs.Schedulers.{CanSchedule, Scheduled, CanBegin, Ended};
 
 use crate::body::PortBody;
+use crate::counts::TurnCounts;
 use crate::jobs::{Job, run_jobs};
-use crate::scheduling::{SchedEnd, SchedSeats, scheduler};
+use crate::scheduling::{SchedEnd, SchedSeats, counted_scheduler};
 use outside::Gate;
 use std::sync::Wait;
 use std::thread;
 use std::thread::{Threads, join_mut};
 
-/// A scheduler's seats, and how it ended, once it has run.
+/// A scheduler's seats, and once it has run how it ended and how many turns it made. Of these, as many began with a stolen ticket as `seats.run` stole.
 #[derive(Drop)]
 pub struct Scheduler<B: PortBody> {
     pub seats: SchedSeats<B>,
     pub end: Option<SchedEnd>,
+    pub counts: TurnCounts,
 }
 
 impl<B: PortBody> Scheduler<B> {
     /// A scheduler that hasn't run yet.
     pub fn new(seats: SchedSeats<B>) -> Scheduler<B>
-        ensures { (result.seats ≡ seats) × (result.end ≡ None) }
+        ensures waits { (result.seats ≡ seats) × (result.end ≡ None) }
+        ensures counts { (result.counts.queued ≡ 0) × (result.counts.idle ≡ 0) }
     {
-        Scheduler { seats, end: None }
+        Scheduler {
+            seats,
+            end: None,
+            counts: TurnCounts { queued: 0, idle: 0 },
+        }
     }
 
     // Runs it to its end.
     fn run<G: Gate, R: Wait>(&mut self, rt: &R, gate: &G)
         requires { CanSchedule self.old.seats }
-        ensures { Scheduled self.old.seats self.new.seats self.new.end }
+        ensures { Scheduled self.old.seats self.new.seats self.new.end self.new.counts }
     {
-        self.end = Some(scheduler(rt, &mut self.seats, gate));
+        let (end, counts) = counted_scheduler(rt, &mut self.seats, gate);
+        self.end = Some(end);
+        self.counts = counts;
     }
 }
 

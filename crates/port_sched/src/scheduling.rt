@@ -1,12 +1,14 @@
 ghost use Rattle.std.specs.Prelude.{◌≡◌, ◌<◌, ◌≤◌, ◌^◌, List, [], ◌∷◌, length, IfSome, IfNone, OnOk, OnErr, IsTrue, option_to_list};
 ghost use Rattle.port_words.specs.over.Over.{HasNotStopped};
 ghost use Rattle.port_words.specs.declared.home.homes.Ticket.{Ticket};
+ghost use Rattle.port_sched.specs.Counts.{AreCounts, Begin, KeepsCounts};
 ghost use Rattle.port_sched.specs.Homes.{AreHomes, HomesUse, FoundNotIdleAt};
 ghost use Rattle.port_sched.specs.Running.{Looked, Stopped, SawTheEnd, IsDone, IsNoMemory};
 ghost use Rattle.port_sched.specs.Serving.{GoesOn, IsMore, KeptBy, KeptAtEnd, QueuedNext, KeptNext};
 ghost use Rattle.port_sched.specs.Tickets.{Serves};
 
 use crate::body::{PortBody, Turn};
+use crate::counts::TurnCounts;
 use crate::idle::Idle;
 use crate::turns::{Home, claim_turn, idle_turn, next_ticket};
 use no_memory::NoMemory;
@@ -51,12 +53,16 @@ fn claim_at<B: PortBody, G: Gate, R: Wait>(
     port: usize,
     ticket: Ticket,
     gate: &G,
+    counts: &mut TurnCounts,
 ) -> Option<Turn>
     requires homes { AreHomes homes.old.items }
     requires port { (port < length homes.old.items) × (ticket.port ≡ port) }
-    ensures { AreHomes homes.new.items × HomesUse (ticket ∷ []) [] homes.old.items homes.new.items }
+    ensures homes { AreHomes homes.new.items × HomesUse (ticket ∷ []) [] homes.old.items homes.new.items }
+    ensures counts { KeepsCounts counts.old homes.old.items counts.new homes.new.items }
 {
-    claim_turn(rt, &mut homes[port], ticket, gate)
+    let turn = claim_turn(rt, &mut homes[port], ticket, gate)?;
+    counts.add_queued();
+    Some(turn)
 }
 
 // A turn without a ticket.
@@ -65,12 +71,16 @@ fn idle_at<B: PortBody, G: Gate, R: Wait>(
     homes: &mut Vec<Home<B>>,
     port: usize,
     gate: &G,
+    counts: &mut TurnCounts,
 ) -> Option<Turn>
     requires homes { AreHomes homes.old.items }
     requires port { (port < length homes.old.items) × (port < 2 ^ 32) }
-    ensures { AreHomes homes.new.items × HomesUse [] [] homes.old.items homes.new.items }
+    ensures homes { AreHomes homes.new.items × HomesUse [] [] homes.old.items homes.new.items }
+    ensures counts { KeepsCounts counts.old homes.old.items counts.new homes.new.items }
 {
-    idle_turn(rt, &mut homes[port], port as u32, gate)
+    let turn = idle_turn(rt, &mut homes[port], port as u32, gate)?;
+    counts.add_idle();
+    Some(turn)
 }
 
 // The ticket of the next turn of this port.
@@ -80,6 +90,7 @@ pub(crate) fn ticket_at<B: PortBody>(homes: &mut Vec<Home<B>>, port: usize) -> O
     ensures homes { AreHomes homes.new.items × HomesUse [] (option_to_list result) homes.old.items homes.new.items }
     ensures port { IfSome result (λ t. t.port ≡ port) }
     ensures busy { IfNone result (FoundNotIdleAt port homes.new.items) }
+    ensures begun { Begin 0 0 homes.old.items homes.new.items }
 {
     next_ticket(&mut homes[port])
 }
@@ -97,6 +108,7 @@ fn follow<B: PortBody>(
     ensures next { IsMore turn → OnOk result (QueuedNext port homes.old.items run.old homes.new.items run.new) }
     ensures homes { AreHomes homes.new.items }
     ensures tickets { (kept : List Ticket) × KeptBy result kept × Serves [] kept homes.old.items run.old homes.new.items run.new }
+    ensures begun { Begin 0 0 homes.old.items homes.new.items }
 {
     match turn {
         None | Some(Turn::Idle) => Ok(false),
@@ -119,6 +131,7 @@ fn queue_next<B: PortBody>(
     ensures homes { AreHomes homes.new.items }
     ensures ok { OnOk result (QueuedNext port homes.old.items run.old homes.new.items run.new) }
     ensures refused { OnErr result (KeptNext port homes.old.items run.old homes.new.items run.new) }
+    ensures begun { Begin 0 0 homes.old.items homes.new.items }
 {
     let Some(ticket) = ticket_at(homes, port) else {
         return Ok(());
@@ -136,16 +149,18 @@ fn serve_ticket<B: PortBody, G: Gate, R: Wait>(
     run: &mut RunSeat,
     ticket: Ticket,
     gate: &G,
+    counts: &mut TurnCounts,
 ) -> Result<bool, NoMemory>
     requires homes { AreHomes homes.old.items }
     ensures homes { AreHomes homes.new.items }
     ensures tickets { (kept : List Ticket) × KeptBy result kept × Serves (ticket ∷ []) kept homes.old.items run.old homes.new.items run.new }
+    ensures counts { KeepsCounts counts.old homes.old.items counts.new homes.new.items }
 {
     let port = ticket.port as usize;
     if port >= homes.len() {
         return Ok(true);
     }
-    let turn = claim_at(rt, homes, port, ticket, gate);
+    let turn = claim_at(rt, homes, port, ticket, gate, counts);
     follow(homes, run, port, turn)?;
     Ok(true)
 }
@@ -156,15 +171,17 @@ fn serve_idle<B: PortBody, G: Gate, R: Wait>(
     homes: &mut Vec<Home<B>>,
     run: &mut RunSeat,
     gate: &G,
+    counts: &mut TurnCounts,
 ) -> Result<bool, NoMemory>
     requires homes { AreHomes homes.old.items }
     requires few { length homes.old.items ≤ 2 ^ 32 }
     ensures homes { AreHomes homes.new.items }
     ensures tickets { (kept : List Ticket) × KeptBy result kept × Serves [] kept homes.old.items run.old homes.new.items run.new }
+    ensures counts { KeepsCounts counts.old homes.old.items counts.new homes.new.items }
 {
     let mut more = false;
     'ports: for port in 0..homes.len() {
-        let turn = idle_at(rt, homes, port, gate);
+        let turn = idle_at(rt, homes, port, gate, counts);
         if follow(homes, run, port, turn)? {
             more = true;
         }
@@ -178,15 +195,17 @@ fn serve<B: PortBody, G: Gate, R: Wait>(
     homes: &mut Vec<Home<B>>,
     run: &mut RunSeat,
     gate: &G,
+    counts: &mut TurnCounts,
 ) -> Result<bool, NoMemory>
     requires homes { AreHomes homes.old.items }
     requires few { length homes.old.items ≤ 2 ^ 32 }
     ensures homes { AreHomes homes.new.items }
     ensures tickets { (kept : List Ticket) × KeptBy result kept × Serves [] kept homes.old.items run.old homes.new.items run.new }
+    ensures counts { KeepsCounts counts.old homes.old.items counts.new homes.new.items }
 {
     match run.next(rt) {
-        Some(ticket) => serve_ticket(rt, homes, run, ticket, gate),
-        None => serve_idle(rt, homes, run, gate),
+        Some(ticket) => serve_ticket(rt, homes, run, ticket, gate, counts),
+        None => serve_idle(rt, homes, run, gate, counts),
     }
 }
 
@@ -197,6 +216,7 @@ fn serve_all<B: PortBody, G: Gate, R: Wait>(
     run: &mut RunSeat,
     over: &mut OverSeat,
     gate: &G,
+    counts: &mut TurnCounts,
 ) -> SchedEnd
     requires homes { AreHomes homes.old.items }
     requires few { length homes.old.items ≤ 2 ^ 32 }
@@ -204,13 +224,14 @@ fn serve_all<B: PortBody, G: Gate, R: Wait>(
     ensures tickets { (kept : List Ticket) × KeptAtEnd result kept × Serves [] kept homes.old.items run.old homes.new.items run.new }
     ensures over { Looked over.old over.new }
     ensures done { IsDone result → SawTheEnd over.old over.new }
+    ensures counts { KeepsCounts counts.old homes.old.items counts.new homes.new.items }
 {
     let idle = Idle::new();
     'rounds: for _ in rt.forever() {
         if is_over(over) {
             return SchedEnd::Done;
         }
-        match serve(rt, homes, run, gate) {
+        match serve(rt, homes, run, gate, counts) {
             Ok(true) => idle.reset(),
             Ok(false) => idle.wait(rt),
             Err(NoMemory) => return SchedEnd::NoMemory,
@@ -233,12 +254,31 @@ pub fn scheduler<B: PortBody, G: Gate, R: Wait>(
     ensures done { IsDone result → Looked seats.old.over seats.new.over × SawTheEnd seats.old.over seats.new.over }
     ensures stopped { IsNoMemory result → Stopped seats.old.over seats.new.over }
 {
-    let end = serve_all(rt, &mut seats.homes, &mut seats.run, &mut seats.over, gate);
+    counted_scheduler(rt, seats, gate).0
+}
+
+/// As `scheduler`, and counts the turns that it makes.
+pub fn counted_scheduler<B: PortBody, G: Gate, R: Wait>(
+    rt: &R,
+    seats: &mut SchedSeats<B>,
+    gate: &G,
+) -> (SchedEnd, TurnCounts)
+    requires homes { AreHomes seats.old.homes.items × (length seats.old.homes.items ≤ 2 ^ 32) }
+    requires stop { HasNotStopped seats.old.over.known.places }
+    ensures homes { AreHomes seats.new.homes.items }
+    ensures tickets { (kept : List Ticket) × KeptAtEnd result.0 kept × Serves [] kept seats.old.homes.items seats.old.run seats.new.homes.items seats.new.run }
+    ensures done { IsDone result.0 → Looked seats.old.over seats.new.over × SawTheEnd seats.old.over seats.new.over }
+    ensures stopped { IsNoMemory result.0 → Stopped seats.old.over seats.new.over }
+    ensures counts { AreCounts result.1 seats.old.homes.items seats.new.homes.items }
+{
+    let SchedSeats { homes, run, over } = seats;
+    let mut counts = TurnCounts { queued: 0, idle: 0 };
+    let end = serve_all(rt, homes, run, over, gate, &mut counts);
     match end {
         SchedEnd::Done => {}
         SchedEnd::NoMemory => {
-            seats.over.stop();
+            over.stop();
         }
     }
-    end
+    (end, counts)
 }

@@ -1,6 +1,7 @@
 // One turn of one port.
 ghost use Rattle.std.specs.Prelude.{◌≡◌, ◌+◌, ◌<◌, ◌≤◌, [], ◌∷◌, length, Some, None, IfSome, IfNone};
 ghost use Rattle.port_words.specs.home.Seats.{HomeKnown};
+ghost use Rattle.port_sched.specs.Counts.{BeginsAt};
 ghost use Rattle.port_sched.specs.Homes.{HomeStep, turns_of, FoundNotIdle};
 
 use crate::body::{PortBody, Turn};
@@ -23,7 +24,9 @@ pub(crate) fn claim_turn<B: PortBody, G: Gate, R: Wait>(
 ) -> Option<Turn>
     requires port { ticket.port ≡ home.old.port }
     requires rests { home.old.known.running ≡ None }
-    ensures { HomeStep (ticket.turn ∷ []) [] home.old home.new }
+    ensures step { HomeStep (ticket.turn ∷ []) [] home.old home.new }
+    ensures begun { IfSome result (λ _. BeginsAt 1 0 home.old home.new) }
+    ensures stale { IfNone result (BeginsAt 0 0 home.old home.new) }
 {
     match home.claim(ticket) {
         Ok(mut running) => {
@@ -45,7 +48,9 @@ pub(crate) fn idle_turn<B: PortBody, G: Gate, R: Wait>(
     gate: &G,
 ) -> Option<Turn>
     requires { home.old.known.running ≡ None }
-    ensures { HomeStep [] [] home.old home.new }
+    ensures step { HomeStep [] [] home.old home.new }
+    ensures begun { IfSome result (λ _. BeginsAt 0 1 home.old home.new) }
+    ensures busy { IfNone result (BeginsAt 0 0 home.old home.new) }
 {
     match home.claim_idle() {
         Ok(mut running) => {
@@ -65,6 +70,7 @@ pub(crate) fn next_ticket<B: PortBody>(home: &mut Home<B>) -> Option<Ticket>
     ensures port { IfSome result (λ t. t.port ≡ home.old.port) }
     ensures step { HomeStep [] (turns_of result) home.old home.new }
     ensures busy { IfNone result (FoundNotIdle home.new) }
+    ensures begun { BeginsAt 0 0 home.old home.new }
 {
     match home.schedule() {
         Ok(ticket) => Some(ticket),

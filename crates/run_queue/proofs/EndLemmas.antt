@@ -1,11 +1,14 @@
 -- What the ends of a deque know together.
-use Rattle.std.proofs.Common.{◌≡◌, ℕ, ◌+◌, List, [], ◌∷◌, ◌++◌, Option, Some, None, IfNone, is_some, false, true≢false, map, refl, ap, arith}
+use Rattle.std.proofs.Common.{◌≡◌, ℕ, ◌+◌, Global, List, [], ◌∷◌, ◌++◌, Option, Some, None, IfNone, is_some, false, true≢false, map, refl, ap, arith}
 use Rattle.std.specs.List.{sum_by}
+use Rattle.std.specs.Prelude.{length}
 use Rattle.std.proofs.lemmas.List.Sums.{sum_by-cons, sum_by_push, sum_by-append}
+use Rattle.crossbeam_deque.specs.Handles.{Pass}
 use Rattle.port_words.specs.declared.home.homes.Ticket.{Ticket}
 use Rattle.run_queue.specs.declared.account.Hand.{Hand}
 use Rattle.run_queue.specs.Account.{together, put_weight, taken_weight, parts_of, IsLeft}
-use Rattle.run_queue.specs.Seats.{DequeKnown, IsSameAccount, hands_of, IsRest, AreLeftOf, put_in_deques, taken_of_deques}
+use Rattle.run_queue.specs.Ends.{guest_view}
+use Rattle.run_queue.specs.Seats.{DequeKnown, IsSameAccount, hands_of, IsRest, AreLeftOf, put_in_deques, taken_of_deques, stolen_in}
 
 -- two hands weigh as much as one that is both
 both_weigh : (f : Hand → ℕ) (v g : Hand) (gs hands : List Hand) → f (together v g) ≡ f v + f g → sum_by f hands ≡ sum_by f (v ∷ (gs ++ g ∷ [])) → sum_by f hands ≡ sum_by f (together v g ∷ gs)
@@ -51,4 +54,13 @@ all_left deques v left more one two weight =
     let a = one weight in
     let b = two weight in
     let sums = sum_by-append weight left more in
+    omega arith
+
+-- what two lists of passes took, they took together
+pub stolen_joined : (gs hs : List (Pass Ticket Hand Global)) → stolen_in (map guest_view (gs ++ hs)) ≡ stolen_in (map guest_view gs) + stolen_in (map guest_view hs)
+stolen_joined [] hs = omega arith
+stolen_joined (g ∷ gs) hs =
+    let rest = stolen_joined gs hs in
+    let one = sum_by-cons (λ (v : Hand). length v.taken) (guest_view g) (map guest_view gs) in
+    let two = sum_by-cons (λ (v : Hand). length v.taken) (guest_view g) (map guest_view (gs ++ hs)) in
     omega arith

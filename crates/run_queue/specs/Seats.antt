@@ -1,5 +1,5 @@
 -- The ends of the queues of tickets as contracts see them.
-use Rattle.std.specs.Prelude.{◌≡◌, ◌≢◌, ◌⊎◌, ℕ, ◌+◌, ◌-◌, ◌<◌, ◌≤◌, List, [], ◌∷◌, ◌++◌, length, map, replicate, sum_by, slice_get, All, Option, Some, None, IsSome, MatchOption, option_map, option_to_list}
+use Rattle.std.specs.Prelude.{◌≡◌, ◌≢◌, ◌⊎◌, ℕ, ◌+◌, ◌-◌, ◌^◌, ◌<◌, ◌≤◌, min, List, [], ◌∷◌, ◌++◌, length, map, replicate, sum_by, slice_get, All, Option, Some, None, IsSome, MatchOption, option_map, option_to_list}
 use Rattle.std.proofs.Common.{zero, suc}
 use Rattle.atomic_blocks.specs.Laid.{WebId}
 use Rattle.atomic_blocks.specs.Lent.{RowsId}
@@ -234,6 +234,21 @@ pub record EachSawEmpty (s : RunKnown) : Type 0 where
 pub record HasEvery (s : RunKnown) : Type 0 where
   pub deques : All HasAll s.deques
   pub entry : s.entry.hand.parts ≡ all_parts
+
+-- a number as a count of 64 bits shows it, which goes no further than the greatest one
+abbrev pub counted : ℕ → ℕ
+counted n = min n (2 ^ 64 - 1)
+
+-- how many tickets the passes of a deque took, which its owner put there
+abbrev pub stolen_in : List Hand → ℕ
+stolen_in guests = sum_by (λ v. length v.taken) guests
+
+abbrev pub stolen_of : DequeKnown → ℕ
+stolen_of k = stolen_in k.guests
+
+-- how many tickets a seat took of the deques of others
+abbrev pub stolen_by : RunKnown → ℕ
+stolen_by s = sum_by stolen_of s.deques
 
 -- the tickets that a seat put, and that it took, each with a weight
 abbrev pub put_by : (Ticket → ℕ) → RunKnown → ℕ

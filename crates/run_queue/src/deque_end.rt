@@ -1,10 +1,10 @@
 // The ends of one deque that one seat has.
-ghost use Rattle.std.specs.Prelude.{◌≡◌, ◌+◌, ◌<◌, ◌≤◌, List, [], ◌∷◌, ◌++◌, length, vec_len, vec_capacity, Some, None, IsSome, IfSome, IfNone, IfErr, IfOk, OnOk, MatchOption, All, map};
+ghost use Rattle.std.specs.Prelude.{◌≡◌, ◌+◌, ◌<◌, ◌≤◌, List, [], ◌∷◌, ◌++◌, length, vec_len, vec_capacity, Some, None, IsSome, IfSome, IfNone, IfErr, IfOk, OnOk, MatchOption, ⊤, All, map};
 ghost use Rattle.crossbeam_deque.specs.Handles.{view, IsPassOf, stealer_deque, worker_deque, worker_view, stealer_flavor, worker_flavor};
 ghost use Rattle.run_queue.specs.Account.{after_put, after_take, parts_of, put_weight, taken_weight, WasEmpty};
 ghost use Rattle.port_words.specs.declared.home.homes.Ticket.{Ticket};
-ghost use Rattle.run_queue.specs.Ends.{IsOwnerOf, IsGuestOf, guest_view, IsFreshOwner, parts_left};
-ghost use Rattle.run_queue.specs.Seats.{deque_known, put_own, took_own, stole, OwnerSawEmpty, GuestSawEmpty, joined_deque, guest_end, with_own, HasAll, IsRest, hands_of, IsSameAccount, KeepsShape};
+ghost use Rattle.run_queue.specs.Ends.{IsOwnerOf, IsGuestOf, owner_view, guest_view, IsFreshOwner, parts_left};
+ghost use Rattle.run_queue.specs.Seats.{counted, stolen_of, deque_known, put_own, took_own, stole, OwnerSawEmpty, GuestSawEmpty, the_own, joined_deque, guest_end, with_own, HasAll, IsRest, hands_of, IsSameAccount, KeepsShape};
 
 use crate::account::{EachOnce, Hand, Left, OnePart, Puts, Takes, Together};
 use crossbeam_deque::{Pass, Steal, Stealer, Worker};
@@ -20,20 +20,21 @@ pub(crate) type Thief = Stealer<Ticket, Global, Hand, EachOnce>;
 
 pub(crate) type Guest = Pass<Ticket, Hand>;
 
-/// The deque's owner, where this seat has it, a stealer, and passes of the deque, for `most` of which there is memory.
+/// The deque's owner, where this seat has it, a stealer, passes of the deque, for `most` of which there is memory, and how many tickets they took.
 #[derive(Drop)]
 pub(crate) struct DequeEnd {
     owner: Option<Owner>,
     thief: Thief,
     guests: Vec<Guest>,
     most: u32,
+    stolen: u64,
 }
 
 impl Model for DequeEnd {
     ghost use Rattle.std.specs.Prelude.{◌≡◌, ◌≤◌, map, All, vec_capacity, MatchOption, ⊤};
     ghost use Rattle.crossbeam_deque.specs.Handles.{stealer_deque, stealer_flavor};
     ghost use Rattle.run_queue.specs.Ends.{IsOwnerOf, IsGuestOf, owner_view, guest_view};
-    ghost use Rattle.run_queue.specs.Seats.{DequeKnown, deque_known};
+    ghost use Rattle.run_queue.specs.Seats.{DequeKnown, deque_known, counted, stolen_in};
 
     ghost Value = { DequeKnown };
 
@@ -42,7 +43,8 @@ impl Model for DequeEnd {
     ghost invariant = { λ e. MatchOption e.owner ⊤ (IsOwnerOf (stealer_deque e.thief))
         × (stealer_flavor e.thief ≡ 0)
         × All (IsGuestOf (stealer_deque e.thief)) e.guests.items
-        × (e.most ≤ vec_capacity e.guests) };
+        × (e.most ≤ vec_capacity e.guests)
+        × (e.stolen ≡ counted (stolen_in (map guest_view e.guests.items))) };
 }
 
 fn put_by(owner: &mut Owner, ticket: Ticket) -> Result<(), Ticket>
@@ -114,10 +116,20 @@ impl DequeEnd {
         ensures some { IfSome result (λ t. self.new ≡ stole (t ∷ []) self.old) }
         ensures none { IfNone result ((self.new ≡ self.old) × GuestSawEmpty self.old) }
     {
-        steal_by(rt, &self.thief, &mut self.guests[0])
+        let ticket = steal_by(rt, &self.thief, &mut self.guests[0])?;
+        self.stolen = self.stolen.saturating_add(1);
+        Some(ticket)
+    }
+
+    /// How many tickets its guests took.
+    pub(crate) fn stolen(&self) -> u64
+        ensures { result ≡ counted (stolen_of self.now) }
+    {
+        self.stolen
     }
 
     /// Takes in the ends of the same deque that another seat has.
+    #[tactic(auto, using(crate::proofs::EndLemmas::stolen_joined))]
     pub(crate) fn join(&mut self, other: DequeEnd)
         requires deque { other.deque ≡ self.old.deque }
         requires room { length self.old.guests + length other.guests ≤ self.old.most }
@@ -128,12 +140,22 @@ impl DequeEnd {
             thief,
             mut guests,
             most: _,
+            stolen,
         } = other;
         drop(thief);
         if self.guests.append(&mut guests).is_err() {
             unreachable!();
         }
         drop(guests);
+        self.stolen = self.stolen.saturating_add(stolen);
+        self.join_owner(owner);
+    }
+
+    // Takes in the owner that another seat has, where it has it.
+    fn join_owner(&mut self, owner: Option<Owner>)
+        requires { MatchOption owner ⊤ (λ w. ((worker_deque w).0 ≡ self.old.deque) × (worker_flavor w ≡ 0) × (0 < (worker_view w).parts)) }
+        ensures { self.new ≡ record self.old { own = the_own self.old.own (owner_view owner) } }
+    {
         if self.owner.is_none() {
             self.owner = owner;
         }
@@ -154,6 +176,7 @@ impl DequeEnd {
             thief,
             guests,
             most,
+            stolen: 0,
         })
     }
 
@@ -176,6 +199,7 @@ impl DequeEnd {
             thief,
             guests,
             most: _,
+            stolen: _,
         } = self;
         drop(thief);
         match owner {

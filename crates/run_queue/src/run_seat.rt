@@ -1,6 +1,6 @@
 ghost use Rattle.std.specs.Prelude.{◌≡◌, ◌≢◌, ◌+◌, ◌<◌, ◌≤◌, List, [], ◌∷◌, length, vec_len, slice_get, Some, IsSome, IfSome, IfNone, IfErr, OnOk, All};
 ghost use Rattle.port_words.specs.declared.home.homes.Ticket.{Ticket};
-ghost use Rattle.run_queue.specs.Seats.{RunKnown, run_known, put_own, took_own, put_by_owner, OwnerSawEmpty, OthersSawEmpty, Stole, Took, EachSawEmpty, AreOfOneQueue, joined_seat, joined_deques, joined_entry, changed_at, DequeKnown, OwnsItsDeque, IsDequeEnd, HasGuest, SawEmptyAt, GuestSawEmpty, stole, joined_deque, CanJoin, CanJoinEach, KeepsEnds, TookOwn, OwnSawEmpty, EntrySawEmpty, took_entry, HasEvery, HasAll, IsLeftOf, AreLeftOf};
+ghost use Rattle.run_queue.specs.Seats.{RunKnown, run_known, put_own, took_own, put_by_owner, OwnerSawEmpty, OthersSawEmpty, Stole, Took, EachSawEmpty, AreOfOneQueue, joined_seat, joined_deques, joined_entry, changed_at, DequeKnown, OwnsItsDeque, IsDequeEnd, HasGuest, SawEmptyAt, GuestSawEmpty, stole, joined_deque, CanJoin, CanJoinEach, KeepsEnds, TookOwn, OwnSawEmpty, EntrySawEmpty, took_entry, HasEvery, HasAll, IsLeftOf, AreLeftOf, counted, stolen_by};
 
 use crate::deque_end::DequeEnd;
 use crate::entry_seat::EntrySeat;
@@ -156,6 +156,18 @@ impl RunSeat {
             return Some(ticket);
         }
         self.take_other(rt)
+    }
+
+    /// How many tickets it stole, which are those that it took of the deques of others. What the seats stole that it took in counts too. It counts no further
+    /// than 2^64 - 1.
+    pub fn stolen(&self) -> u64
+        ensures { result ≡ counted (stolen_by self.now) }
+    {
+        let mut all = 0u64;
+        'deques: for deque in &self.deques {
+            all = all.saturating_add(deque.stolen());
+        }
+        all
     }
 
     /// Takes in another seat of the same queues. A ticket that lies in its deque stays there.

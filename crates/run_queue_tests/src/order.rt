@@ -25,6 +25,8 @@ fn the_second_scheduler_steals_the_first_ticket(rt: HostRuntime) -> Result<(), F
     assert_eq!(rt; next_port(&rt, &mut zero), Some(1));
     assert_eq!(rt; next_port(&rt, &mut zero), None);
     assert_eq!(rt; next_port(&rt, &mut one), None);
+    assert_eq!(rt; one.stolen(), 1);
+    assert_eq!(rt; zero.stolen(), 0);
     Ok(())
 }
 
@@ -39,7 +41,9 @@ fn the_own_deque_comes_before_the_injector(rt: HostRuntime) -> Result<(), Fail> 
     one.push(ticket(2)).ok().ok_or("no memory")?;
     assert_eq!(rt; next_port(&rt, &mut one), Some(2));
     assert_eq!(rt; next_port(&rt, &mut one), Some(1));
+    assert_eq!(rt; one.stolen(), 0);
     assert_eq!(rt; next_port(&rt, &mut one), Some(0));
+    assert_eq!(rt; one.stolen(), 1);
     assert_eq!(rt; next_port(&rt, &mut one), None);
     Ok(())
 }

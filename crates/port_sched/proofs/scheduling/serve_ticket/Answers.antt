@@ -1,4 +1,5 @@
 use Rattle.std.proofs.Common.{[], ◌∷◌, refl, arith}
+use Rattle.port_sched.proofs.Begun.{keeps_none, keeps_then}
 use Rattle.port_sched.proofs.Served.{served_homes, served_then, served_strange, served_all, kept_err}
 use Rattle.port_sched.proofs.scheduling.serve_ticket.Goals as goal
 
@@ -13,10 +14,16 @@ pub returns-in_err-follow-clause-tickets : goal.returns-in_err-follow-clause-tic
 returns-in_err-follow-clause-tickets g c =
     let f = c.in_err-follow.ensures.tickets in
     let held = c.args.ticket ∷ [] in
-    (f.0, kept_err c.from_residual.result c.from_residual.ensures.0 f.0 f.1, served_then held f.0 _ _ _ _ _ _ (served_homes held [] _ _ _ c.claim_at-turn.ensures.1) f.2)
+    (f.0, kept_err c.from_residual.result c.from_residual.ensures.0 f.0 f.1, served_then held f.0 _ _ _ _ _ _ (served_homes held [] _ _ _ c.claim_at-turn.ensures.homes.1) f.2)
 
 pub returns-clause-tickets : goal.returns-clause-tickets
 returns-clause-tickets g c =
     let f = c.in_ok-follow.ensures.tickets in
     let held = c.args.ticket ∷ [] in
-    ([], refl, served_then held [] _ _ _ _ _ _ (served_homes held [] _ _ _ c.claim_at-turn.ensures.1) (served_all [] f.0 _ _ _ _ f.1 f.2))
+    ([], refl, served_then held [] _ _ _ _ _ _ (served_homes held [] _ _ _ c.claim_at-turn.ensures.homes.1) (served_all [] f.0 _ _ _ _ f.1 f.2))
+
+pub returns-in_err-follow-clause-counts : goal.returns-in_err-follow-clause-counts
+returns-in_err-follow-clause-counts g c = keeps_then _ _ _ _ _ _ c.claim_at-turn.ensures.counts (keeps_none _ _ _ c.in_err-follow.ensures.begun)
+
+pub returns-clause-counts : goal.returns-clause-counts
+returns-clause-counts g c = keeps_then _ _ _ _ _ _ c.claim_at-turn.ensures.counts (keeps_none _ _ _ c.in_ok-follow.ensures.begun)

@@ -59,7 +59,7 @@ runs-preserved g c =
           let place = All-pop (IsOther word) c.runs.places.items c.pop-in-runs.new.self.items (Some over) c.in-Some-pop-2.ensures.items before.2 in (
             subst (AreSeated (inv.0 ++ run ∷ []) row word) (sym c.add.ensures.items)
                 (seated_more inv.0 run row word c.runs.all.items new before.0
-                (record { run_is = ap (λ s. s.run) c.new.ensures.0; homes_are = ap (λ s. s.homes.items) c.new.ensures.0 ∙ mine.1; over = subst (IsOther word) (sym (ap (λ s. s.over) c.new.ensures.0)) place.1 })),
+                (record { run_is = ap (λ s. s.run) c.new.ensures.waits.0; homes_are = ap (λ s. s.homes.items) c.new.ensures.waits.0 ∙ mine.1; over = subst (IsOther word) (sym (ap (λ s. s.over) c.new.ensures.waits.0)) place.1 })),
             mine.0,
             place.0,
           ),
