@@ -1,5 +1,5 @@
 -- What always holds of a body, after each of its calls.
-use Rattle.std.proofs.Common.{◌≡◌, ℕ, Bool, List, [], ◌∷◌, sym, ap, subst}
+use Rattle.std.proofs.Common.{◌≡◌, ℕ, Bool, List, sym, subst}
 use Rattle.task_queue.specs.declared.item.Item.{Item}
 use Rattle.task_queue.specs.declared.protocol.Ended.{Ended}
 use Rattle.port_lanes.specs.Parcels.{ParcelView}

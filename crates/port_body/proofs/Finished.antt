@@ -1,7 +1,7 @@
 -- A body that has finished stays finished: each lawful row behind is late, or tells of no task.
-use Rattle.std.proofs.Common.{◌≡◌, ℕ, suc, zero, ◌==◌, Bool, true, false, ◌&&◌, ◌||◌, List, [], ◌∷◌, ◌++◌, is_some, refl, sym, ap, ◌∙◌, subst, inl, inr}
+use Rattle.std.proofs.Common.{◌≡◌, ℕ, suc, zero, ◌==◌, Bool, true, false, ◌&&◌, ◌||◌, List, [], ◌∷◌, ◌++◌, refl, sym, ap, ◌∙◌, subst, inl, inr}
 use Rattle.std.specs.Prelude.{not, nat_lt, reverse, if◌then◌else◌}
-use Rattle.std.specs.List.{list_all, list_any}
+use Rattle.std.specs.List.{list_all}
 use Rattle.std.proofs.lemmas.List.{reverse-append}
 use Rattle.port_model.specs.declared.event.Dir.{Dir}
 use Rattle.port_model.specs.declared.event.Dir.TheVariants.{Read, Write}
@@ -16,7 +16,7 @@ use Rattle.port_model.specs.declared.signal.Signal.TheVariants as signal
 use Rattle.port_model.specs.Tasks.{TaskView}
 use Rattle.port_history.specs.Events.{Event, change, disarm, event_of, is_selected, told_of, unused}
 use Rattle.port_history.specs.Jobs.{Submitted, done_by, is_done, is_submitted}
-use Rattle.port_history.specs.Laws.{all_resumed, is_given_back, is_next, is_ready, keeps_end, may_send}
+use Rattle.port_history.specs.Laws.{all_resumed, is_given_back, is_ready, keeps_end}
 use Rattle.port_history.specs.Marks.{none_due}
 use Rattle.port_history.specs.Opening.{Opening}
 use Rattle.port_history.specs.State.{State, after, is_open, state}
@@ -25,7 +25,7 @@ use Rattle.served_port.specs.View.{IsAt}
 use Rattle.recorded_port.specs.Laws.{IsLawful, KeepsPortLaws}
 use Rattle.recorded_port.specs.View.{RecordedView, is_finished, state_of}
 use Rattle.port_body.specs.LanePort.{LanePortView, IsBody, IsSameLanePort}
-use Rattle.port_body.specs.Steps.{HasLooked, StaySuspended}
+use Rattle.port_body.specs.Steps.{HasLooked}
 use Rattle.port_body.specs.Turns.{Steps}
 
 and-first : (a b : Bool) → (a && b) ≡ true → a ≡ true

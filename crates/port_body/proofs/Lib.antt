@@ -11,3 +11,4 @@ pub mod Room
 pub mod Reserved
 pub mod Always
 pub mod Finished
+pub mod Sent

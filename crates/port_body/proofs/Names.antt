@@ -1,6 +1,5 @@
 -- What turns leave, and what a body is called.
-use Rattle.std.proofs.Common.{◌≡◌, ℕ, suc, ◌<◌, ◌≤◌, Bool, true, false, refl, sym, ap, ◌∙◌, subst, arith}
-use Rattle.std.specs.Prelude.{reverse}
+use Rattle.std.proofs.Common.{◌≡◌, ℕ, Bool, true, false, refl, ap, ◌∙◌}
 use Rattle.task_queue.specs.Ends.{Taking}
 use Rattle.port_events.specs.Table.{EventTable}
 use Rattle.port_lanes.specs.Keys.{Key}

@@ -1,5 +1,5 @@
 -- Room that was made changes nothing else.
-use Rattle.std.proofs.Common.{◌≡◌, ◌⊎◌, ◌&&◌, ◌||◌, ℕ, Bool, true, false, List, [], ◌∷◌, ◌++◌, refl, sym, ap, ◌∙◌, subst, inl, inr}
+use Rattle.std.proofs.Common.{◌≡◌, ◌⊎◌, ◌&&◌, ◌||◌, ℕ, Bool, true, false, List, [], ◌∷◌, ◌++◌, sym, ap, ◌∙◌, subst, inl, inr}
 use Rattle.std.specs.Prelude.{nat_lt, if◌then◌else◌}
 use Rattle.task_queue.specs.declared.item.Item.{Item}
 use Rattle.port_lanes.specs.Parcels.{ParcelView}

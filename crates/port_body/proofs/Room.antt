@@ -1,5 +1,5 @@
 -- For how many rows there is room, as rows come.
-use Rattle.std.proofs.Common.{◌≡◌, ℕ, ◌+◌, ◌≤◌, map, Bool, true, false, List, [], ◌∷◌, ◌++◌, length, length-append, refl, sym, ap, ◌∙◌, subst, arith, inl, inr}
+use Rattle.std.proofs.Common.{◌≡◌, ℕ, ◌+◌, ◌≤◌, map, Bool, true, false, List, [], ◌∷◌, ◌++◌, length, length-append, refl, sym, ap, ◌∙◌, arith, inl, inr}
 use Rattle.std.specs.Prelude.{reverse}
 use Rattle.std.proofs.lemmas.List.{length-map}
 use Rattle.task_queue.specs.declared.item.Item.{Item}
@@ -10,7 +10,7 @@ use Rattle.port_model.specs.declared.row.Row.TheVariants.{Listed, Mark, Resumed}
 use Rattle.port_model.specs.declared.signal.Sender.{Sender}
 use Rattle.port_model.specs.declared.signal.Sender.TheVariants.{Process}
 use Rattle.port_model.specs.Tasks.{TaskView}
-use Rattle.port_history.specs.State.{State, state}
+use Rattle.port_history.specs.State.{state}
 use Rattle.port_history.specs.Suspension.{Entry, entry}
 use Rattle.port_suspension.specs.Listed.{listed_as}
 use Rattle.waiting_parcels.specs.Waiting.{GoesFirst}

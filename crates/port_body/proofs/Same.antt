@@ -1,11 +1,10 @@
 -- What stays the same of a port at its lane.
-use Rattle.std.proofs.Common.{◌≡◌, List, [], ◌∷◌, ◌++◌, refl, sym, ap, ◌∙◌, subst}
+use Rattle.std.proofs.Common.{◌≡◌, [], ◌∷◌, ◌++◌, refl, sym, ap, ◌∙◌, subst}
 use Rattle.std.proofs.lemmas.List.{append-nil, append_assoc}
 use Rattle.task_queue.specs.declared.item.Item.{Item}
 use Rattle.task_queue.specs.Ends.{Taking}
 use Rattle.port_lanes.specs.Keys.{Key}
 use Rattle.port_lanes.specs.Parcels.{ParcelView}
-use Rattle.recorded_port.specs.View.{RecordedView}
 use Rattle.recorded_port.specs.Taking.{IsSameRecorded}
 use Rattle.recorded_port.proofs.Same.{same-refl, same-trans}
 use Rattle.port_body.specs.LanePort.{LanePortView, IsSameLanePort}

@@ -1,6 +1,5 @@
 -- What a body is once it ended, and what it gives back.
-use Rattle.std.specs.Prelude.{◌≡◌, ◌<◌, ◌≤◌, ℕ, List, [], ◌++◌, length, slice_index_or, reverse, Bool, true, false}
-use Rattle.task_queue.specs.declared.item.Item.{Item}
+use Rattle.std.specs.Prelude.{◌≡◌, ◌<◌, ◌≤◌, ℕ, List, [], ◌++◌, length, slice_index_or, reverse, true, false}
 use Rattle.task_queue.specs.Ends.{Taking}
 use Rattle.port_config.specs.declared.config.Config.{Config}
 use Rattle.port_driver.specs.declared.life.Life.TheVariants.{Stopped}
@@ -13,7 +12,6 @@ use Rattle.port_lanes.specs.Parcels.{ParcelView}
 use Rattle.port_model.specs.declared.row.Row.{Row}
 use Rattle.port_model.specs.declared.signal.Sender.TheVariants.{Timer}
 use Rattle.port_mail.specs.Ends.{MailEnd}
-use Rattle.port_words.specs.busy.Known.{PortKnown}
 use Rattle.recorded_port.specs.Asks.{GaveJobs, asks, removals}
 use Rattle.recorded_port.specs.Laws.{IsLawful}
 use Rattle.recorded_port.specs.View.{removed_sizes, stat_marks, state_of}
