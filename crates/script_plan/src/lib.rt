@@ -13,7 +13,7 @@ pub use decl::{PortDecl, ProcessDecl, SaveDecl};
 pub use fault::ScriptFault;
 pub use file_name::FileName;
 pub use io_vector::Piece;
-pub use port_config::Config;
+pub use port_config::{Config, Mode};
 pub use port_model::Reason;
 pub use script::{Script, ScriptParts};
 pub use step::{Act, Step};

@@ -1,0 +1,9 @@
+pub mod Kept
+pub mod Numbers
+pub mod SoFar
+pub mod Found
+pub mod Again
+pub mod Ranges
+pub mod Configs
+pub mod Turns
+pub mod Plans
