@@ -13,10 +13,7 @@ const DECLARED: [(&str, &str); 14] = [
         "process a\nport c a spawn run \"cat\" line 80\na file c 4096 \"in.txt\"\na expect c 12\nsave a c \"out.txt\"\n",
         "1 process a;2 port c 0 spawn run [99, 97, 116] line 80;5 save 0 0 \"out.txt\";3 0 file 0 4096 \"in.txt\" false false;4 0 expect 0 12;",
     ),
-    (
-        "process a\nport p a spawn",
-        "1 process a;2 port p 0 spawn;",
-    ),
+    ("process a\nport p a spawn", "1 process a;2 port p 0 spawn;"),
     (
         "process a\nport p a echo msgq 1 2",
         "1 process a;2 port p 0 echo msgq 1 2;",
@@ -92,7 +89,10 @@ const STEPS: [(&str, &str); 25] = [
         "a call p 0 {1, \"ab\", -5}",
         "5 0 call 0 0 [131, 104, 3, 97, 1, 107, 0, 2, 97, 98, 98, 255, 255, 255, 251];",
     ),
-    ("a call p 1 << \"\" >>", "5 0 call 0 1 [131, 109, 0, 0, 0, 0];"),
+    (
+        "a call p 1 << \"\" >>",
+        "5 0 call 0 1 [131, 109, 0, 0, 0, 0];",
+    ),
     ("a close q", "5 0 close 1;"),
     ("a connect p b", "5 0 connect 0 1;"),
     ("a sendclose p", "5 0 sendclose 0;"),
@@ -112,7 +112,10 @@ const STEPS: [(&str, &str); 25] = [
     ("a bytes q 12", "5 0 bytes 1 12;"),
     ("a die bytes", "5 0 die bytes;"),
     ("a die x\nb close p", "5 0 die x;6 1 close 0;"),
-    ("a command p \"force\"", "5 0 command 0 [102, 111, 114, 99, 101] false false;"),
+    (
+        "a command p \"force\"",
+        "5 0 command 0 [102, 111, 114, 99, 101] false false;",
+    ),
 ];
 
 #[test]

@@ -18,7 +18,11 @@ fn shown(alloc: Global, script: &Script) -> Result<String, AllocError> {
     }
     for save in script.saves() {
         let name = save.file.as_str();
-        write!(text, "{} save {} {} {name:?};", save.line, save.process, save.port)?;
+        write!(
+            text,
+            "{} save {} {} {name:?};",
+            save.line, save.process, save.port
+        )?;
     }
     show_steps(alloc, &mut text, script.steps())?;
     Ok(text)
