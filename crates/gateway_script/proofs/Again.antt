@@ -1,32 +1,32 @@
 -- What is written by the grammar of a line is read again.
-use Rattle.std.proofs.Common.{◌≡◌, ℕ, zero, suc, ◌+◌, ◌<◌, ◌≤◌, Bool, true, false, List, [], ◌∷◌, ◌++◌, length, Option, Some, None, refl, sym, ap, subst, ◌∙◌, arith, inl, inr, cond, get_or}
+use Rattle.std.proofs.Common.{◌≡◌, ℕ, zero, suc, ◌+◌, ◌≤◌, Bool, true, false, List, [], ◌∷◌, ◌++◌, length, Option, Some, None, refl, sym, ap, subst, ◌∙◌, arith, inl, inr, cond, get_or}
 use Rattle.std.specs.Prelude.{codes, nat_le, nat_lt, nat_eq, ◌&&◌, ◌==◌, not}
 use Rattle.std.specs.List.{list_all, prefix_len}
-use Rattle.std.specs.Str.{bytes_eq, is_utf8}
+use Rattle.std.specs.Str.{bytes_eq}
 use Rattle.std.proofs.lemmas.Bool.{and_parts, le-leb, or_parts}
 use Rattle.std.proofs.lemmas.Bool.Decides.{nat_tests, eqb_tells}
 use Rattle.std.proofs.lemmas.List.{append-nil, append_assoc, take_at, drop_at, length-append}
 use Rattle.std.proofs.lemmas.Str.{is_utf8-from_IsUtf8}
 use Rattle.packet_framing.specs.declared.mode.Mode.{Mode}
-use Rattle.packet_framing.specs.declared.mode.Mode.TheVariants.{Packet1, Packet2, Packet4, Line, Stream}
+use Rattle.packet_framing.specs.declared.mode.Mode.TheVariants.{Packet1, Packet2, Packet4, Line}
 use Rattle.port_signal.specs.Name.{fault_from, may_stand}
 use Rattle.port_terms.specs.declared.values.TheConstants.{MAX_DEPTH}
 use Rattle.port_terms.specs.Tree.{Tree}
 use Rattle.port_terms.specs.Written.{external, flattened}
-use Rattle.script_text.specs.Tokens.{gap, is_digit, is_name_byte, SpellsNumber}
+use Rattle.script_text.specs.Tokens.{gap, is_digit, SpellsNumber}
 use Rattle.script_text.specs.Texts.{SpellsText}
 use Rattle.script_text.specs.InFront.{IsEnd}
 use Rattle.script_text.specs.Data.{SpellsIoList, SpellsTerm, Spells, Language, io_item, term}
-use Rattle.script_text.specs.Reading.{is_space, io_list_at, io_bytes_at, number_at, text_at, value_at}
+use Rattle.script_text.specs.Reading.{is_space, io_bytes_at, number_at, text_at, value_at}
 use Rattle.script_text.proofs.Fronts.{skip_gaps}
 use Rattle.script_text.proofs.Again.{number_again, text_again, first_digit}
 use Rattle.script_text.proofs.AgainData.{io_list_again, term_again, spelling_begins, begins}
 use Rattle.gateway_script.specs.Words.{is_word_byte, gap_at, word_at, next_word_at, name_of, next_name_at, is_reserved, free_name_of, next_free_name_at, last, next_number_at, number_within, next_text_at, utf8_name_of, next_file_at, ◌>>=◌}
 use Rattle.gateway_script.specs.Options.{suits}
-use Rattle.gateway_script.specs.Forms.{limits_at, msgq_at, packet_of, packet_at, line_at, run_at, busy_at, flag_of, option_behind, option_at, is_end, some_options_at, options_at, nosuspend_at, how_at, payload_at, op_at, term_at, command_at, file_at, send_at, control_at, call_at, only_number_at, only_name_at, named_at, action_at, step_behind, process_at, suited, port_at, journal_at, save_at, step_at, form_at, is_silent, statement_of}
+use Rattle.gateway_script.specs.Forms.{limits_at, msgq_at, packet_of, packet_at, line_at, run_at, busy_at, option_behind, option_at, some_options_at, options_at, nosuspend_at, how_at, payload_at, term_at, command_at, file_at, send_at, control_at, call_at, only_number_at, only_name_at, named_at, action_at, step_behind, process_at, suited, port_at, journal_at, save_at, step_at, form_at, is_silent, statement_of}
 use Rattle.gateway_script.specs.declared.options.QueueLimits.{QueueLimits}
 use Rattle.gateway_script.specs.declared.options.PortOption.{PortOption}
-use Rattle.gateway_script.specs.declared.options.PortOption.TheVariants.{Msgq, MsgqOff, Run, Framing, Eof, ExitStatus, Busy}
+use Rattle.gateway_script.specs.declared.options.PortOption.TheVariants.{Msgq, MsgqOff, Run, Framing, Busy}
 use Rattle.gateway_script.specs.declared.statement.Statement.{Statement}
 use Rattle.gateway_script.specs.declared.statement.Statement.TheVariants.{Nothing, Process, Port, Journal, Save, Step, Die}
 use Rattle.gateway_script.specs.declared.statement.CommandOptions.{CommandOptions}

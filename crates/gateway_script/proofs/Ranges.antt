@@ -1,5 +1,5 @@
 -- The numbers of what a line says lie in their ranges.
-use Rattle.std.proofs.Common.{◌≡◌, ℕ, List, Some, All, true, refl, ap, ◌∙◌}
+use Rattle.std.proofs.Common.{◌≡◌, ℕ, List, Some, All, refl, ap, ◌∙◌}
 use Rattle.std.specs.Prelude.{nat_le, ◌&&◌}
 use Rattle.std.proofs.lemmas.Bool.{le-leb}
 use Rattle.std.proofs.lemmas.List.Elements.{All-nil, All-cons}

@@ -1,5 +1,5 @@
 -- The forms of a line, and what a line of each form says.
-use Rattle.std.specs.Prelude.{ℕ, zero, suc, ◌^◌, ◌∷◌, List, [], length, Bool, true, false, ◌&&◌, not, Option, Some, None, if◌then◌else◌, nat_eq, nat_le, codes}
+use Rattle.std.specs.Prelude.{ℕ, zero, suc, ◌∷◌, List, [], length, Bool, true, false, ◌&&◌, not, Option, Some, None, if◌then◌else◌, nat_eq, nat_le, codes}
 use Rattle.std.specs.List.{list_all}
 use Rattle.std.specs.Str.{bytes_eq}
 use Rattle.packet_framing.specs.declared.mode.Mode.{Mode}

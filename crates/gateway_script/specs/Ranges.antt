@@ -1,5 +1,5 @@
 -- The ranges in which the numbers of a line lie.
-use Rattle.std.specs.Prelude.{◌≡◌, ℕ, ◌≤◌, true, List, All}
+use Rattle.std.specs.Prelude.{◌≡◌, ◌≤◌, true, All}
 use Rattle.port_config.specs.Config.{is_served}
 use Rattle.gateway_script.specs.declared.options.QueueLimits.{QueueLimits}
 use Rattle.gateway_script.specs.declared.options.PortOption.{PortOption}

@@ -18,7 +18,7 @@ use Rattle.gateway_script.specs.declared.statement.Action.{Action}
 use Rattle.gateway_script.specs.declared.statement.Action.TheVariants.{Command, File, Send, Control, Call, Close, Connect, SendClose, SendConnect, Link, Unlink, Monitor, Demonitor, Exit, Expect, Bytes}
 use Rattle.gateway_script.specs.Lines.{Line, lines}
 use Rattle.gateway_script.specs.LineFault.{fault_at}
-use Rattle.gateway_script.specs.Options.{is_repeated, set_all, config_of}
+use Rattle.gateway_script.specs.Options.{config_of}
 use Rattle.gateway_script.specs.Forms.{statement_of}
 
 infixl 10 ◌>>=◌

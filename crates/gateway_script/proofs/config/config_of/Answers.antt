@@ -1,4 +1,4 @@
-use Rattle.std.proofs.Common.{◌≡◌, refl, sym, ap, ◌∙◌, subst, drop, true}
+use Rattle.std.proofs.Common.{◌≡◌, refl, sym, ap, ◌∙◌, subst, true}
 use Rattle.std.proofs.lemmas.List.{drop_all}
 use Rattle.port_config.specs.declared.config.Config.{Config}
 use Rattle.port_config.specs.Config.{plain, is_config}

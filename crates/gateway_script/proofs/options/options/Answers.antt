@@ -1,7 +1,7 @@
-use Rattle.std.proofs.Common.{◌≡◌, ◌++◌, ◌∷◌, [], refl, sym, ap, ◌∙◌}
+use Rattle.std.proofs.Common.{sym, ap, ◌∙◌}
 use Rattle.std.proofs.lemmas.Result.{err_from_is_err_and}
 use Rattle.script_text.proofs.Turns.{missed_stops}
-use Rattle.gateway_script.specs.Forms.{option_at, options_at}
+use Rattle.gateway_script.specs.Forms.{options_at}
 use Rattle.gateway_script.proofs.Turns.{with_front, option_shorter, option_goes_on, option_stops, options_end, something_left, nothing_left}
 use Rattle.gateway_script.proofs.options.options.Goals as goal
 
