@@ -1,6 +1,7 @@
 pub mod Kept
 pub mod Numbers
 pub mod SoFar
+pub mod FoundParts
 pub mod Found
 pub mod Again
 pub mod Ranges

@@ -80,7 +80,7 @@ pub(crate) fn all_suit(driver: &Reason, options: &[PortOption]) -> bool
     options.iter().all(|option| option.suits(driver))
 }
 
-/// Whether one option stands twice. Each option but the last few repeats one of them, so not much is looked at twice.
+/// Whether one option stands twice. There are six, so at most seven are compared with all behind them.
 fn is_repeated(options: &[PortOption]) -> bool
     ensures { result ≡ is_repeated options.now }
 {

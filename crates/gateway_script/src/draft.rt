@@ -8,6 +8,7 @@ ghost use Rattle.gateway_script.specs.Script.{empty, process_named, port_named, 
 ghost use Rattle.gateway_script.specs.Options.{config_of};
 ghost use Rattle.script_plan.specs.Monitors.{monitor_count, oldest_monitor, NumberNext};
 ghost use Rattle.gateway_script.specs.declared.line_fault.LineFault.TheVariants as fault;
+ghost use Rattle.script_plan.specs.declared.step.Act.TheVariants as act;
 ghost use Rattle.gateway_script.specs.Steps.{IsSteps};
 ghost use Rattle.gateway_script.specs.Draft.{IsDraft, plan_of};
 ghost use Rattle.port_config.specs.Config.{is_config};
@@ -17,11 +18,12 @@ ghost use Rattle.gateway_script.specs.Ranges.{InAction, InOption, InStatement};
 use crate::config::config_of;
 use crate::line_fault::LineFault;
 use crate::options::PortOptions;
-use crate::statement::{Action, Statement};
+use crate::statement::{Action, CommandOptions, Statement};
 use crate::steps::{MAX_NAMED, MAX_STEPS, Steps};
 use no_memory::NoMemory;
 use script_plan::{
-    Act, Config, FileName, PortDecl, ProcessDecl, Reason, SaveDecl, Script, ScriptParts, Step,
+    Act, Config, FileName, Piece, PortDecl, ProcessDecl, Reason, SaveDecl, Script, ScriptParts,
+    Step,
 };
 use std::alloc::Global;
 
@@ -390,19 +392,8 @@ impl Draft {
         ensures number { IfOk result (NumberNext (monitor_count process self.now.steps.list.items)) }
     {
         Ok(match action {
-            Action::Command { bytes, how } => Act::Command {
-                port,
-                bytes,
-                force: how.force,
-                nosuspend: how.nosuspend,
-            },
-            Action::File { size, name, how } => Act::File {
-                port,
-                size,
-                file: name,
-                force: how.force,
-                nosuspend: how.nosuspend,
-            },
+            Action::Command { bytes, how } => command(port, bytes, how),
+            Action::File { size, name, how } => file(port, size, name, how),
             Action::Send(bytes) => Act::Send { port, bytes },
             Action::Control { op, bytes } => Act::Control { port, op, bytes },
             Action::Call { op, bytes } => Act::Call { port, op, bytes },
@@ -444,5 +435,30 @@ impl Draft {
             Some(number) => Ok(number),
             None => Err(LineFault::Bad),
         }
+    }
+}
+
+/// A command to the port at this place.
+fn command(port: u32, bytes: Piece, how: CommandOptions) -> Act
+    ensures { result ≡ act.Command port bytes how.force how.nosuspend }
+{
+    Act::Command {
+        port,
+        bytes,
+        force: how.force,
+        nosuspend: how.nosuspend,
+    }
+}
+
+/// Commands of the pieces of a file to the port at this place.
+fn file(port: u32, size: u32, file: FileName, how: CommandOptions) -> Act
+    ensures { result ≡ act.File port size file how.force how.nosuspend }
+{
+    Act::File {
+        port,
+        size,
+        file,
+        force: how.force,
+        nosuspend: how.nosuspend,
     }
 }
