@@ -1,6 +1,5 @@
 -- What a script says.
-use Rattle.std.specs.Prelude.{◌≡◌, ℕ, ◌<◌, ◌≤◌, List, length, All, true, Option, string_bytes}
-use Rattle.std.specs.Option.{option_map}
+use Rattle.std.specs.Prelude.{◌≡◌, ℕ, ◌<◌, ◌≤◌, List, length, All, true, Option}
 use Rattle.port_config.specs.Config.{is_config}
 use Rattle.script_plan.specs.declared.decl.ProcessDecl.{ProcessDecl}
 use Rattle.script_plan.specs.declared.decl.PortDecl.{PortDecl}
@@ -24,7 +23,7 @@ plan_of parts = record {
   processes = parts.processes.items;
   ports = parts.ports.items;
   saves = parts.saves.items;
-  journal = option_map (λ name. string_bytes name) parts.journal;
+  journal = parts.journal;
   steps = parts.steps.items;
 }
 

@@ -1,3 +1,4 @@
+use crate::FileName;
 use port_config::Config;
 use port_model::Reason;
 
@@ -25,5 +26,5 @@ pub struct SaveDecl {
     pub line: u32,
     pub process: u32,
     pub port: u32,
-    pub file: String,
+    pub file: FileName,
 }

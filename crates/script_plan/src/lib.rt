@@ -5,13 +5,15 @@
 
 mod decl;
 mod fault;
+mod file_name;
 mod script;
 mod step;
 
 pub use decl::{PortDecl, ProcessDecl, SaveDecl};
 pub use fault::ScriptFault;
+pub use file_name::FileName;
 pub use io_vector::Piece;
-pub use port_config::Config;
+pub use port_config::{Config, Mode};
 pub use port_model::Reason;
 pub use script::{Script, ScriptParts};
 pub use step::{Act, Step};

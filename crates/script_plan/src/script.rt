@@ -1,8 +1,8 @@
-ghost use Rattle.std.specs.Prelude.{◌≡◌, string_bytes};
+ghost use Rattle.std.specs.Prelude.{◌≡◌};
 ghost use Rattle.std.specs.Option.{option_map};
 ghost use Rattle.script_plan.specs.Plan.{IsPlan, plan_of};
 
-use crate::{PortDecl, ProcessDecl, SaveDecl, Step};
+use crate::{FileName, PortDecl, ProcessDecl, SaveDecl, Step};
 use std::marker::Model;
 
 /// The lists of a script, each in the order of its lines, and the file to which the journal is written.
@@ -11,7 +11,7 @@ pub struct ScriptParts {
     pub processes: Vec<ProcessDecl>,
     pub ports: Vec<PortDecl>,
     pub saves: Vec<SaveDecl>,
-    pub journal: Option<String>,
+    pub journal: Option<FileName>,
     pub steps: Vec<Step>,
 }
 

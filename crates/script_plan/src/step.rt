@@ -1,3 +1,4 @@
+use crate::FileName;
 use io_vector::Piece;
 use port_model::Reason;
 
@@ -23,7 +24,7 @@ pub enum Act {
     File {
         port: u32,
         size: u32,
-        file: String,
+        file: FileName,
         force: bool,
         nosuspend: bool,
     },

@@ -4,6 +4,7 @@ use Rattle.std.specs.List.{take_while, prefix_len}
 use Rattle.port_terms.specs.declared.values.TheConstants.{MAX_ITEMS, MAX_DEPTH}
 use Rattle.port_terms.specs.Tree.{Tree, Forest, int, atom, bin, tuple, list, forest}
 use Rattle.port_terms.specs.Spelling.{ints}
+use Rattle.port_terms.specs.Written.{flattened}
 use Rattle.script_text.specs.declared.openings.Opening.{Opening}
 use Rattle.script_text.specs.declared.openings.Opening.TheVariants.{Quote, Bracket, Brace, Angle, Letter, Other}
 use Rattle.script_text.specs.Tokens.{is_digit, is_letter, is_name_byte, is_name, value_of}
@@ -215,3 +216,7 @@ is_int (list ts) = false
 -- an IOLIST, and not a lone number
 unfoldable pub io_list_at : List ℕ → Option (Tree × List ℕ)
 io_list_at bytes = value_at io_item MAX_DEPTH bytes >>= λ value. if is_int value.0 then None else Some value
+
+-- the bytes of an IOLIST, from left to right
+unfoldable pub io_bytes_at : List ℕ → Option (List ℕ × List ℕ)
+io_bytes_at bytes = io_list_at bytes >>= λ list. Some (flattened list.0, list.1)

@@ -33,3 +33,14 @@ impl<T: Drop> From<AllocFailed<T>> for PartFault {
         PartFault::NoMemory
     }
 }
+
+impl From<NoMemory> for PartFault {
+    ghost use Rattle.std.specs.Prelude.{◌≡◌};
+    ghost use Rattle.script_text.specs.declared.fault.PartFault.TheVariants as fault;
+
+    ghost from_gives = { λ _ f. f ≡ fault.NoMemory };
+
+    fn from(_: NoMemory) -> PartFault {
+        PartFault::NoMemory
+    }
+}

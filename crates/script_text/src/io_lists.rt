@@ -7,13 +7,13 @@ ghost use Rattle.script_text.specs.Data.{io_item, SpellsIoList};
 ghost use Rattle.script_text.specs.InFront.{InFront};
 ghost use Rattle.port_terms.specs.Tree.{Tree};
 ghost use Rattle.script_text.specs.PartFault.{Reads, Gives};
-ghost use Rattle.script_text.specs.Reading.{bin_at, io_byte_at, some_at, forest_at, list_at, value_at, io_list_at};
+ghost use Rattle.script_text.specs.Reading.{bin_at, io_byte_at, some_at, forest_at, list_at, value_at, io_list_at, io_bytes_at};
 
 use crate::fault::PartFault;
 use crate::openings::{Opening, opening_of};
-use crate::texts::text;
+use crate::texts::{text, text_bytes};
 use crate::tokens::{after, number, skip_gap};
-use port_terms::{IoList, IoParts, MAX_DEPTH, MAX_ITEMS, parts};
+use port_terms::{IoList, IoParts, MAX_DEPTH, MAX_ITEMS, flatten, parts};
 use std::alloc::Global;
 
 /// The IOLIST in front of the bytes, and what stands behind it: a TEXT, or `[` and `]` round items separated by commas, where an item
@@ -28,6 +28,28 @@ pub fn read_io_list(alloc: Global, bytes: &[u8]) -> Result<(IoList, &[u8]), Part
     ensures reads { Reads (λ x. (io_tree x.0, x.1.now)) result (io_list_at bytes.now) }
 {
     io_list(alloc, bytes)
+}
+
+/// The bytes of the IOLIST in front, from left to right, and what stands behind it. A TEXT is copied once, and those of a list in
+/// brackets once more.
+#[tactic(auto, unfolding(crate::specs::Reading::io_bytes_at, crate::specs::Reading::io_list_at, crate::specs::Reading::value_at, crate::specs::Reading::bin_at))]
+pub fn read_io_bytes(alloc: Global, bytes: &[u8]) -> Result<(Vec<u8>, &[u8]), PartFault>
+    // They are the bytes of what the definition reads there.
+    ensures { Reads (λ x. (x.0.items, x.1.now)) result (io_bytes_at bytes.now) }
+{
+    match opening_of(bytes) {
+        Opening::Quote => text_bytes(alloc, bytes),
+        _ => flat_list(alloc, bytes),
+    }
+}
+
+/// The bytes of the IOLIST in front, and what stands behind it.
+#[tactic(auto, unfolding(crate::specs::Reading::io_bytes_at))]
+fn flat_list(alloc: Global, bytes: &[u8]) -> Result<(Vec<u8>, &[u8]), PartFault>
+    ensures { Reads (λ x. (x.0.items, x.1.now)) result (io_bytes_at bytes.now) }
+{
+    let (list, rest) = io_list(alloc, bytes)?;
+    Ok((flatten(alloc, &list)?, rest))
 }
 
 /// The IOLIST in front, and what stands behind it.

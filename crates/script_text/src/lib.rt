@@ -14,8 +14,8 @@ mod texts;
 mod tokens;
 
 pub use fault::PartFault;
-pub use io_lists::read_io_list;
+pub use io_lists::{read_io_bytes, read_io_list};
 pub use laws::each_text_has_one_value;
 pub use terms::read_term;
-pub use texts::read_text;
+pub use texts::{read_text, read_text_bytes};
 pub use tokens::{read_number, skip_gap};

@@ -25,26 +25,47 @@ pub fn read_text(alloc: Global, bytes: &[u8]) -> Result<(Octets, &[u8]), PartFau
     text(alloc, bytes)
 }
 
+/// The bytes of the TEXT in front, as `read_text` reads it, in a `Vec` that the caller may grow or hand on.
+pub fn read_text_bytes(alloc: Global, bytes: &[u8]) -> Result<(Vec<u8>, &[u8]), PartFault>
+    // What is read is spelled so.
+    ensures found { IfOk result (λ x. InFront SpellsText x.0.items bytes.now x.1.now) }
+    // What is spelled so is read, unless memory runs out.
+    ensures only { (content rest : List ℕ) → InFront SpellsText content bytes.now rest → Gives (λ x. x.0.items) (λ x. x.1.now) result content rest }
+    // It is what the definition reads there.
+    ensures reads { Reads (λ x. (x.0.items, x.1.now)) result (text_at bytes.now) }
+{
+    text_bytes(alloc, bytes)
+}
+
 /// The TEXT in front, and what stands behind it.
-#[tactic(auto, unfolding(crate::specs::Reading::text_at))]
 pub(crate) fn text(alloc: Global, bytes: &[u8]) -> Result<(Octets, &[u8]), PartFault>
     ensures reads { Reads (λ x. (x.0, x.1.now)) result (text_at bytes.now) }
     ensures few { IfOk result (λ x. length x.0 ≤ MAX_ITEMS) }
+{
+    let (content, rest) = text_bytes(alloc, bytes)?;
+    Ok((octets(content), rest))
+}
+
+/// The bytes of the TEXT in front, and what stands behind it.
+#[tactic(auto, unfolding(crate::specs::Reading::text_at))]
+pub(crate) fn text_bytes(alloc: Global, bytes: &[u8]) -> Result<(Vec<u8>, &[u8]), PartFault>
+    ensures reads { Reads (λ x. (x.0.items, x.1.now)) result (text_at bytes.now) }
+    ensures few { IfOk result (λ x. length x.0.items ≤ MAX_ITEMS) }
 {
     let inner = after(b'"', bytes).ok_or(PartFault::Bad)?;
     content(alloc, inner)
 }
 
 /// The bytes that a text spells up to its closing quote, and what stands behind that.
-fn content(alloc: Global, bytes: &[u8]) -> Result<(Octets, &[u8]), PartFault>
-    ensures reads { Reads (λ x. (x.0, x.1.now)) result (content_at (MAX_ITEMS + 1) bytes.now) }
-    ensures few { IfOk result (λ x. length x.0 ≤ MAX_ITEMS) }
+fn content(alloc: Global, bytes: &[u8]) -> Result<(Vec<u8>, &[u8]), PartFault>
+    ensures reads { Reads (λ x. (x.0.items, x.1.now)) result (content_at (MAX_ITEMS + 1) bytes.now) }
+    ensures few { IfOk result (λ x. length x.0.items ≤ MAX_ITEMS) }
 {
     let mut content = Vec::new(alloc);
     let mut rest = bytes;
     for _ in 0..MAX_ITEMS + 1 {
         if let Some(behind) = after(b'"', rest) {
-            return Ok((octets(content), behind));
+            return Ok((content, behind));
         }
         let Some((byte, behind)) = byte(rest) else {
             return Err(PartFault::Bad);

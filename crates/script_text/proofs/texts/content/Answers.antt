@@ -5,8 +5,7 @@ use Rattle.script_text.proofs.texts.content.Goals as goal
 
 pub returns-in-Some-clause-reads : goal.returns-in-Some-clause-reads
 returns-in-Some-clause-reads c =
-    let whole = byte_last c.loop.content.items 262144 c.loop.counter c.args.bytes.now c.loop.rest.now c.in-Some.behind.now c.loop-test.true (sym c.in-Some.ensures) c.loop.invariant.so_far in
-    cc (whole, c.octets.ensures)
+    byte_last c.loop.content.items 262144 c.loop.counter c.args.bytes.now c.loop.rest.now c.in-Some.behind.now c.loop-test.true (sym c.in-Some.ensures) c.loop.invariant.so_far
 
 pub returns-in_default-byte-clause-reads : goal.returns-in_default-byte-clause-reads
 returns-in_default-byte-clause-reads c =

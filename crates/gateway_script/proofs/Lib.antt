@@ -1,0 +1,10 @@
+pub mod Kept
+pub mod Numbers
+pub mod SoFar
+pub mod FoundParts
+pub mod Found
+pub mod Again
+pub mod Ranges
+pub mod Configs
+pub mod Turns
+pub mod Plans

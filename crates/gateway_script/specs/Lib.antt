@@ -1,0 +1,10 @@
+pub mod Lines
+pub mod LineFault
+pub mod Words
+pub mod Options
+pub mod Forms
+pub mod Grammar
+pub mod Ranges
+pub mod Script
+pub mod Steps
+pub mod Draft
