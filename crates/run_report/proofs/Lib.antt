@@ -1,0 +1,5 @@
+pub mod Rows
+pub mod Same
+pub mod Walked
+pub mod Counted
+pub mod Lists
