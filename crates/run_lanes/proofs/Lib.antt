@@ -1,2 +1,5 @@
 pub mod Rows
 pub mod Ends
+pub mod WordsDealt
+pub mod KeyedLanes
+pub mod Places

@@ -1,2 +1,5 @@
 pub mod Rows
 pub mod Ends
+pub mod Words
+pub mod Keyed
+pub mod Dealt

@@ -2,10 +2,17 @@
 #![tactic(auto)]
 
 mod columns;
+mod dealing;
+mod keyed;
 mod making;
+mod parts;
+mod size;
 mod taking_in;
+mod words;
 
 pub use columns::transposed;
 pub use making::{lane_ends, lanes};
 pub use no_memory::NoMemory;
+pub use parts::{FinishEnds, PollerLanes, ProcessLanes, WorkerLanes};
+pub use size::LaneSize;
 pub use taking_in::take_all_in;

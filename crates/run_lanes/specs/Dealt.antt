@@ -1,0 +1,31 @@
+-- What each has of what was made, by place.
+use Rattle.std.specs.Prelude.{◌≡◌, ◌<◌, ℕ, List, length, slice_index_or}
+use Rattle.task_queue.specs.Ends.{Sending, Taking}
+use Rattle.async_jobs.specs.declared.job.WorkItem.{WorkItem}
+use Rattle.async_jobs.specs.Pool.{PoolEnd}
+use Rattle.async_jobs.specs.Turns.{Worker}
+use Rattle.port_lanes.specs.Keys.{Key}
+use Rattle.port_lanes.specs.Parcels.{ParcelView}
+use Rattle.port_words.specs.busy.Known.{SendKnown}
+use Rattle.process_end.specs.Mailbox.{Mailbox}
+use Rattle.process_end.specs.Views.{LaneEnd}
+use Rattle.run_lanes.specs.declared.parts.ProcessLanes.{ProcessLanes}
+use Rattle.run_lanes.specs.declared.parts.WorkerLanes.{WorkerLanes}
+
+-- what has the number n of these has the n-th of each list
+pub record IsProcessAt (mailboxes : List Mailbox) (lanes : List (List LaneEnd)) (seats : List (List SendKnown)) (n : ℕ) (p : ProcessLanes) : Type 0 where
+  pub mailbox : (d : Mailbox) → p.mailbox ≡ slice_index_or mailboxes n d
+  pub lanes_are : (d : List LaneEnd) → p.lanes.items ≡ slice_index_or lanes n d
+  pub seats_are : (d : List SendKnown) → p.seats.items ≡ slice_index_or seats n d
+
+pub record AreProcesses (mailboxes : List Mailbox) (lanes : List (List LaneEnd)) (seats : List (List SendKnown)) (all : List ProcessLanes) : Type 0 where
+  pub many : length all ≡ length mailboxes
+  pub each : (n : ℕ) (d : ProcessLanes) → n < length all → IsProcessAt mailboxes lanes seats n (slice_index_or all n d)
+
+pub record IsWorkerAt (jobs : List Worker) (lanes : List (List LaneEnd)) (n : ℕ) (w : WorkerLanes) : Type 0 where
+  pub jobs_are : (d : Worker) → w.jobs ≡ slice_index_or jobs n d
+  pub lanes_are : (d : List LaneEnd) → w.lanes.items ≡ slice_index_or lanes n d
+
+pub record AreWorkers (jobs : List Worker) (lanes : List (List LaneEnd)) (all : List WorkerLanes) : Type 0 where
+  pub many : length all ≡ length jobs
+  pub each : (n : ℕ) (d : WorkerLanes) → n < length all → IsWorkerAt jobs lanes n (slice_index_or all n d)
