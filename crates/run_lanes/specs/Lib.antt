@@ -3,3 +3,4 @@ pub mod Ends
 pub mod Words
 pub mod Keyed
 pub mod Dealt
+pub mod Opened
