@@ -3,3 +3,4 @@ pub mod Ends
 pub mod WordsDealt
 pub mod KeyedLanes
 pub mod Places
+pub mod Openings
