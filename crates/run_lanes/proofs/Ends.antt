@@ -37,6 +37,7 @@ module _ {T K : Type 0} where
   pub columns_are : (takers : List (Taking T K)) (ends : ℕ) (rows columns : List (List (Sending T K))) → AreAllRows takers ends rows → AreColumns ends rows columns → AreEndColumns takers ends columns
   columns_are takers ends rows columns all are = record {
     many = are.many;
+    long = λ number d below. are.long number d below ∙ all.many;
     each = λ number t d below. record {
       many = are.long number d below ∙ all.many;
       each = λ lane e within. are.at number lane d [] e e below (let m = all.many in omega arith) ∙ (all.each lane t [] within).each number e below;

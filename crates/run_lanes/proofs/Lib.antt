@@ -4,3 +4,4 @@ pub mod WordsDealt
 pub mod KeyedLanes
 pub mod Places
 pub mod Openings
+pub mod TakingIn

@@ -50,3 +50,7 @@ module _ {X : Type 0} where
 -- the same of a list of rows
 pub rest_row : {V X : Type 0} (items : V → List X) (n : ℕ) (all rest rest' : List V) (v : V) (len : ℕ) → n < length all → IsRest n all rest len → rest ≡ v ∷ rest' → (d : List X) → items v ≡ get_or (map items all) n d
 rest_row items n all rest rest' v len within is step d = ap items (rest_first n all rest rest' v len within is step v) ∙ sym (get_or-map items all n v d within)
+
+-- there is one left only where the place is in the list
+pub rest_within : {X : Type 0} (n : ℕ) (all rest rest' : List X) (x : X) (len : ℕ) → IsRest n all rest len → rest ≡ x ∷ rest' → n < length all
+rest_within n all rest rest' x len is step = let e = ap length is.items in let s = ap length step in let l = length-drop n all in omega arith

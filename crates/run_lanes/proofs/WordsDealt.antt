@@ -1,5 +1,5 @@
 -- The words of ports, as they are made and dealt.
-use Rattle.std.proofs.Common.{◌≡◌, ◌<◌, ◌≤◌, ◌+◌, ℕ, zero, suc, List, [], ◌∷◌, ◌++◌, length, map, get_or, sym, refl, ap, ◌∙◌, subst, arith, ⊎_elim}
+use Rattle.std.proofs.Common.{◌≡◌, ◌<◌, ◌≤◌, ◌+◌, ℕ, zero, suc, false, List, [], ◌∷◌, ◌++◌, length, map, get_or, sym, refl, ap, ◌∙◌, subst, arith, ⊎_elim}
 use Rattle.std.proofs.lemmas.Bool.{cases_lt}
 use Rattle.std.proofs.lemmas.List.{get_or_append_left, get_or_push, length_push}
 use Rattle.atomic_table.specs.Seated.{TableId}
@@ -51,19 +51,22 @@ tables_rows (l ∷ limits) senders (s ∷ seats) rows are = record {
       ap length of.senders_are ∙ seats_many (get_or (s ∷ seats) r s).table (setup_of (get_or (l ∷ limits) r l) senders) 0 senders
 }
 
+pub no_limits : QueueLimits
+no_limits = record { on = false; low = 0; high = 0 }
+
 pub words_are : (limits : List QueueLimits) (senders : ℕ) (seats : List PortKnown) (rows columns : List (List SendKnown)) → AreTables limits senders seats rows → AreColumns senders rows columns
     → AreWords limits senders seats columns
 words_are limits senders seats rows columns are dealt = record {
   many = are.many;
   senders_many = dealt.many;
+  long = λ sender d within. dealt.long sender d within ∙ are.rows_many;
   ports = λ port l s below. record { known = ap (λ k. k.known) (are.each port l s [] below).port_is };
   each = λ sender s d within. record {
     many = dealt.long sender d within ∙ are.rows_many;
     each = λ port e below.
-        let l : QueueLimits = record { on = (get_or seats port s).known.setup.limits.on; low = 0; high = 0 } in
-        let of = are.each port l s [] below in
+        let of = are.each port no_limits s [] below in
         dealt.at sender port d [] e e within (let m = are.rows_many in omega arith) ∙ ap (λ r. get_or r sender e) of.senders_are
-            ∙ seat_at (get_or seats port s).table (setup_of (get_or limits port l) senders) 0 senders sender e within
+            ∙ seat_at (get_or seats port s).table (setup_of (get_or limits port no_limits) senders) 0 senders sender e within
             ∙ ap (λ t. send_known (get_or seats port s).table t (fresh_sender (0 + sender))) (sym (ap (λ k. k.known.setup) of.port_is))
             ∙ ap (λ n. send_known (get_or seats port s).table (get_or seats port s).known.setup (fresh_sender n)) (let z : 0 + sender ≡ sender = omega arith in z);
   };

@@ -40,11 +40,17 @@ module _ {T K : Type 0} where
   -- the ends of the lanes, by their numbers
   pub record AreEndColumns (takers : List (Taking T K)) (ends : ℕ) (columns : List (List (Sending T K))) : Type 0 where
     pub many : length columns ≡ ends
+    pub long : (number : ℕ) (d : List (Sending T K)) → number < ends → length (slice_index_or columns number d) ≡ length takers
     pub each : (number : ℕ) (t : Taking T K) (d : List (Sending T K)) → number < ends → AreEndsOf (length takers) (λ lane. slice_index_or takers lane t) ends number (slice_index_or columns number d)
 
   -- the taking end after it took these in
   abbrev pub taken_in : Taking T K → List (Sending T K) → Taking T K
   taken_in taker ends = record taker { ended = taker.ended ++ map ended_of ends }
+
+  -- one end of each lane, in their order
+  pub record AreOfLanes (takers : List (Taking T K)) (ends : List (Sending T K)) : Type 0 where
+    pub many : length ends ≡ length takers
+    pub each : (lane : ℕ) (t : Taking T K) (d : Sending T K) → lane < length takers → (slice_index_or ends lane d).lane ≡ (slice_index_or takers lane t).lane
 
   -- each lane's taking end took in the end at its place
   pub record TakesEachIn (old : List (Taking T K)) (ends : List (Sending T K)) (new : List (Taking T K)) : Type 0 where

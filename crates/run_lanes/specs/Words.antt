@@ -28,5 +28,6 @@ pub record AreTables (limits : List QueueLimits) (senders : ℕ) (seats : List P
 pub record AreWords (limits : List QueueLimits) (senders : ℕ) (seats : List PortKnown) (columns : List (List SendKnown)) : Type 0 where
   pub many : length seats ≡ length limits
   pub senders_many : length columns ≡ senders
+  pub long : (sender : ℕ) (d : List SendKnown) → sender < senders → length (slice_index_or columns sender d) ≡ length limits
   pub ports : (port : ℕ) (l : QueueLimits) (s : PortKnown) → port < length limits → IsPortSeat (slice_index_or limits port l) senders (slice_index_or seats port s)
   pub each : (sender : ℕ) (s : PortKnown) (d : List SendKnown) → sender < senders → AreSeatsWith (length limits) (λ port. slice_index_or seats port s) sender (slice_index_or columns sender d)

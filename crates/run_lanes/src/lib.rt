@@ -17,4 +17,4 @@ pub use no_memory::NoMemory;
 pub use opening::open_lanes;
 pub use parts::{FinishEnds, PollerLanes, PortLanes, ProcessLanes, RunLanes, WorkerLanes};
 pub use size::LaneSize;
-pub use taking_in::take_all_in;
+pub use taking_in::{take_all_in, take_each_in};

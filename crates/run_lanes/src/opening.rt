@@ -2,11 +2,10 @@
 ghost use Rattle.std.specs.Prelude.{◌≡◌, ◌+◌, ◌-◌, ◌<◌, ◌≤◌, ℕ, Bool, List, ◌∷◌, [], ◌++◌, length, map, take, drop, All, IfOk, slice_index_or};
 ghost use Rattle.port_words.specs.declared.busy.view.QueueLimits.{QueueLimits as Limits};
 ghost use Rattle.port_words.specs.busy.Known.{InRange};
-ghost use Rattle.process_end.specs.Ports.{AreParts};
 ghost use Rattle.run_lanes.specs.declared.parts.PortLanes.{PortLanes as Port};
 ghost use Rattle.run_lanes.specs.declared.parts.ProcessLanes.{ProcessLanes as Process};
 ghost use Rattle.run_lanes.specs.declared.parts.WorkerLanes.{WorkerLanes as Worker};
-ghost use Rattle.run_lanes.specs.Opened.{HasCounts, HasPort, HasProcess, HasWorker, HasPoller, HasFinish};
+ghost use Rattle.run_lanes.specs.Opened.{HasCounts, HasPort, HasProcess, HasWorker, HasPoller, HasFinish, CanOpen, CanBegin};
 
 use crate::dealing::{deal_ports, deal_processes, deal_workers};
 use crate::keyed::port_lanes;
@@ -67,6 +66,8 @@ pub fn open_lanes(
     ensures workers { IfOk result (λ run. (worker : ℕ) (d : Worker) → worker < size.workers → HasWorker size run worker (slice_index_or run.workers.items worker d)) }
     ensures poller { IfOk result (λ run. HasPoller size run) }
     ensures finish { IfOk result (λ run. HasFinish size run) }
+    ensures can_open { IfOk result (λ run. (port : ℕ) (d : Port) → port < length ports.now → CanOpen size (slice_index_or run.ports.items port d)) }
+    ensures can_begin { IfOk result (λ run. (process : ℕ) (d : Process) → process < size.processes → CanBegin (length ports.now) process (slice_index_or run.processes.items process d)) }
 {
     let many = ports.len() as u32;
     let (seats, send_seats) = words(alloc, ports, size.processes)?;

@@ -3,7 +3,7 @@ use Rattle.std.proofs.lemmas.List.{length-map, map-append, map_push}
 use Rattle.run_lanes.specs.declared.parts.RunLanes.{RunLanes}
 use Rattle.run_lanes.specs.Ends.{AreEndColumns, AreAllEnds}
 use Rattle.run_lanes.specs.Keyed.{ArePortLanes}
-use Rattle.run_lanes.proofs.Openings.{IsMade, counts, port_of, process_of, worker_of, poller_of, finish_of, some_workers}
+use Rattle.run_lanes.proofs.Openings.{IsMade, counts, port_of, process_of, worker_of, poller_of, finish_of, can_open, can_begin, some_workers}
 use Rattle.run_lanes.proofs.opening.open_lanes.Goals as goal
 
 pub deal_ports-requires-clause-workers : goal.deal_ports-requires-clause-workers
@@ -64,4 +64,6 @@ returns c =
       workers = worker_of c.args.size limits run made;
       poller = poller_of c.args.size limits run made;
       finish = finish_of c.args.size limits run made;
+      can_open = can_open c.args.size limits run made;
+      can_begin = can_begin c.args.size limits run made;
     }
