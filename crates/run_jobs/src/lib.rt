@@ -1,0 +1,11 @@
+//! The jobs of a run that are no process: the workers, which work what the drivers of ports hand over, and the poller, which tells the ports which events are ready.
+//!
+//! Each puts tasks into the lanes of ports by ends of its own, and wakes the port after each. Where it finds no memory it stops the run.
+#![tactic(auto)]
+
+mod stopping;
+mod telling;
+mod worker;
+
+pub use no_memory::NoMemory;
+pub use worker::{WorkerEnd, WorkerJob};
