@@ -1,5 +1,6 @@
 -- The tasks that a job puts into lanes, one call after another.
-use Rattle.std.proofs.Common.{◌≡◌, ◌≢◌, ◌<◌, ◌≤◌, ℕ, Bool, true, false, cond, eqb, List, [], ◌∷◌, ◌++◌, length, get_or, set, Result, Ok, Err, sym, refl, ap, ◌∙◌, subst, arith, append_assoc, length-set, get_or-set_same, get_or-set_other, ⊎_elim}
+use Rattle.std.proofs.Common.{◌≡◌, ◌≢◌, ◌<◌, ◌≤◌, ℕ, Bool, true, false, cond, eqb, List, [], ◌∷◌, ◌++◌, length, get_or, set, Result, Ok, Err, true≢false, sym, refl, ap, ◌∙◌, subst, arith, append_assoc, length-set, get_or-set_same, get_or-set_other, ⊎_elim}
+use Rattle.std.specs.Result.{IsErr}
 use Rattle.std.proofs.lemmas.Bool.{cases_eq}
 use Rattle.std.proofs.lemmas.Bool.Decides.{nat_tests}
 use Rattle.std.proofs.lemmas.List.{append-nil, get_or_default}
@@ -79,6 +80,10 @@ ends_keep sender told lanes lanes' sends are = λ port d below.
 pub left_none : {A E : Type 0} (r : Result A E) → LeftBy r []
 left_none (Ok x) = refl
 left_none (Err e) = tt
+
+pub left_err : {A E : Type 0} (r : Result A E) → IsErr r → (left : List PortTask) → LeftBy r left
+left_err (Ok x) is left = absurd (true≢false (sym is))
+left_err (Err e) is left = tt
 
 -- all were told where memory was found
 pub tells_ok : {A E : Type 0} (r : Result A E) (x : A) (all : List PortTask) (lanes lanes' : List LaneEnd) → r ≡ Ok x → TellsOf r all lanes lanes' → Sends all lanes lanes'

@@ -1,10 +1,11 @@
 -- The ends of lanes, as they are made.
-use Rattle.std.proofs.Common.{◌≡◌, ◌<◌, ◌≤◌, ◌+◌, ℕ, zero, suc, List, [], ◌∷◌, ◌++◌, length, map, get_or, sym, refl, ap, ◌∙◌, subst, arith, append_assoc, ⊎_elim}
+use Rattle.std.proofs.Common.{◌≡◌, ◌<◌, ◌≤◌, ◌+◌, ℕ, zero, suc, List, [], ◌∷◌, ◌++◌, length, map, get_or, sym, refl, ap, ◌∙◌, subst, arith, append_assoc, length-append, ⊎_elim}
 use Rattle.std.proofs.lemmas.Bool.{cases_lt}
-use Rattle.std.proofs.lemmas.List.{get_or_append_left, get_or_default, get_or_push, length_push}
+use Rattle.std.proofs.lemmas.List.{get_or_append_left, get_or_push, get_or-append-add, get_or-map, length-map, length_push}
+use Rattle.task_queue.specs.Items.{of}
 use Rattle.task_queue.specs.Ends.{Sending, Taking, ended_of}
 use Rattle.run_lanes.specs.Rows.{AreRows, AreColumns}
-use Rattle.run_lanes.specs.Ends.{AreAllEnds, AreAllRows, AreEndsOf, AreEndColumns}
+use Rattle.run_lanes.specs.Ends.{AreAllEnds, AreAllRows, AreEndsOf, AreEndColumns, AllOfEachIsTaken}
 
 module _ {T K : Type 0} where
   -- so many ends were split off the first, and stand by their numbers from 1
@@ -48,3 +49,15 @@ module _ {T K : Type 0} where
 pub ended_next : {T K : Type 0} (taker : Taking T K) (end : Sending T K) (rest ends : List (Sending T K)) → ends ≡ end ∷ rest
     → taker.ended ++ map ended_of ends ≡ (taker.ended ++ ended_of end ∷ []) ++ map ended_of rest
 ended_next taker end rest ends is = ap (λ l. taker.ended ++ map ended_of l) is ∙ sym (append_assoc taker.ended (ended_of end ∷ []) (map ended_of rest))
+
+pub each_is_taken : {T K : Type 0} → AllOfEachIsTaken T K
+each_is_taken old new ends later is took = λ k d below.
+    let at = length old.ended + k in
+    let front = length-append old.ended (map ended_of ends) in
+    let many = length-map ends ended_of in
+    let all = ap length is in
+    let rest = length-append (old.ended ++ map ended_of ends) later in
+    let here : get_or new.ended at (ended_of d) ≡ ended_of (get_or ends k d) =
+        ap (λ l. get_or l at (ended_of d)) is ∙ get_or_append_left (old.ended ++ map ended_of ends) later (ended_of d) at (omega arith)
+            ∙ get_or-append-add old.ended (map ended_of ends) k (ended_of d) ∙ get_or-map ended_of ends k d (ended_of d) below in
+    subst (λ e. of e.number new.taken ≡ e.sent) here (took at (ended_of d) (omega arith))

@@ -1,6 +1,8 @@
 -- The ends of lanes, as they are made and as they are taken in.
-use Rattle.std.specs.Prelude.{◌≡◌, ◌<◌, ◌==◌, ℕ, if◌then◌else◌, List, [], ◌∷◌, ◌++◌, length, map, slice_index_or}
-use Rattle.task_queue.specs.Ends.{Sending, Taking, ended_of}
+use Rattle.std.specs.Prelude.{◌≡◌, ◌<◌, ◌==◌, ℕ, if◌then◌else◌, List, [], ◌∷◌, ◌++◌, length, map, All, slice_index_or}
+use Rattle.task_queue.specs.declared.protocol.Ended.{Ended}
+use Rattle.task_queue.specs.Items.{of}
+use Rattle.task_queue.specs.Ends.{Sending, Taking, TookAll, ended_of}
 
 -- how many ends the end of this number made, of a lane that has so many: the first one made all
 abbrev pub made_by : ℕ → ℕ → ℕ
@@ -57,3 +59,8 @@ module _ {T K : Type 0} where
     pub many : length new ≡ length old
     pub each : (lane : ℕ) (t u : Taking T K) (d : Sending T K) → lane < length old
         → slice_index_or new lane t ≡ taken_in (slice_index_or old lane u) (slice_index_or ends lane d ∷ [])
+
+-- where these ends were taken in, and perhaps more later, and all that the ended senders sent was taken, all that each of these sent was
+abbrev pub AllOfEachIsTaken : Type 0 → Type 0 → Type 0
+AllOfEachIsTaken T K = (old new : Taking T K) (ends : List (Sending T K)) (later : List (Ended T)) → new.ended ≡ (taken_in old ends).ended ++ later → TookAll new
+    → All (λ e. of e.number new.taken ≡ e.sent) ends

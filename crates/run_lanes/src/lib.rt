@@ -4,6 +4,7 @@
 mod columns;
 mod dealing;
 mod keyed;
+mod laws;
 mod making;
 mod opening;
 mod parts;
@@ -12,6 +13,7 @@ mod taking_in;
 mod words;
 
 pub use columns::transposed;
+pub use laws::all_of_each_end_is_taken;
 pub use making::{lane_ends, lanes};
 pub use no_memory::NoMemory;
 pub use opening::open_lanes;
