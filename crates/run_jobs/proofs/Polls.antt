@@ -127,6 +127,6 @@ pub told_in_part : (found : List PollAsk) (i : ℕ) (ask : PollAsk) (told left :
     → tasks_of found ≡ (tasks_of (take i found) ++ told) ++ (left ++ tasks_of (drop (i + 1) found))
 told_in_part found i ask told left within is whole =
     ap tasks_of (sym (take-append-drop i found) ∙ ap (λ l. take i found ++ l) (drop_more found i ask within ∙ ap (λ a. a ∷ drop (i + 1) found) (sym is)))
-        ∙ flat_map-append told_of (take i found) (ask ∷ drop (i + 1) found) ∙ ap (λ l. tasks_of (take i found) ++ (l ++ tasks_of (drop (i + 1) found))) whole
-        ∙ ap (λ l. tasks_of (take i found) ++ l) (append_assoc told left (tasks_of (drop (i + 1) found)))
-        ∙ sym (append_assoc (tasks_of (take i found)) told (left ++ tasks_of (drop (i + 1) found)))
+    ∙ flat_map-append told_of (take i found) (ask ∷ drop (i + 1) found) ∙ ap (λ l. tasks_of (take i found) ++ (l ++ tasks_of (drop (i + 1) found))) whole
+    ∙ ap (λ l. tasks_of (take i found) ++ l) (append_assoc told left (tasks_of (drop (i + 1) found)))
+    ∙ sym (append_assoc (tasks_of (take i found)) told (left ++ tasks_of (drop (i + 1) found)))

@@ -42,8 +42,8 @@ sends_then first second lanes lanes' lanes'' one two = record {
   many = two.many ∙ one.many;
   each = λ port d below.
       two.each port d (let m = one.many in omega arith) ∙ ap (λ (e : LaneEnd). record e { sent = e.sent ++ parcels_for port second }) (one.each port d below)
-          ∙ ap (λ l. record (get_or lanes port d) { sent = l }) (append_assoc (get_or lanes port d).sent (parcels_for port first) (parcels_for port second)
-          ∙ ap (λ l. (get_or lanes port d).sent ++ l) (sym (parcels_then port first second)));
+      ∙ ap (λ l. record (get_or lanes port d) { sent = l }) (append_assoc (get_or lanes port d).sent (parcels_for port first) (parcels_for port second)
+      ∙ ap (λ l. (get_or lanes port d).sent ++ l) (sym (parcels_then port first second)));
 }
 
 -- a task for a port that isn't there
@@ -61,13 +61,13 @@ sends_at t lanes lanes' end end' within is changed put = record {
   many = ap length changed ∙ length-set lanes t.port end';
   each = λ port d below. ⊎_elim
       (λ (same : port ≡ t.port).
-        ap (λ l. get_or l port d) changed ∙ ap (λ n. get_or (set lanes t.port end') n d) same ∙ get_or-set_same lanes t.port end' d within ∙ put
-            ∙ ap (λ (e : LaneEnd). record e { sent = e.sent ++ plain_parcel t.task ∷ [] }) (is ∙ get_or_default lanes t.port end d within)
-            ∙ ap (λ l. record (get_or lanes t.port d) { sent = (get_or lanes t.port d).sent ++ l }) (sym (parcels_own t))
-            ∙ ap (λ n. record (get_or lanes n d) { sent = (get_or lanes n d).sent ++ parcels_for n (t ∷ []) }) (sym same))
+      ap (λ l. get_or l port d) changed ∙ ap (λ n. get_or (set lanes t.port end') n d) same ∙ get_or-set_same lanes t.port end' d within ∙ put
+      ∙ ap (λ (e : LaneEnd). record e { sent = e.sent ++ plain_parcel t.task ∷ [] }) (is ∙ get_or_default lanes t.port end d within)
+      ∙ ap (λ l. record (get_or lanes t.port d) { sent = (get_or lanes t.port d).sent ++ l }) (sym (parcels_own t))
+      ∙ ap (λ n. record (get_or lanes n d) { sent = (get_or lanes n d).sent ++ parcels_for n (t ∷ []) }) (sym same))
       (λ (ne : port ≢ t.port).
-        ap (λ l. get_or l port d) changed ∙ get_or-set_other lanes t.port port end' d ne
-            ∙ ap (λ l. record (get_or lanes port d) { sent = l }) (sym (append-nil (get_or lanes port d).sent) ∙ ap (λ l. (get_or lanes port d).sent ++ l) (sym (parcels_other port t ne))))
+      ap (λ l. get_or l port d) changed ∙ get_or-set_other lanes t.port port end' d ne
+      ∙ ap (λ l. record (get_or lanes port d) { sent = l }) (sym (append-nil (get_or lanes port d).sent) ∙ ap (λ l. (get_or lanes port d).sent ++ l) (sym (parcels_other port t ne))))
       (cases_eq port t.port);
 }
 

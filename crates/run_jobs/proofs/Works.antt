@@ -18,7 +18,7 @@ use Rattle.run_jobs.proofs.Tells.{sends_none, sends_then}
 pub answer_is : (job : Job) (done : Done) → IsDoneOf job done → ◌≡◌ {A = PortTask} (record { port = done.port; task = done_task done.number (work_of done.code done.input) }) (answer_to job)
 answer_is job done is =
     ap (λ p. record { port = p; task = done_task done.number (work_of done.code done.input) }) is.port ∙ ap (λ n. record { port = job.port; task = done_task n (work_of done.code done.input) }) is.number
-        ∙ ap (λ k. record { port = job.port; task = done_task job.number (work_of k done.input) }) is.code ∙ ap (λ b. record { port = job.port; task = done_task job.number (work_of job.code b) }) is.input
+    ∙ ap (λ k. record { port = job.port; task = done_task job.number (work_of k done.input) }) is.code ∙ ap (λ b. record { port = job.port; task = done_task job.number (work_of job.code b) }) is.input
 
 -- The worker took these jobs and nothing else, and answered each
 pub record WorksSo (old new : Worker) (lanes lanes' : List LaneEnd) : Type 0 where

@@ -63,7 +63,13 @@ fn tell_one<B: PortBody, R: Wait>(
 {
     match found {
         PollAsk::Arm { port, event, dir } => {
-            tell(rt, seats, lanes, port, Task::new(Signal::Ready { event, dir }))
+            tell(
+                rt,
+                seats,
+                lanes,
+                port,
+                Task::new(Signal::Ready { event, dir }),
+            )
         }
         PollAsk::Drop { port, event } => {
             tell(rt, seats, lanes, port, Task::new(Signal::Dropped(event)))

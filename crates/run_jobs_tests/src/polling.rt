@@ -9,7 +9,7 @@ use port_sched::Job;
 use port_words::busy::QueueLimits;
 use ready_select::PollAsk;
 use run_jobs::{PollerEnd, PollerJob, Watch};
-use run_lanes::{LaneSize, PortLanes, RunLanes, open_lanes};
+use run_lanes::{LaneSize, PortLanes, open_lanes};
 use std::alloc::Global;
 use std::sync::Wait;
 use std::test::Fail;
@@ -36,25 +36,20 @@ fn rig(alloc: Global, poll: MemPoll) -> Result<Rig, Fail>
         processes: 1,
         workers: 1,
     };
-    let RunLanes {
-        ports,
-        poller: lanes,
-        finish,
-        ..
-    } = open_lanes(alloc, size, &[LIMITS, LIMITS])?;
+    let run = open_lanes(alloc, size, &[LIMITS, LIMITS])?;
     let seats = seats(alloc)?;
     let poller = PollerJob {
         alloc,
         seats: seats.seats,
         over: seats.over,
-        watch: Watch::new(alloc, poll, lanes.asks),
-        lanes: lanes.lanes,
+        watch: Watch::new(alloc, poll, run.poller.asks),
+        lanes: run.poller.lanes,
         end: None,
     };
     Ok(Rig {
         poller,
-        ports,
-        finish: finish.poller,
+        ports: run.ports,
+        finish: run.finish.poller,
     })
 }
 

@@ -4,9 +4,7 @@ ghost use Rattle.port_words.specs.over.Over.{HasNotStopped};
 ghost use Rattle.port_sched.specs.Homes.{AreHomes};
 
 use port_sched::{JobSeats, PortBody, Turn};
-use port_words::busy::QueueLimits;
 use port_words::over::OverSeat;
-use run_lanes::{LaneSize, RunLanes, open_lanes};
 use std::alloc::Global;
 use std::sync::Wait;
 use std::test::Fail;

@@ -10,7 +10,7 @@ use port_sched::{Job, run_jobs};
 use port_words::busy::QueueLimits;
 use port_words::over::OverSeat;
 use run_jobs::{WorkerEnd, WorkerJob};
-use run_lanes::{LaneSize, PortLanes, RunLanes, open_lanes};
+use run_lanes::{LaneSize, PortLanes, open_lanes};
 use std::alloc::Global;
 use std::sync::Wait;
 use std::test::Fail;
@@ -39,12 +39,8 @@ fn rig(alloc: Global) -> Result<Rig, Fail>
         processes: 1,
         workers: 1,
     };
-    let RunLanes {
-        ports,
-        mut workers,
-        finish,
-        ..
-    } = open_lanes(alloc, size, &[LIMITS, LIMITS])?;
+    let run = open_lanes(alloc, size, &[LIMITS, LIMITS])?;
+    let mut workers = run.workers;
     let Some(lanes) = workers.pop() else {
         return Err("no worker".into());
     };
@@ -59,8 +55,8 @@ fn rig(alloc: Global) -> Result<Rig, Fail>
     };
     Ok(Rig {
         worker,
-        ports,
-        finish: finish.workers,
+        ports: run.ports,
+        finish: run.finish.workers,
         other: seats.other,
     })
 }

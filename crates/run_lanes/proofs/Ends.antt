@@ -22,12 +22,12 @@ module _ {T K : Type 0} where
     many = length_push rows row ∙ ap (λ n. n + 1) before.many ∙ sym (length_push takers t);
     each = λ lane u d below. ⊎_elim
         (λ (less : lane < length takers).
-          subst (λ w. AreAllEnds w ends (get_or (rows ++ row ∷ []) lane d)) (sym (get_or_append_left takers (t ∷ []) u lane less))
-              (subst (AreAllEnds (get_or takers lane u) ends) (sym (get_or_append_left rows (row ∷ []) d lane (let m = before.many in omega arith))) (before.each lane u d less)))
+        subst (λ w. AreAllEnds w ends (get_or (rows ++ row ∷ []) lane d)) (sym (get_or_append_left takers (t ∷ []) u lane less))
+        (subst (AreAllEnds (get_or takers lane u) ends) (sym (get_or_append_left rows (row ∷ []) d lane (let m = before.many in omega arith))) (before.each lane u d less)))
         (λ (last : length takers ≤ lane).
-          let at : length takers ≡ lane = (let m = length_push takers t in omega arith) in
-          subst (λ w. AreAllEnds w ends (get_or (rows ++ row ∷ []) lane d)) (sym (get_or_push takers t u lane at))
-              (subst (AreAllEnds t ends) (sym (get_or_push rows row d lane (before.many ∙ at))) more))
+        let at : length takers ≡ lane = (let m = length_push takers t in omega arith) in
+        subst (λ w. AreAllEnds w ends (get_or (rows ++ row ∷ []) lane d)) (sym (get_or_push takers t u lane at))
+        (subst (AreAllEnds t ends) (sym (get_or_push rows row d lane (before.many ∙ at))) more))
         (cases_lt lane (length takers));
   }
 
@@ -58,6 +58,6 @@ each_is_taken old new ends later is took = λ k d below.
     let all = ap length is in
     let rest = length-append (old.ended ++ map ended_of ends) later in
     let here : get_or new.ended at (ended_of d) ≡ ended_of (get_or ends k d) =
-        ap (λ l. get_or l at (ended_of d)) is ∙ get_or_append_left (old.ended ++ map ended_of ends) later (ended_of d) at (omega arith)
-            ∙ get_or-append-add old.ended (map ended_of ends) k (ended_of d) ∙ get_or-map ended_of ends k d (ended_of d) below in
+    ap (λ l. get_or l at (ended_of d)) is ∙ get_or_append_left (old.ended ++ map ended_of ends) later (ended_of d) at (omega arith)
+    ∙ get_or-append-add old.ended (map ended_of ends) k (ended_of d) ∙ get_or-map ended_of ends k d (ended_of d) below in
     subst (λ e. of e.number new.taken ≡ e.sent) here (took at (ended_of d) (omega arith))

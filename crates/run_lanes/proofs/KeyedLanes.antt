@@ -19,11 +19,11 @@ keyed_more size seats seat takers taker before more = record {
   many = length_push takers taker ∙ ap (λ n. n + 1) before.many ∙ sym (length_push seats seat);
   each = λ port s t below. ⊎_elim
       (λ (less : port < length seats).
-        subst (λ m. IsUntaken (key_of size m) (get_or (takers ++ taker ∷ []) port t)) (sym (get_or_append_left seats (seat ∷ []) s port less))
-            (subst (IsUntaken (key_of size (get_or seats port s))) (sym (get_or_append_left takers (taker ∷ []) t port (let m = before.many in omega arith))) (before.each port s t less)))
+      subst (λ m. IsUntaken (key_of size m) (get_or (takers ++ taker ∷ []) port t)) (sym (get_or_append_left seats (seat ∷ []) s port less))
+      (subst (IsUntaken (key_of size (get_or seats port s))) (sym (get_or_append_left takers (taker ∷ []) t port (let m = before.many in omega arith))) (before.each port s t less)))
       (λ (last : length seats ≤ port).
-        let at : length seats ≡ port = (let m = length_push seats seat in omega arith) in
-        subst (λ m. IsUntaken (key_of size m) (get_or (takers ++ taker ∷ []) port t)) (sym (get_or_push seats seat s port at))
-            (subst (IsUntaken (key_of size seat)) (sym (get_or_push takers taker t port (before.many ∙ at))) more))
+      let at : length seats ≡ port = (let m = length_push seats seat in omega arith) in
+      subst (λ m. IsUntaken (key_of size m) (get_or (takers ++ taker ∷ []) port t)) (sym (get_or_push seats seat s port at))
+      (subst (IsUntaken (key_of size seat)) (sym (get_or_push takers taker t port (before.many ∙ at))) more))
       (cases_lt port (length seats));
 }

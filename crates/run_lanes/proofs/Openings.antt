@@ -120,7 +120,7 @@ module _ (size : LaneSize) (limits : List QueueLimits) (run : RunLanes) (made : 
       let seat : p.seat ≡ get_or made.seats n p.seat = at.seat p.seat in
       let lane : p.lane ≡ get_or made.takers n p.lane = at.lane p.lane in
       let pool_is : (e : List PoolEnd) → p.pool ≡ get_or made.job_ends n e =
-          λ e. at.pool e ∙ sym (get_or_append_left made.pools (run.finish.workers.items ∷ []) e n (let m = pools_many in omega arith)) ∙ ap (λ l. get_or l n e) (sym made.jobs_parted) in
+      λ e. at.pool e ∙ sym (get_or_append_left made.pools (run.finish.workers.items ∷ []) e n (let m = pools_many in omega arith)) ∙ ap (λ l. get_or l n e) (sym made.jobs_parted) in
       record {
         lane = subst (λ s. IsUntaken (key_of size s) p.lane) (sym seat)
             (subst (IsUntaken (key_of size (get_or made.seats n p.seat))) (sym lane) (made.lanes.each n p.seat p.lane (let m = made.words.many in omega arith)));
@@ -140,27 +140,27 @@ module _ (size : LaneSize) (limits : List QueueLimits) (run : RunLanes) (made : 
   lane_ends_of number mine below is = record {
     many = ap length is ∙ made.ends.long number mine below ∙ takers_many;
     each = λ d. ends_as (length made.takers) (length run.ports.items) (ends_in size) (ends_in size) number (λ k. get_or made.takers k d.lane) (λ k. (get_or run.ports.items k d).lane)
-      (get_or made.columns number mine) mine takers_many refl is (lane_at d) (made.ends.each number d.lane mine below);
+        (get_or made.columns number mine) mine takers_many refl is (lane_at d) (made.ends.each number d.lane mine below);
   }
 
   front : (n : ℕ) (d : List LaneEnd) → n < length made.process_ends → get_or made.process_ends n d ≡ get_or made.columns n d
   front n d below =
       sym (get_or_append_left made.process_ends (run.poller.lanes.items ∷ []) d n below)
-          ∙ sym (get_or_append_left (made.process_ends ++ run.poller.lanes.items ∷ []) made.worker_ends d n (let l = length_push made.process_ends run.poller.lanes.items in omega arith))
-          ∙ ap (λ l. get_or l n d) (sym made.parted)
+      ∙ sym (get_or_append_left (made.process_ends ++ run.poller.lanes.items ∷ []) made.worker_ends d n (let l = length_push made.process_ends run.poller.lanes.items in omega arith))
+      ∙ ap (λ l. get_or l n d) (sym made.parted)
 
   middle : (d : List LaneEnd) → run.poller.lanes.items ≡ get_or made.columns size.processes d
   middle d =
       sym (get_or_at made.process_ends run.poller.lanes.items [] d size.processes made.parted_at)
-          ∙ sym (get_or_append_left (made.process_ends ++ run.poller.lanes.items ∷ []) made.worker_ends d size.processes (let l = length_push made.process_ends run.poller.lanes.items in let a = made.parted_at in omega arith))
-          ∙ ap (λ l. get_or l size.processes d) (sym made.parted)
+      ∙ sym (get_or_append_left (made.process_ends ++ run.poller.lanes.items ∷ []) made.worker_ends d size.processes (let l = length_push made.process_ends run.poller.lanes.items in let a = made.parted_at in omega arith))
+      ∙ ap (λ l. get_or l size.processes d) (sym made.parted)
 
   back : (n : ℕ) (d : List LaneEnd) → get_or made.worker_ends n d ≡ get_or made.columns (size.processes + 1 + n) d
   back n d =
       let many : length (made.process_ends ++ run.poller.lanes.items ∷ []) ≡ size.processes + 1 = length_push made.process_ends run.poller.lanes.items ∙ ap (λ m. m + 1) made.parted_at in
       ap (λ m. get_or made.worker_ends m d) (let e : n ≡ size.processes + 1 + n - (size.processes + 1) = omega arith in e)
-          ∙ sym (get_or-append_right (made.process_ends ++ run.poller.lanes.items ∷ []) made.worker_ends (size.processes + 1) (size.processes + 1 + n) d many (omega arith))
-          ∙ ap (λ l. get_or l (size.processes + 1 + n) d) (sym made.parted)
+      ∙ sym (get_or-append_right (made.process_ends ++ run.poller.lanes.items ∷ []) made.worker_ends (size.processes + 1) (size.processes + 1 + n) d many (omega arith))
+      ∙ ap (λ l. get_or l (size.processes + 1 + n) d) (sym made.parted)
 
   pub process_of : (n : ℕ) (d : ProcessLanes) → n < size.processes → HasProcess size run n (get_or run.processes.items n d)
   process_of n d below =
@@ -240,7 +240,7 @@ module _ (size : LaneSize) (limits : List QueueLimits) (run : RunLanes) (made : 
         tables = λ k e f within.
             let port = some_of run.ports.items (omega arith) in
             ap (λ (x : LaneEnd). x.key.table) ((has.lanes.each port).each k e (omega arith)) ∙ (can_open k port (let m = ports_many in omega arith)).table
-                ∙ sym (ap (λ (x : SendKnown). x.table) ((has.seats port).each k f (omega arith)));
+            ∙ sym (ap (λ (x : SendKnown). x.table) ((has.seats port).each k f (omega arith)));
         fresh = λ k f within.
             let port = some_of run.ports.items (omega arith) in
             let sender = ap (λ (x : SendKnown). x.sender) ((has.seats port).each k f (omega arith)) in
@@ -257,7 +257,7 @@ some_workers items (j ∷ jobs) ends workers all pools last parted are many some
     let width = are.many in
     let mapped = length-map all items in
     let here : get_or (map items all) k [] ≡ items (get_or pools k d) =
-        get_or-map items all k d [] (omega arith) ∙ ap (λ l. items (get_or l k d)) parted ∙ ap items (get_or_append_left pools (last ∷ []) d k below) in
+    get_or-map items all k d [] (omega arith) ∙ ap (λ l. items (get_or l k d)) parted ∙ ap items (get_or_append_left pools (last ∷ []) d k below) in
     let long = (are.each k j [] (omega arith)).many in
     let same = ap length here in
     omega arith

@@ -22,8 +22,8 @@ placed_more P n all all' y is before now = subst (ArePlaced P (n + 1)) (sym is) 
   each = λ k d below. ⊎_elim
       (λ (less : k < length all). subst (P k) (sym (get_or_append_left all (y ∷ []) d k less)) (before.each k d less))
       (λ (last : length all ≤ k).
-        let at : length all ≡ k = (let m = length_push all y in omega arith) in
-        subst (P k) (sym (get_or_push all y d k at)) (subst (λ m. P m y) (sym before.many ∙ at) now))
+      let at : length all ≡ k = (let m = length_push all y in omega arith) in
+      subst (P k) (sym (get_or_push all y d k at)) (subst (λ m. P m y) (sym before.many ∙ at) now))
       (cases_lt k (length all));
 })
 

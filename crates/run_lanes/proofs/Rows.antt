@@ -47,17 +47,17 @@ module _ {X : Type 0} where
         taken = λ r e d y below. ⊎_elim
             (λ (less : r < at). get_or_append_left column (x ∷ []) d r (let l = before.long in omega arith) ∙ before.taken r e d y less)
             (λ (more : at ≤ r).
-              let same : r ≡ at = omega arith in
-              get_or_push column x d r (before.long ∙ sym same) ∙ popped y ∙ (λ i. get_or (row e i) (many e i) y) ∙ ap (λ n. get_or (get_or old n e) last y) (sym same))
+            let same : r ≡ at = omega arith in
+            get_or_push column x d r (before.long ∙ sym same) ∙ popped y ∙ (λ i. get_or (row e i) (many e i) y) ∙ ap (λ n. get_or (get_or old n e) last y) (sym same))
             (cases_lt r at);
         rest = λ r d e below. ⊎_elim
             (λ (less : r < at).
-              let ne : r ≢ at = omega arith in
-              ap (λ l. get_or l r d) step ∙ get_or-set_other new at r _ d ne ∙ before.rest r d e less)
+            let ne : r ≢ at = omega arith in
+            ap (λ l. get_or l r d) step ∙ get_or-set_other new at r _ d ne ∙ before.rest r d e less)
             (λ (more : at ≤ r).
-              let same : r ≡ at = omega arith in
-              ap (λ l. get_or l r d) step ∙ ap (λ n. get_or (set new at (take (length (get_or new at []) - 1) (get_or new at []))) n d) same
-                  ∙ get_or-set_same new at (take (length (get_or new at []) - 1) (get_or new at [])) d room ∙ (λ i. take (many e i) (row e i)) ∙ ap (λ n. take last (get_or old n e)) (sym same))
+            let same : r ≡ at = omega arith in
+            ap (λ l. get_or l r d) step ∙ ap (λ n. get_or (set new at (take (length (get_or new at []) - 1) (get_or new at []))) n d) same
+            ∙ get_or-set_same new at (take (length (get_or new at []) - 1) (get_or new at [])) d room ∙ (λ i. take (many e i) (row e i)) ∙ ap (λ n. take last (get_or old n e)) (sym same))
             (cases_lt r at);
         others = λ r d above.
             let ne : r ≢ at = omega arith in
@@ -94,7 +94,7 @@ module _ {X : Type 0} where
   left_rows width done old new columns some are before = record {
     long = λ r d below.
         let within : r < length old = (let m = before.many in omega arith) in
-        ap length (before.rest r d [] within) ∙ length-take-le (width - done) (get_or old r []) (let l = are.long r [] within in omega arith) ∙ omega arith
+        ap length (before.rest r d [] within) ∙ length-take-le (width - done) (get_or old r []) (let l = are.long r [] within in omega arith) ∙ omega arith;
   }
 
   pub taken_more : (width done : ℕ) (old new new' columns : List (List X)) (column : List X) → done < width → HasTaken width done old new columns → TakesColumn (width - 1 - done) new new' column
@@ -105,7 +105,7 @@ module _ {X : Type 0} where
     rest = λ r d e below.
         let within : r < length new = (let m = before.many in omega arith) in
         takes.rest r d [] within ∙ ap (take (width - 1 - done)) (before.rest r [] e below) ∙ take-take (width - 1 - done) (width - done) (get_or old r e) (omega arith)
-            ∙ ap (λ n. take n (get_or old r e)) (let s : width - 1 - done ≡ width - (done + 1) = omega arith in s);
+        ∙ ap (λ n. take n (get_or old r e)) (let s : width - 1 - done ≡ width - (done + 1) = omega arith in s);
     long = λ c d below. ⊎_elim
         (λ (less : c < done). ap length (get_or_append_left columns (column ∷ []) d c (let l = before.columns_many in omega arith)) ∙ before.long c d less)
         (λ (more : done ≤ c). ap length (get_or_push columns column d c (before.columns_many ∙ (let s : done ≡ c = omega arith in s))) ∙ takes.long ∙ before.many)
@@ -113,10 +113,10 @@ module _ {X : Type 0} where
     at = λ c r d e x y below within. ⊎_elim
         (λ (less : c < done). ap (λ l. get_or l r x) (get_or_append_left columns (column ∷ []) d c (let l = before.columns_many in omega arith)) ∙ before.at c r d e x y less within)
         (λ (more : done ≤ c).
-          let same : c ≡ done = omega arith in
-          let inside : r < length new = (let m = before.many in omega arith) in
-          ap (λ l. get_or l r x) (get_or_push columns column d c (before.columns_many ∙ sym same)) ∙ takes.at r [] x y inside ∙ ap (λ l. get_or l (width - 1 - done) y) (before.rest r [] e within)
-              ∙ get_or-take (width - done) (get_or old r e) (width - 1 - done) y (omega arith) ∙ ap (λ n. get_or (get_or old r e) (width - 1 - n) y) (sym same))
+        let same : c ≡ done = omega arith in
+        let inside : r < length new = (let m = before.many in omega arith) in
+        ap (λ l. get_or l r x) (get_or_push columns column d c (before.columns_many ∙ sym same)) ∙ takes.at r [] x y inside ∙ ap (λ l. get_or l (width - 1 - done) y) (before.rest r [] e within)
+        ∙ get_or-take (width - done) (get_or old r e) (width - 1 - done) y (omega arith) ∙ ap (λ n. get_or (get_or old r e) (width - 1 - n) y) (sym same))
         (cases_lt c done);
   }
 
@@ -127,9 +127,10 @@ module _ {X : Type 0} where
         ap (λ l. length (get_or l c d)) turned ∙ ap length (get_or-reverse columns c d (let m = taken.columns_many in omega arith)) ∙ taken.long (length columns - 1 - c) d (let m = taken.columns_many in omega arith);
     at = λ c r d e x y below within.
         ap (λ l. get_or (get_or l c d) r x) turned ∙ ap (λ l. get_or l r x) (get_or-reverse columns c d (let m = taken.columns_many in omega arith))
-            ∙ taken.at (length columns - 1 - c) r d e x y (let m = taken.columns_many in omega arith) within
-            ∙ ap (λ n. get_or (get_or old r e) n y) (let m = taken.columns_many in let s : width - 1 - (length columns - 1 - c) ≡ c = omega arith in s);
+        ∙ taken.at (length columns - 1 - c) r d e x y (let m = taken.columns_many in omega arith) within
+        ∙ ap (λ n. get_or (get_or old r e) n y) (let m = taken.columns_many in let s : width - 1 - (length columns - 1 - c) ≡ c = omega arith in s);
   }
+
   -- each row that wasn't cut has a last place
   pub has_last : (last at : ℕ) (old new : List (List X)) (column : List X) → at < length old → AreRows (last + 1) old → TakesBelow last at old new column → 0 < length (get_or new at [])
   has_last last at old new column within rows before = let l = ap length (before.others at [] (omega arith)) in let k = rows.long at [] within in omega arith

@@ -21,14 +21,14 @@ module _ {T K : Type 0} where
     many = ap length (step (get_or old at (first old within))) ∙ length-set new at _ ∙ before.many;
     below = λ lane t u d under. ⊎_elim
         (λ (less : lane < at).
-          let ne : lane ≢ at = omega arith in
-          ap (λ l. get_or l lane t) (step t) ∙ get_or-set_other new at lane _ t ne ∙ before.below lane t u d less)
+        let ne : lane ≢ at = omega arith in
+        ap (λ l. get_or l lane t) (step t) ∙ get_or-set_other new at lane _ t ne ∙ before.below lane t u d less)
         (λ (more : at ≤ lane).
-          let same : lane ≡ at = omega arith in
-          ap (λ l. get_or l lane t) (step t) ∙ ap (λ n. get_or (set new at (taken_in (get_or new at t) (end ∷ []))) n t) same
-              ∙ get_or-set_same new at (taken_in (get_or new at t) (end ∷ [])) t (let m = before.many in omega arith)
-              ∙ ap (λ v. taken_in v (end ∷ [])) (before.above at t (omega arith) ∙ get_or_default old at t u within) ∙ ap (λ v. taken_in (get_or old at u) (v ∷ [])) (is d)
-              ∙ ap (λ n. taken_in (get_or old n u) (get_or ends n d ∷ [])) (sym same))
+        let same : lane ≡ at = omega arith in
+        ap (λ l. get_or l lane t) (step t) ∙ ap (λ n. get_or (set new at (taken_in (get_or new at t) (end ∷ []))) n t) same
+        ∙ get_or-set_same new at (taken_in (get_or new at t) (end ∷ [])) t (let m = before.many in omega arith)
+        ∙ ap (λ v. taken_in v (end ∷ [])) (before.above at t (omega arith) ∙ get_or_default old at t u within) ∙ ap (λ v. taken_in (get_or old at u) (v ∷ [])) (is d)
+        ∙ ap (λ n. taken_in (get_or old n u) (get_or ends n d ∷ [])) (sym same))
         (cases_lt lane at);
     above = λ lane t over.
         let ne : lane ≢ at = omega arith in

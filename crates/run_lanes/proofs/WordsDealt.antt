@@ -30,15 +30,15 @@ tables_more limits limit senders seats seat rows row before more = record {
   rows_many = length_push rows row ∙ ap (λ n. n + 1) before.rows_many ∙ sym (length_push limits limit);
   each = λ port l s r below. ⊎_elim
       (λ (less : port < length limits).
-        subst (λ m. AreSeatsOf (setup_of m senders) (get_or (seats ++ seat ∷ []) port s) (get_or (rows ++ row ∷ []) port r)) (sym (get_or_append_left limits (limit ∷ []) l port less))
-            (subst (λ m. AreSeatsOf (setup_of (get_or limits port l) senders) m (get_or (rows ++ row ∷ []) port r)) (sym (get_or_append_left seats (seat ∷ []) s port (let m = before.many in omega arith)))
-            (subst (AreSeatsOf (setup_of (get_or limits port l) senders) (get_or seats port s)) (sym (get_or_append_left rows (row ∷ []) r port (let m = before.rows_many in omega arith)))
-            (before.each port l s r less))))
+      subst (λ m. AreSeatsOf (setup_of m senders) (get_or (seats ++ seat ∷ []) port s) (get_or (rows ++ row ∷ []) port r)) (sym (get_or_append_left limits (limit ∷ []) l port less))
+      (subst (λ m. AreSeatsOf (setup_of (get_or limits port l) senders) m (get_or (rows ++ row ∷ []) port r)) (sym (get_or_append_left seats (seat ∷ []) s port (let m = before.many in omega arith)))
+      (subst (AreSeatsOf (setup_of (get_or limits port l) senders) (get_or seats port s)) (sym (get_or_append_left rows (row ∷ []) r port (let m = before.rows_many in omega arith)))
+      (before.each port l s r less))))
       (λ (last : length limits ≤ port).
-        let at : length limits ≡ port = (let m = length_push limits limit in omega arith) in
-        subst (λ m. AreSeatsOf (setup_of m senders) (get_or (seats ++ seat ∷ []) port s) (get_or (rows ++ row ∷ []) port r)) (sym (get_or_push limits limit l port at))
-            (subst (λ m. AreSeatsOf (setup_of limit senders) m (get_or (rows ++ row ∷ []) port r)) (sym (get_or_push seats seat s port (before.many ∙ at)))
-            (subst (AreSeatsOf (setup_of limit senders) seat) (sym (get_or_push rows row r port (before.rows_many ∙ at))) more)))
+      let at : length limits ≡ port = (let m = length_push limits limit in omega arith) in
+      subst (λ m. AreSeatsOf (setup_of m senders) (get_or (seats ++ seat ∷ []) port s) (get_or (rows ++ row ∷ []) port r)) (sym (get_or_push limits limit l port at))
+      (subst (λ m. AreSeatsOf (setup_of limit senders) m (get_or (rows ++ row ∷ []) port r)) (sym (get_or_push seats seat s port (before.many ∙ at)))
+      (subst (AreSeatsOf (setup_of limit senders) seat) (sym (get_or_push rows row r port (before.rows_many ∙ at))) more)))
       (cases_lt port (length limits));
 }
 
@@ -48,7 +48,7 @@ tables_rows (l ∷ limits) senders [] rows are = absurd (let m = are.many in ome
 tables_rows (l ∷ limits) senders (s ∷ seats) rows are = record {
   long = λ r d below.
       let of = are.each r l s d (let m = are.rows_many in omega arith) in
-      ap length of.senders_are ∙ seats_many (get_or (s ∷ seats) r s).table (setup_of (get_or (l ∷ limits) r l) senders) 0 senders
+      ap length of.senders_are ∙ seats_many (get_or (s ∷ seats) r s).table (setup_of (get_or (l ∷ limits) r l) senders) 0 senders;
 }
 
 pub no_limits : QueueLimits
@@ -66,8 +66,8 @@ words_are limits senders seats rows columns are dealt = record {
     each = λ port e below.
         let of = are.each port no_limits s [] below in
         dealt.at sender port d [] e e within (let m = are.rows_many in omega arith) ∙ ap (λ r. get_or r sender e) of.senders_are
-            ∙ seat_at (get_or seats port s).table (setup_of (get_or limits port no_limits) senders) 0 senders sender e within
-            ∙ ap (λ t. send_known (get_or seats port s).table t (fresh_sender (0 + sender))) (sym (ap (λ k. k.known.setup) of.port_is))
-            ∙ ap (λ n. send_known (get_or seats port s).table (get_or seats port s).known.setup (fresh_sender n)) (let z : 0 + sender ≡ sender = omega arith in z);
+        ∙ seat_at (get_or seats port s).table (setup_of (get_or limits port no_limits) senders) 0 senders sender e within
+        ∙ ap (λ t. send_known (get_or seats port s).table t (fresh_sender (0 + sender))) (sym (ap (λ k. k.known.setup) of.port_is))
+        ∙ ap (λ n. send_known (get_or seats port s).table (get_or seats port s).known.setup (fresh_sender n)) (let z : 0 + sender ≡ sender = omega arith in z);
   };
 }

@@ -19,10 +19,7 @@ use std::alloc::Global;
 use std::snapshot::Snapshot;
 
 // The first of them, the one behind these, and the others.
-fn split_around<X: Drop>(
-    mut all: Vec<X>,
-    place: usize,
-) -> Result<(Vec<X>, X, Vec<X>), NoMemory>
+fn split_around<X: Drop>(mut all: Vec<X>, place: usize) -> Result<(Vec<X>, X, Vec<X>), NoMemory>
     requires { place < length all.items }
     ensures parts { IfOk result (λ r. all.items ≡ (r.0.items ++ r.1 ∷ []) ++ r.2.items) }
     ensures first { IfOk result (λ r. length r.0.items ≡ place) }
@@ -72,8 +69,10 @@ pub fn open_lanes(
     let many = ports.len() as u32;
     let (seats, send_seats) = words(alloc, ports, size.processes)?;
     let (port_takers, port_ends) = port_lanes(alloc, size, seats.as_slice())?;
-    let (process_ends, poller_ends, worker_ends) =
-        split_around(port_ends, size.processes as usize)?;
+    let (process_ends, poller_ends, worker_ends) = split_around(
+        port_ends,
+        size.processes as usize,
+    )?;
     let (mailboxes, mail) = lanes(alloc, &(), size.processes, many)?;
     let (jobs, job_ends) = lanes(alloc, &(), size.workers, many + 1)?;
     let (asks, ask_ends) = lane_ends(alloc, Snapshot::of(&()), many + 1)?;

@@ -1,11 +1,13 @@
-ghost use Rattle.std.specs.Prelude.{◌≡◌, ◌<◌, length, IfOk};
+ghost use Rattle.std.specs.Prelude.{◌≡◌, ◌<◌, ℕ, length, IfOk, slice_index_or};
+ghost use Rattle.run_lanes.specs.declared.parts.ProcessLanes.{ProcessLanes as Process};
+ghost use Rattle.run_lanes.specs.Opened.{CanBegin};
 
-use async_jobs::{Pool, WorkItem};
+use async_jobs::WorkItem;
 use port_model::Mail;
 use port_words::busy::QueueLimits;
 use process_end::{Ask, Proc, ProcParts};
 use ready_select::PollAsk;
-use run_lanes::{LaneSize, PortLanes, RunLanes, WorkerLanes, open_lanes};
+use run_lanes::{LaneSize, PortLanes, RunLanes, open_lanes};
 use std::alloc::Global;
 use std::sync::Wait;
 use std::test::Fail;
@@ -23,7 +25,10 @@ const LIMITS: QueueLimits = QueueLimits {
 };
 
 // Two processes, three ports and two workers.
-fn opened(alloc: Global) -> Result<RunLanes, Fail> {
+fn opened(alloc: Global) -> Result<RunLanes, Fail>
+    ensures many { IfOk result (λ run. length run.processes.items ≡ 2) }
+    ensures begin { IfOk result (λ run. (process : ℕ) (d : Process) → process < 2 → CanBegin 3 process (slice_index_or run.processes.items process d)) }
+{
     Ok(open_lanes(alloc, SIZE, &[LIMITS, LIMITS, LIMITS])?)
 }
 
@@ -69,11 +74,13 @@ fn put_mail<R: Wait>(rt: &R, ends: Vec<SendEnd<Mail>>, port: u32) -> Result<(), 
 fn all_name_their_ends<R: Wait>(rt: &R, mailbox: &mut TakeEnd<Mail>, many: u32) -> bool {
     for _ in 0..many {
         match mailbox.take(rt) {
-            Some(Item {
-                sender,
-                value: Mail::Eof(port),
-                ..
-            }) if sender == port => {}
+            Some(
+                Item {
+                    sender,
+                    value: Mail::Eof(port),
+                    ..
+                },
+            ) if sender == port => {}
             _ => return false,
         }
     }
@@ -108,9 +115,14 @@ fn put_ask<R: Wait>(rt: &R, end: SendEnd<PollAsk>, ask: PollAsk) -> Result<(), F
 fn the_poller_takes_the_asks_of_each_port_and_a_finish_behind_them(
     rt: HostRuntime,
 ) -> Result<(), Fail> {
-    let run = opened(rt.alloc())?;
+    let RunLanes {
+        ports,
+        poller,
+        finish,
+        ..
+    } = opened(rt.alloc())?;
     let mut number = 0;
-    for port in run.ports {
+    for port in ports {
         let ask = PollAsk::Drop {
             port: number,
             event: 7,
@@ -118,8 +130,8 @@ fn the_poller_takes_the_asks_of_each_port_and_a_finish_behind_them(
         put_ask(&rt, port.asks, ask)?;
         number = number.saturating_add(1);
     }
-    put_ask(&rt, run.finish.poller, PollAsk::Finish)?;
-    let mut asks = run.poller.asks;
+    put_ask(&rt, finish.poller, PollAsk::Finish)?;
+    let mut asks = poller.asks;
     for port in 0..3 {
         let item = asks.take(&rt).ok_or("no ask")?;
         assert_eq!(rt; item.sender, port);
@@ -145,12 +157,16 @@ fn put_finish<R: Wait>(rt: &R, ends: Vec<SendEnd<WorkItem>>) -> Result<(), Fail>
 fn each_worker_takes_from_each_pool_and_from_the_end_behind_them(
     rt: HostRuntime,
 ) -> Result<(), Fail> {
-    let run = opened(rt.alloc())?;
-    for port in run.ports {
+    let RunLanes {
+        ports,
+        mut workers,
+        finish,
+        ..
+    } = opened(rt.alloc())?;
+    for port in ports {
         put_finish(&rt, port.pool.into_lanes())?;
     }
-    put_finish(&rt, run.finish.workers)?;
-    let mut workers = run.workers;
+    put_finish(&rt, finish.workers)?;
     for worker in &mut workers {
         for sender in 0..4 {
             let item = worker.jobs.take(&rt).ok_or("no item")?;
@@ -165,11 +181,8 @@ fn each_worker_takes_from_each_pool_and_from_the_end_behind_them(
 fn last_process(alloc: Global) -> Result<(Proc, Vec<PortLanes>), Fail>
     ensures { IfOk result (λ r. length r.0.lanes ≡ 3) }
 {
-    let RunLanes {
-        ports,
-        mut processes,
-        ..
-    } = opened(alloc)?;
+    let run = opened(alloc)?;
+    let mut processes = run.processes;
     let Some(process) = processes.pop() else {
         return Err("no process".into());
     };
@@ -180,7 +193,7 @@ fn last_process(alloc: Global) -> Result<(Proc, Vec<PortLanes>), Fail>
         seats: process.seats,
         soft: Vec::from_slice(alloc, &[false, false, false])?,
     };
-    Ok((Proc::new(alloc, parts), ports))
+    Ok((Proc::new(alloc, parts), run.ports))
 }
 
 #[test]

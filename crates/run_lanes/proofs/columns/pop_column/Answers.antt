@@ -28,7 +28,7 @@ rows-preserved g c =
     let size = c.args.rows.now.ok.0 in
     let old_many = length-map c.args.rows.now.items (λ r. r.items) in
     subst (TakesBelow c.args.last (c.rows.at + 1) old (map (λ r. r.items) c.pop_at.new.rows.items)) (sym c.in_ok-push.ensures.items)
-        (takes_more c.args.last c.rows.at old new (map (λ r. r.items) c.pop_at.new.rows.items) c.rows.column.items c.pop_at.result (omega arith) c.requires c.rows.invariant c.pop_at.ensures.rest c.pop_at.ensures.last)
+    (takes_more c.args.last c.rows.at old new (map (λ r. r.items) c.pop_at.new.rows.items) c.rows.column.items c.pop_at.result (omega arith) c.requires c.rows.invariant c.pop_at.ensures.rest c.pop_at.ensures.last)
 
 pub returns : goal.returns
 returns g c =

@@ -15,7 +15,7 @@ columns-preserved g c =
     let columns = map (λ r. r.items) c.columns.columns.items in
     let column = c.in_ok-pop_column.field-0 in
     subst (HasTaken c.args.width (c.columns.done + 1) old rows') (sym (ap (map (λ r. r.items)) c.in_ok-push.ensures.items ∙ map_push (λ r. r.items) c.columns.columns.items column))
-        (taken_more c.args.width c.columns.done old rows rows' columns column.items c.columns-test.true c.columns.invariant c.in_ok-pop_column.ensures)
+    (taken_more c.args.width c.columns.done old rows rows' columns column.items c.columns-test.true c.columns.invariant c.in_ok-pop_column.ensures)
 
 pub returns : goal.returns
 returns g c =
@@ -25,4 +25,4 @@ returns g c =
     let test = c.columns-test.false in
     let within = c.columns.auto.done-end in
     columns_of c.args.width c.columns.done old rows columns (map (λ r. r.items) c.reverse.new.self.items) (omega arith) c.columns.invariant
-        (ap (map (λ r. r.items)) c.reverse.ensures.items ∙ map_reverse (λ r. r.items) c.columns.columns.items)
+    (ap (map (λ r. r.items)) c.reverse.ensures.items ∙ map_reverse (λ r. r.items) c.columns.columns.items)

@@ -13,7 +13,7 @@ new-requires-in-ports c =
     let many = c.requires.many in
     let pool = c.next_of-pool in
     subst (λ v. 0 < vec_len v) (sym (rest_first n pools c.ports.pools.rest.items pool.new.items.rest.items pool.result c.ports.pools.rest.len (omega arith) c.ports.invariant.4 pool.ensures.items pool.result))
-        (c.requires.workers n pool.result (omega arith))
+    (c.requires.workers n pool.result (omega arith))
 
 pub ports-preserved : goal.ports-preserved
 ports-preserved c =

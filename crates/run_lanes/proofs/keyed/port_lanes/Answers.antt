@@ -13,7 +13,7 @@ ports-preserved c =
     let before = take c.ports.seat-index c.args.seats.now in
     let added = c.in_ok-add_lane.ensures.takers in
     let taken : take (c.ports.seat-index + 1) c.args.seats.now ≡ before ++ seat ∷ [] =
-        take_more c.args.seats.now c.ports.seat-index seat c.ports-test.true ∙ ap (λ s. before ++ s ∷ []) (sym c.seat-item.is) in
+    take_more c.args.seats.now c.ports.seat-index seat c.ports-test.true ∙ ap (λ s. before ++ s ∷ []) (sym c.seat-item.is) in
     let untaken : IsUntaken (key_of size seat) added.0 = subst (λ k. IsUntaken k added.0) (c.of.ensures ∙ c.new-key.ensures) added.2 in (
       subst (λ s. ArePortLanes size s c.add_lane.new.takers.items) (sym taken)
           (subst (ArePortLanes size (before ++ seat ∷ [])) (sym added.1) (keyed_more size before seat c.ports.takers.items added.0 c.ports.invariant.0 untaken)),

@@ -9,5 +9,5 @@ returns-clause-rows g c = λ before.
     let row = c.in_ok-taker.row in
     let rows = map (λ r. r.items) c.args.rows.now.items in
     subst (λ t. AreAllRows t c.args.ends (map (λ r. r.items) c.push-2.new.self.items)) (sym c.in_ok-push.ensures.items)
-        (subst (AreAllRows _ c.args.ends) (sym (ap (map (λ r. r.items)) c.in_ok-push-2.ensures.items ∙ map_push (λ r. r.items) c.args.rows.now.items row))
-        (rows_more c.args.takers.now.items c.in_ok-taker.taker c.args.ends rows row.items before c.in_ok-taker.ensures.ends))
+    (subst (AreAllRows _ c.args.ends) (sym (ap (map (λ r. r.items)) c.in_ok-push-2.ensures.items ∙ map_push (λ r. r.items) c.args.rows.now.items row))
+    (rows_more c.args.takers.now.items c.in_ok-taker.taker c.args.ends rows row.items before c.in_ok-taker.ensures.ends))

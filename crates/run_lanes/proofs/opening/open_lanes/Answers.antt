@@ -9,7 +9,7 @@ use Rattle.run_lanes.proofs.opening.open_lanes.Goals as goal
 pub deal_ports-requires-clause-workers : goal.deal_ports-requires-clause-workers
 deal_ports-requires-clause-workers c = λ k d below.
     let some = some_workers (λ v. v.items) c.in_ok-jobs.jobs.items _ c.args.size.workers c.in_ok-jobs.job_ends.items c.split_last-pools.result.0.items c.split_last-pools.result.1 c.split_last-pools.ensures
-        c.in_ok-jobs.ensures.ends c.in_ok-jobs.ensures.many c.requires.workers.0 k d below in
+    c.in_ok-jobs.ensures.ends c.in_ok-jobs.ensures.many c.requires.workers.0 k d below in
     subst (λ n. 0 < n) (sym (get_or c.split_last-pools.result.0.items k d).ok.0) some
 
 pub returns : goal.returns
