@@ -1,12 +1,12 @@
 -- Workers and the poller may cross threads, where the bodies of ports and the poll set may.
 use denote.RattleType.{RattleType}
 use denote.Param.Send.{IsSend, sendable}
-use denote.Param.SendFields.{declared_send}
+use denote.Struct.Field.{row_field}
+use denote.Param.SendFields.{as_row_send, declared_send}
 use Rattle.std.proofs.Crossing.{crosses}
 use Rattle.task_queue.proofs.Sent.{ends_cross}
 use Rattle.async_jobs.proofs.Sent.{jobs_cross}
 use Rattle.process_end.proofs.Sent.{processes_cross}
-use Rattle.outside.specs.declared.poll_set.PollSet.{Ghosts as PollGhosts}
 use Rattle.port_words.proofs.over.word.OverSeat.TheSendSync as over_sent
 use Rattle.port_sched.specs.declared.body.PortBody.{Ghosts}
 use Rattle.port_sched.specs.contracts.waking.JobSeats as seats
@@ -36,18 +36,18 @@ worker_send B F t = declared_send (worker.the_type B F) (
   ),
 )
 
-watch_send : (S : RattleType) (H : PollGhosts S.Denot) → IsSend S → IsSend (watch.the_row S H)
-watch_send S H t = declared_send (watch.the_type S H) (t, (search (crosses, sendable) depth 20, (search ends_cross depth 20, tt)))
+watch_send : (S : RattleType) → IsSend S → IsSend (watch.the_row S)
+watch_send S t = declared_send (watch.the_type S) (as_row_send (row_field S) t, (search (crosses, sendable) depth 20, (search ends_cross depth 20, tt)))
 
-pub poller_send : (B S : RattleType) (F : Ghosts B.Denot) (H : PollGhosts S.Denot) → IsSend B → IsSend S → IsSend (poller.the_row B S F H)
-poller_send B S F H t u = declared_send (poller.the_type B S F H) (
+pub poller_send : (B S : RattleType) (F : Ghosts B.Denot) → IsSend B → IsSend S → IsSend (poller.the_row B S F)
+poller_send B S F t u = declared_send (poller.the_type B S F) (
   search sendable depth 20,
   (
     seats_send B F t,
     (
       over_sent.the_send,
       (
-        watch_send S H u,
+        watch_send S u,
         (
           search (processes_cross, crosses, sendable) depth 20,
           (search (sendable, crosses) depth 20, tt),
