@@ -1,0 +1,5 @@
+pub mod Wakes
+pub mod Tells
+pub mod Works
+pub mod Polls
+pub mod Sent

@@ -1,0 +1,4 @@
+pub mod Stops
+pub mod Telling
+pub mod Working
+pub mod Rounds

@@ -1,0 +1,8 @@
+use Rattle.std.proofs.Common.{◌≡◌, ◌<◌, ◌∙◌, ap, take, ◌-◌, length, arith, get_or, map, sym, subst}
+use Rattle.std.proofs.lemmas.List.{get_or-map}
+use Rattle.run_lanes.proofs.Rows.{set_row}
+use Rattle.run_lanes.proofs.columns.pop_at.Goals as goal
+
+pub returns-clause-rest : goal.returns-clause-rest
+returns-clause-rest g c = set_row (λ r. r.items) c.args.rows.now.items c.args.at c.index_mut.result.now c.pop.new.self c.requires.row c.index_mut.ensures.value
+    (c.pop.ensures.rest ∙ ap (λ n. take (n - 1) c.index_mut.result.now.items) c.index_mut.result.now.ok.0)

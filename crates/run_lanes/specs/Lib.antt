@@ -1,0 +1,6 @@
+pub mod Rows
+pub mod Ends
+pub mod Words
+pub mod Keyed
+pub mod Dealt
+pub mod Opened
