@@ -1,4 +1,4 @@
-// How a scheduler waits that finds nothing to do.
+// How a thread waits that finds nothing to do.
 use crossbeam_utils::Backoff;
 use std::sync::Wait;
 use std::thread::Parker;
@@ -7,26 +7,29 @@ use std::time::Duration;
 // How many microseconds it sleeps once it has spun and yielded.
 const NAP: u64 = 200;
 
-/// A wait that grows: it spins, then yields, then sleeps for a short time.
+/// A wait that grows: it spins, then yields, then sleeps for 200 microseconds at a time. It promises nothing of what others do meanwhile.
 #[derive(Drop)]
-pub(crate) struct Idle {
+pub struct Idle {
     backoff: Backoff,
     parker: Parker,
 }
 
 impl Idle {
-    pub(crate) fn new() -> Idle {
+    /// A wait that begins to spin.
+    pub fn new() -> Idle {
         Idle {
             backoff: Backoff::new(),
             parker: Parker::new(),
         }
     }
 
-    pub(crate) fn reset(&self) {
+    /// Begins to spin again, after something was found to do.
+    pub fn reset(&self) {
         self.backoff.reset();
     }
 
-    pub(crate) fn wait<R: Wait>(&self, rt: &R) {
+    /// Waits once, longer than the time before.
+    pub fn wait<R: Wait>(&self, rt: &R) {
         if self.backoff.is_completed() {
             self.parker.park_timeout(rt, Duration::from_micros(NAP));
         } else {

@@ -17,6 +17,7 @@ mod waking;
 
 pub use body::{PortBody, Turn};
 pub use closing::{close_homes, join_homes};
+pub use idle::Idle;
 pub use jobs::{Job, run_jobs};
 pub use lodger::Lodger;
 pub use no_memory::NoMemory;
