@@ -35,17 +35,17 @@ counted_set mails counts at flag bytes old new inside is more longer h = λ port
     let here : port < length counts = subst (λ n. port < n) (length-set counts at new) within in
     each-place
     (λ j. j < length counts → ((slice_index_or (slice_set counts at new) j d).messages ≤ messages_of j (mails ++ Message at flag bytes ∷ []))
-        × ((slice_index_or (slice_set counts at new) j d).bytes ≤ bytes_of j (mails ++ Message at flag bytes ∷ []))) at
+    × ((slice_index_or (slice_set counts at new) j d).bytes ≤ bytes_of j (mails ++ Message at flag bytes ∷ []))) at
     (λ w.
-      let set = get_or-set_same counts at new d inside in
-      let was = h at d w in
-      let one = counted_push (is_data_of at) mails (Message at flag bytes) in
-      let two = sum_by_push (size_from at) mails (Message at flag bytes) in
-      let same = same_eq at in
-      let m : old.messages ≤ messages_of at mails = subst (λ (o : DataCount). o.messages ≤ messages_of at mails) (is d) was.0 in
-      let b : old.bytes ≤ bytes_of at mails = subst (λ (o : DataCount). o.bytes ≤ bytes_of at mails) (is d) was.1 in
-      let one' : messages_of at (mails ++ Message at flag bytes ∷ []) ≡ messages_of at mails + 1 = one ∙ ap (λ t. messages_of at mails + cond t 1 0) same in
-      let two' : bytes_of at (mails ++ Message at flag bytes ∷ []) ≡ bytes_of at mails + length bytes = two ∙ ap (λ t. bytes_of at mails + cond t (length bytes) 0) same in
-      (rw set (omega arith), rw set (omega arith)))
+    let set = get_or-set_same counts at new d inside in
+    let was = h at d w in
+    let one = counted_push (is_data_of at) mails (Message at flag bytes) in
+    let two = sum_by_push (size_from at) mails (Message at flag bytes) in
+    let same = same_eq at in
+    let m : old.messages ≤ messages_of at mails = subst (λ (o : DataCount). o.messages ≤ messages_of at mails) (is d) was.0 in
+    let b : old.bytes ≤ bytes_of at mails = subst (λ (o : DataCount). o.bytes ≤ bytes_of at mails) (is d) was.1 in
+    let one' : messages_of at (mails ++ Message at flag bytes ∷ []) ≡ messages_of at mails + 1 = one ∙ ap (λ t. messages_of at mails + cond t 1 0) same in
+    let two' : bytes_of at (mails ++ Message at flag bytes ∷ []) ≡ bytes_of at mails + length bytes = two ∙ ap (λ t. bytes_of at mails + cond t (length bytes) 0) same in
+    (rw set (omega arith), rw set (omega arith)))
     (λ j apart w. rw (get_or-set_other counts at j new d apart) (counted_kept mails (Message at flag bytes) counts h j d w))
     port here

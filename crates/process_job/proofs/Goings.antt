@@ -100,19 +100,22 @@ waits_quiet old new mails new_mails e asked same are =
 -- a look at a port, with the seats of the same ports
 pub waits_seats : (old new : ProcView) (mails : List Mail) → new ≡ record old { seats = new.seats }
     → ((asks : List Asked) → HasAsked asks old → HasAsked asks new) → AreSamePorts old.lanes new.lanes old.seats new.seats → Waits (state old mails) (state new mails)
-waits_seats old new mails e asked ports = ([], record {
-  number = ap (λ (p : ProcView). p.number) e;
-  soft = ap (λ (p : ProcView). p.soft) e;
-  undone = ap (λ (p : ProcView). p.undone) e;
-  told = ap (λ (p : ProcView). p.told) e;
-  ports = ports;
-  many = refl;
-  receipts_are = ap (λ (p : ProcView). p.receipts) e;
-  asked = asked;
-  heard = subst (λ (p : ProcView). HasHeard [] old.mailbox p.mailbox) (sym e) (heard_none old.mailbox);
-  own = refl;
-  mails_are = sym (append-nil mails);
-})
+waits_seats old new mails e asked ports = (
+  [],
+  record {
+    number = ap (λ (p : ProcView). p.number) e;
+    soft = ap (λ (p : ProcView). p.soft) e;
+    undone = ap (λ (p : ProcView). p.undone) e;
+    told = ap (λ (p : ProcView). p.told) e;
+    ports = ports;
+    many = refl;
+    receipts_are = ap (λ (p : ProcView). p.receipts) e;
+    asked = asked;
+    heard = subst (λ (p : ProcView). HasHeard [] old.mailbox p.mailbox) (sym e) (heard_none old.mailbox);
+    own = refl;
+    mails_are = sym (append-nil mails);
+  },
+)
 
 pub waits_looked : (port : ℕ) (old new : ProcView) (stat : ℕ) (mails : List Mail) → HasLookedAt port old new stat → Waits (state old mails) (state new mails)
 waits_looked port old new stat mails h = waits_seats old new mails h.rest h.asked (ports_looked port old new stat h)

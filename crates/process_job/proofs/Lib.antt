@@ -5,3 +5,5 @@ pub mod Goings
 pub mod Seating
 pub mod Resuming
 pub mod Made
+pub mod Stepping
+pub mod Endings

@@ -1,5 +1,5 @@
 -- The ends and seats of a process after a call or a look.
-use Rattle.std.proofs.Common.{◌≡◌, ◌≢◌, ℕ, List, [], ◌∷◌, ◌++◌, Bool, true, false, ◌||◌, Option, Some, None, refl, sym, ap, ◌∙◌, subst, append_assoc}
+use Rattle.std.proofs.Common.{◌≡◌, ◌≢◌, ℕ, ◌<◌, length, List, [], ◌∷◌, ◌++◌, Bool, true, false, ◌||◌, Option, Some, None, refl, sym, ap, ◌∙◌, subst, append_assoc}
 use Rattle.std.specs.Prelude.{slice_index_or}
 use Rattle.std.specs.List.{list_any}
 use Rattle.std.proofs.lemmas.List.{append-nil}
@@ -101,4 +101,11 @@ pub ports_found : (port : ℕ) (old new : ProcView) (msgq stat : ℕ) → HasFou
 ports_found port old new msgq stat h = ports_touched port old.lanes new.lanes old.seats new.seats h.touched
     (λ d. subst (λ p. IsSameEnd (slice_index_or old.lanes port d) (slice_index_or p.lanes port d)) (sym h.rest) refl)
     (λ d. subst (IsSameSeat (slice_index_or old.seats port d)) (sym (h.finds d).step)
-        (record { table = refl; setup = refl; number = refl; closed = closed_more (slice_index_or old.seats port d).sender.stats (stat ∷ []) }))
+    (record { table = refl; setup = refl; number = refl; closed = closed_more (slice_index_or old.seats port d).sender.stats (stat ∷ []) }))
+
+-- the lanes of the same ports are of as many processes
+pub among_kept : (processes : ℕ) (lanes new_lanes : List LaneEnd) (seats new_seats : List SendKnown) → AreSamePorts lanes new_lanes seats new_seats
+    → ((k : ℕ) (d : LaneEnd) → k < length lanes → (slice_index_or lanes k d).key.processes ≡ processes)
+    → (k : ℕ) (d : LaneEnd) → k < length new_lanes → (slice_index_or new_lanes k d).key.processes ≡ processes
+among_kept processes lanes new_lanes seats new_seats same among k d inside =
+    ap (λ (e : LaneEnd). e.key.processes) (same.ends k d) ∙ among k d (subst (λ n. k < n) same.lanes_many inside)

@@ -52,38 +52,41 @@ heard_resume : (s : StoppedView) (mailbox : Mailbox) → GotResume s mailbox →
 heard_resume s mailbox g = split s.resumed
     (λ e. subst (HasHeard [] s.proc.mailbox) (sym (g.before e)) (heard_none s.proc.mailbox))
     (λ e. let t = g.taken e in
-      let unread = resume_unread s.note t.0 t.2 in
-      subst (λ l. HasHeard (map_from t.1.port l) s.proc.mailbox mailbox) unread (heard_took s.proc.mailbox mailbox t.0 t.1))
+    let unread = resume_unread s.note t.0 t.2 in
+    subst (λ l. HasHeard (map_from t.1.port l) s.proc.mailbox mailbox) unread (heard_took s.proc.mailbox mailbox t.0 t.1))
 
 waits_found : (old new : ProcView) (mails new_mails : List Mail) → new ≡ record (with_mailbox old new.mailbox) { seats = new.seats } → HasHeard [] old.mailbox new.mailbox
     → ((asks : List Asked) → HasAsked asks old → HasAsked asks new) → AreSamePorts old.lanes new.lanes old.seats new.seats → new_mails ≡ mails ++ [] → Waits (state old mails) (state new new_mails)
-waits_found old new mails new_mails e heard asked ports are = ([], record {
-  number = ap (λ (p : ProcView). p.number) e;
-  soft = ap (λ (p : ProcView). p.soft) e;
-  undone = ap (λ (p : ProcView). p.undone) e;
-  told = ap (λ (p : ProcView). p.told) e;
-  ports = ports;
-  many = refl;
-  receipts_are = ap (λ (p : ProcView). p.receipts) e;
-  asked = asked;
-  heard = heard;
-  own = refl;
-  mails_are = are;
-})
+waits_found old new mails new_mails e heard asked ports are = (
+  [],
+  record {
+    number = ap (λ (p : ProcView). p.number) e;
+    soft = ap (λ (p : ProcView). p.soft) e;
+    undone = ap (λ (p : ProcView). p.undone) e;
+    told = ap (λ (p : ProcView). p.told) e;
+    ports = ports;
+    many = refl;
+    receipts_are = ap (λ (p : ProcView). p.receipts) e;
+    asked = asked;
+    heard = heard;
+    own = refl;
+    mails_are = are;
+  },
+)
 
 pub waits_resumed : (s : StoppedView) (new : ProcView) (mails : List Mail) → HasTried s (Ok new) → ((asks : List Asked) → HasAsked asks s.proc → HasAsked asks new)
     → Waits (state s.proc mails) (state new mails)
 waits_resumed s new mails h asked =
     waits_found s.proc new mails mails h.1.found.rest (heard_resume s new.mailbox h.0) asked
-        (ports_found s.note.port (with_mailbox s.proc new.mailbox) new h.1.msgq h.1.stat h.1.found) (sym (append-nil mails))
+    (ports_found s.note.port (with_mailbox s.proc new.mailbox) new h.1.msgq h.1.stat h.1.found) (sym (append-nil mails))
 
 pub waits_waited : (old new : StoppedView) (why : NotYet) (mails new_mails : List Mail) → HasWaited old new why → ((asks : List Asked) → HasAsked asks old.proc → HasAsked asks new.proc)
     → new_mails ≡ mails ++ readable (handed_over why) → Waits (state old.proc mails) (state new.proc new_mails)
 waits_waited old new notyet.Empty mails new_mails h asked are =
     subst (λ (s : StoppedView). Waits (state old.proc mails) (state s.proc new_mails)) (sym h.1)
-        (waits_quiet old.proc old.proc mails new_mails refl (λ asks a. a) refl (are ∙ append-nil mails))
+    (waits_quiet old.proc old.proc mails new_mails refl (λ asks a. a) refl (are ∙ append-nil mails))
 waits_waited old new (notyet.Other m) mails new_mails h asked are =
     waits_took old.proc new.proc mails new_mails m (ap (λ (s : StoppedView). s.proc) h.1) asked h.2 are
 waits_waited old new (notyet.SamePeriod word) mails new_mails h asked are =
     waits_found old.proc new.proc mails new_mails h.1.found.rest (heard_resume old new.proc.mailbox h.0) asked
-        (ports_found old.note.port (with_mailbox old.proc new.proc.mailbox) new.proc word h.1.stat h.1.found) are
+    (ports_found old.note.port (with_mailbox old.proc new.proc.mailbox) new.proc word h.1.stat h.1.found) are

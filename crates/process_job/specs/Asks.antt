@@ -64,9 +64,12 @@ abbrev pub next_content : List (List ℕ) → List ℕ
 next_content [] = []
 next_content (content ∷ contents) = content
 
+abbrev pub is_file : Act → Bool
+is_file (File port size file force nosuspend) = true
+is_file _ = false
+
 abbrev pub files_after : Act → List (List ℕ) → List (List ℕ)
-files_after (File port size file force nosuspend) files = drop 1 files
-files_after _ files = files
+files_after act files = if is_file act then drop 1 files else files
 
 -- The calls of each step in turn, up to the one that ends the process. `files` has the contents of the files of the steps, in their order
 abbrev pub calls_of : List Step → List (List ℕ) → List (List Asked)

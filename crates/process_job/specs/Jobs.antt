@@ -1,7 +1,7 @@
 -- What the job of a process needs, and what a run of it leaves.
 use Rattle.std.specs.Prelude.{◌≡◌, ℕ, ◌<◌, ◌≤◌, List, [], All, length, Option, Some, None, Result, Ok, Err, IsSomeAnd, IfSome, slice_index_or}
 use Rattle.port_words.specs.declared.home.homes.Ticket.{Ticket}
-use Rattle.port_words.specs.over.Over.{OverKnown, HasToFinish, HasNotStopped}
+use Rattle.port_words.specs.over.Over.{OverKnown, HasToFinish, HasNotStopped, over_known, stopped_view}
 use Rattle.port_sched.specs.declared.body.PortBody.{Ghosts}
 use Rattle.port_sched.specs.Homes.{AreHomes}
 use Rattle.port_sched.specs.Running.{Looked, Stopped}
@@ -17,6 +17,7 @@ use Rattle.process_job.specs.declared.job.ProcessJob.{ProcessJob}
 use Rattle.process_job.specs.declared.seats.ProcessSeats.{ProcessSeats}
 use Rattle.process_job.specs.declared.job.EndedProcess.{EndedProcess}
 use Rattle.process_job.specs.declared.halt.Halt.{Halt}
+use Rattle.process_job.specs.declared.halt.Halt.TheVariants as halt
 use Rattle.process_job.specs.Seats.{SawStop, HasFinished, SeatsHalted}
 use Rattle.process_job.specs.Steps.{HasRunToEnd}
 
@@ -57,6 +58,11 @@ EndsAs work kept old new None = ⊥
 EndsAs work kept old new (Some (ends.Ended end)) = HasRunToEnd work.steps.items work.files.items work.proc end.proc end.mails.items × HasFinished old new × (kept ≡ [])
 EndsAs work kept old new (Some ends.Stopped) = Looked old new × SawStop new × (kept ≡ [])
 EndsAs work kept old new (Some ends.NoMemory) = Stopped old new × (length kept ≤ 1)
+
+-- what the end of a process that halts does to its seat of OVER: nothing where the run was stopped already, and else it stops the run
+abbrev pub EndsHalted : Halt → OverKnown → OverKnown → ProcessEnd → Type 0
+EndsHalted halt.Stopped old new end = (end ≡ ends.Stopped) × (new ≡ old)
+EndsHalted halt.NoMemory old new end = (end ≡ ends.NoMemory) × ((found : ℕ) × (new ≡ over_known old.word (stopped_view old.known found)))
 
 module _ {B : Type 0} {g : Ghosts B} where
   -- seats of each port's home that rest, in the order of ports, and a counted seat of OVER that has said nothing

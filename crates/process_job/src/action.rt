@@ -1,6 +1,6 @@
 // What a step comes to.
-ghost use Rattle.std.specs.Prelude.{◌≡◌, drop};
-ghost use Rattle.process_job.specs.Asks.{how_of, files_after, next_content};
+ghost use Rattle.std.specs.Prelude.{◌≡◌, ℕ, Ok, drop};
+ghost use Rattle.process_job.specs.Asks.{how_of, files_after, is_file, next_content};
 ghost use Rattle.process_job.specs.Actions.{action_of};
 
 use crate::log::DataWanted;
@@ -57,17 +57,23 @@ fn how_of(force: bool, nosuspend: bool) -> How
     }
 }
 
-fn signal(line: u32, port: u32, ask: Ask) -> Action
-    ensures { result ≡ Action.Signal (record { line = line; port = port; ask = ask }) }
+fn signal(line: u32, port: u32, ask: Ask) -> Result<Action, Reason>
+    ensures { result ≡ Ok (Action.Signal (record { line = line; port = port; ask = ask })) }
 {
-    Action::Signal(PlainCall { line, port, ask })
+    Ok(Action::Signal(PlainCall { line, port, ask }))
 }
 
-fn command(line: u32, port: u32, how: How, bytes: Piece) -> Action
-    ensures { result ≡ Action.Command (record { line = line; port = port; how = how }) bytes }
+fn command(line: u32, port: u32, how: How, bytes: Piece) -> Result<Action, Reason>
+    ensures { result ≡ Ok (Action.Command (record { line = line; port = port; how = how }) bytes) }
 {
     let form = CommandForm { line, port, how };
-    Action::Command { form, bytes }
+    Ok(Action::Command { form, bytes })
+}
+
+fn wait(port: u32, wanted: DataWanted) -> Result<Action, Reason>
+    ensures { result ≡ Ok (Action.Wait port wanted) }
+{
+    Ok(Action::Wait { port, wanted })
 }
 
 /// The content of the next file. A file that isn't there is empty.
@@ -78,16 +84,29 @@ fn next_file(files: &mut VecDeque<Piece>) -> Piece
     files.pop_front().unwrap_or_default()
 }
 
-/// What a step on this line comes to, or the reason for which it ends the process. It takes the next file where it sends one.
-pub(crate) fn action_of(
-    line: u32,
-    act: Act,
-    files: &mut VecDeque<Piece>,
-) -> Result<Action, Reason>
-    ensures action { result ≡ action_of line act (next_content files.old.items) }
-    ensures rest { files.new.items ≡ files_after act files.old.items }
+fn is_file(act: &Act) -> bool
+    ensures { result ≡ is_file act.now }
 {
-    Ok(match act {
+    matches!(act, Act::File { .. })
+}
+
+/// The content of the file that a step sends, which is the next one, and nothing where it sends none.
+pub(crate) fn content_for(act: &Act, files: &mut VecDeque<Piece>) -> Piece
+    ensures content { (line : ℕ) → action_of line act.now result ≡ action_of line act.now (next_content files.old.items) }
+    ensures rest { files.new.items ≡ files_after act.now files.old.items }
+{
+    if is_file(act) {
+        next_file(files)
+    } else {
+        Piece::empty()
+    }
+}
+
+/// What a step on this line comes to, or the reason for which it ends the process. `content` is that of the file that it sends.
+pub(crate) fn action_of(line: u32, act: Act, content: Piece) -> Result<Action, Reason>
+    ensures { result ≡ action_of line act content }
+{
+    match act {
         Act::Command {
             port,
             bytes,
@@ -103,12 +122,11 @@ pub(crate) fn action_of(
         } => {
             let how = how_of(force, nosuspend);
             let form = CommandForm { line, port, how };
-            let content = next_file(files);
-            Action::File(FileCommands {
+            Ok(Action::File(FileCommands {
                 form,
                 size,
                 content,
-            })
+            }))
         }
         Act::Send { port, bytes } => command(line, port, How::Owner, bytes),
         Act::Control { port, op, bytes } => signal(line, port, Ask::Control { op, bytes }),
@@ -122,14 +140,8 @@ pub(crate) fn action_of(
         Act::Monitor { port, number } => signal(line, port, Ask::Monitor(number)),
         Act::Demonitor { port, number } => signal(line, port, Ask::Demonitor(number)),
         Act::Exit { port, reason } => signal(line, port, Ask::Exit(reason)),
-        Act::Expect { port, count } => Action::Wait {
-            port,
-            wanted: DataWanted::Messages(count),
-        },
-        Act::Bytes { port, count } => Action::Wait {
-            port,
-            wanted: DataWanted::Bytes(count),
-        },
-        Act::Die(reason) => return Err(reason),
-    })
+        Act::Expect { port, count } => wait(port, DataWanted::Messages(count)),
+        Act::Bytes { port, count } => wait(port, DataWanted::Bytes(count)),
+        Act::Die(reason) => Err(reason),
+    }
 }

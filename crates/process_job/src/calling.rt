@@ -1,12 +1,14 @@
 // The calls of a process: each is made, its port is woken where something was put, and what has to be waited for is.
-ghost use Rattle.std.specs.Prelude.{◌≡◌, ◌<◌, ◌≤◌, [], ◌∷◌, ◌++◌, length, take, drop, true, Option, option_to_list, OnOk, IfOk, slice_index_or};
+ghost use Rattle.std.specs.Prelude.{◌≡◌, ◌≢◌, if◌then◌else◌, not, false, ℕ, ◌<◌, ◌≤◌, [], ◌∷◌, ◌++◌, length, take, drop, true, Option, option_to_list, OnOk, IfOk, slice_index_or};
 ghost use Rattle.port_lanes.specs.Parcels.{names_below};
 ghost use Rattle.port_sched.specs.Homes.{AreHomes};
+ghost use Rattle.process_receipts.specs.declared.receipt.Receipt.{Receipt as TheReceipt};
 ghost use Rattle.process_receipts.specs.Asks.{asked};
+ghost use Rattle.process_receipts.specs.Receipts.{is_put};
 ghost use Rattle.process_end.specs.Views.{LaneEnd};
-ghost use Rattle.process_end.specs.Commanded.{command_of, signal_of};
-ghost use Rattle.process_job.specs.Asks.{vector_of};
-ghost use Rattle.process_job.specs.Mails.{is_replied, noproc_mail};
+ghost use Rattle.process_end.specs.Commanded.{command_of, signal_of, IsRefusal};
+ghost use Rattle.process_job.specs.Asks.{ends_file, vector_of};
+ghost use Rattle.process_job.specs.Mails.{is_closed, is_replied, noproc_mail};
 ghost use Rattle.process_job.specs.Actions.{ask_of, file_asks};
 ghost use Rattle.process_job.specs.Going.{state};
 ghost use Rattle.process_job.specs.Seats.{SeatsAfter, HasPorts};
@@ -43,6 +45,20 @@ pub(crate) struct AfterCommand {
     pub more: bool,
 }
 
+/// Whether the next command of a file follows one that was refused.
+fn goes_on_after(refusal: SendRefusal) -> Result<bool, NoMemory>
+    ensures more { IfOk result (λ more. (receipt : TheReceipt) (len : ℕ) → IsRefusal receipt len refusal → more ≡ not (ends_file receipt.outcome)) }
+    ensures memory { OnOk result (refusal ≢ SendRefusal.NoMemory) }
+{
+    match refusal {
+        SendRefusal::Closed { .. } => Ok(false),
+        SendRefusal::SentOut => Ok(false),
+        SendRefusal::NotSupported => Ok(true),
+        SendRefusal::TooLong { .. } => Ok(true),
+        SendRefusal::NoMemory => Err(NoMemory),
+    }
+}
+
 /// Sends a command, and waits where it suspends the process.
 pub(crate) fn send_command<B: PortBody, R: Wait>(
     rt: &R,
@@ -69,11 +85,10 @@ pub(crate) fn send_command<B: PortBody, R: Wait>(
             Ok(AfterCommand { proc, more: true })
         }
         Commanded::Dropped(proc, _) => Ok(AfterCommand { proc, more: true }),
-        Commanded::Refused(_, SendRefusal::NoMemory) => Err(Halt::NoMemory),
-        Commanded::Refused(proc, SendRefusal::Closed { .. } | SendRefusal::SentOut) => {
-            Ok(AfterCommand { proc, more: false })
+        Commanded::Refused(proc, refusal) => {
+            let more = goes_on_after(refusal)?;
+            Ok(AfterCommand { proc, more })
         }
-        Commanded::Refused(proc, _) => Ok(AfterCommand { proc, more: true }),
     }
 }
 
@@ -148,8 +163,24 @@ fn noproc_mail(port: u32, ask: &Ask) -> Option<Mail>
     }
 }
 
+/// The mail that a process adds whose signal was refused: its own for a closed port, where there is one.
+fn added_for(refusal: SendRefusal, own: Option<Mail>) -> Result<Option<Mail>, NoMemory>
+    ensures mail { IfOk result (λ added. (receipt : TheReceipt) (len : ℕ) → IsRefusal receipt len refusal
+        → option_to_list added ≡ (if is_closed receipt.outcome then option_to_list own else [])) }
+    ensures unput { OnOk result ((receipt : TheReceipt) (len : ℕ) → IsRefusal receipt len refusal → is_put receipt.outcome ≡ false) }
+    ensures memory { OnOk result (refusal ≢ SendRefusal.NoMemory) }
+{
+    match refusal {
+        SendRefusal::Closed { .. } => Ok(own),
+        SendRefusal::SentOut => Ok(None),
+        SendRefusal::NotSupported => Ok(None),
+        SendRefusal::TooLong { .. } => Ok(None),
+        SendRefusal::NoMemory => Err(NoMemory),
+    }
+}
+
 /// Adds a mail of the process's own.
-fn add_own(log: &mut MailLog, mail: Option<Mail>) -> Result<(), Halt>
+fn add_own(log: &mut MailLog, mail: Option<Mail>) -> Result<(), NoMemory>
     ensures { OnOk result (log.new ≡ log.old ++ option_to_list mail) }
 {
     if let Some(mail) = mail {
@@ -178,13 +209,16 @@ pub(crate) fn send_signal<B: PortBody, R: Wait>(
     match proc.signal(rt, line, port, ask) {
         Ok(seq) => {
             seats.wake(rt, port as usize)?;
-            if replied {
-                wait_for_reply(rt, &mut seats.over, log, proc, port, seq)?;
+            if !replied {
+                return Ok(());
             }
+            wait_for_reply(rt, &mut seats.over, log, proc, port, seq)?;
             Ok(())
         }
-        Err(SendRefusal::Closed { .. }) => add_own(log, own),
-        Err(SendRefusal::NoMemory) => Err(Halt::NoMemory),
-        Err(_) => Ok(()),
+        Err(refusal) => {
+            let added = added_for(refusal, own)?;
+            add_own(log, added)?;
+            Ok(())
+        }
     }
 }

@@ -1,7 +1,10 @@
 ghost use Rattle.std.specs.Prelude.{◌≡◌, ℕ, ◌≤◌, [], length, Some, None, IsSome, IfSome, IfOk, List};
+ghost use Rattle.port_words.specs.declared.home.homes.Ticket.{Ticket};
+ghost use Rattle.port_words.specs.over.Over.{HasNotStopped};
+ghost use Rattle.port_sched.specs.Waking.{Woke};
 ghost use Rattle.process_end.specs.Ports.{AreParts};
 ghost use Rattle.process_end.specs.Views.{proc_view};
-ghost use Rattle.process_job.specs.Jobs.{AreAmong, AreWithin, CanMakeSteps, CanRun, CanRunSeats, EndsAs, IsWorkOf, RanWork};
+ghost use Rattle.process_job.specs.Jobs.{AreAmong, AreWithin, CanMakeSteps, CanRun, CanRunSeats, EndsAs, EndsHalted, IsWorkOf, RanWork};
 
 use crate::ending::end_process;
 use crate::halt::Halt;
@@ -10,6 +13,7 @@ use crate::running::{Program, make_steps};
 use crate::seats::ProcessSeats;
 use port_model::{Mail, Piece};
 use port_sched::{Job, PortBody};
+use port_words::over::OverSeat;
 use process_end::{Proc, ProcEnd, ProcParts};
 use script_plan::Step;
 use std::alloc::Global;
@@ -84,6 +88,36 @@ fn run_process<B: PortBody, R: Wait>(
     })
 }
 
+/// What becomes of a process that halts. Where it found no memory the run is stopped.
+fn halted(over: &mut OverSeat, halt: Halt) -> ProcessEnd
+    requires { HasNotStopped over.old.known.places }
+    ensures { EndsHalted halt over.old over.new result }
+{
+    match halt {
+        Halt::Stopped => ProcessEnd::Stopped,
+        Halt::NoMemory => {
+            over.stop();
+            ProcessEnd::NoMemory
+        }
+    }
+}
+
+/// Runs a process, to its end or until it halts. Where it finds no memory it stops the run.
+fn finish<B: PortBody, R: Wait>(
+    rt: &R,
+    seats: &mut ProcessSeats<B>,
+    work: ProcessWork,
+) -> ProcessEnd
+    requires seats { CanRunSeats seats.old }
+    requires work { CanMakeSteps (length seats.old.ports.homes.items) work }
+    ensures { (kept : List Ticket) × Woke kept seats.old.ports seats.new.ports × EndsAs work kept seats.old.over seats.new.over (Some result) }
+{
+    match run_process(rt, seats, work) {
+        Ok(ended) => ProcessEnd::Ended(ended),
+        Err(halt) => halted(&mut seats.over, halt),
+    }
+}
+
 impl<B: PortBody> ProcessJob<B> {
     /// The job of a process that has made no call, with these steps and the contents of its files. It takes no memory.
     pub fn new(
@@ -138,13 +172,7 @@ impl<B: PortBody> Job for ProcessJob<B> {
         let Some(work) = self.work.take() else {
             unreachable!();
         };
-        self.end = Some(match run_process(rt, &mut self.seats, work) {
-            Ok(ended) => ProcessEnd::Ended(ended),
-            Err(Halt::Stopped) => ProcessEnd::Stopped,
-            Err(Halt::NoMemory) => {
-                self.seats.over.stop();
-                ProcessEnd::NoMemory
-            }
-        });
+        let end = finish(rt, &mut self.seats, work);
+        self.end = Some(end);
     }
 }

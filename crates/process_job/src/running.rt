@@ -6,7 +6,7 @@ ghost use Rattle.process_job.specs.Jobs.{AreAmong, AreWithin};
 ghost use Rattle.process_job.specs.Seats.{HasPorts, SeatsAfter};
 ghost use Rattle.process_job.specs.Steps.{HasMadeSteps, MakesCallsOf};
 
-use crate::action::{Action, action_of};
+use crate::action::{Action, action_of, content_for};
 use crate::calling::{payload_of, send_command, send_file, send_signal};
 use crate::halt::Halt;
 use crate::log::MailLog;
@@ -80,7 +80,8 @@ pub(crate) fn make_steps<B: PortBody, R: Wait>(
     } = program;
     let mut sender = proc;
     'steps: while let Some(step) = steps.pop_front() {
-        match action_of(step.line, step.act, &mut files) {
+        let content = content_for(&step.act, &mut files);
+        match action_of(step.line, step.act, content) {
             Ok(action) => sender = act(rt, alloc, seats, log, sender, action)?,
             Err(reason) => return Ok((sender, reason)),
         }

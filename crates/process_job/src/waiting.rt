@@ -111,11 +111,7 @@ fn keep_other(log: &mut MailLog, why: NotYet) -> Result<bool, NoMemory>
 }
 
 /// Tries once to go on. Another mail than the resume is kept.
-fn try_go_on<R: Wait>(
-    rt: &R,
-    log: &mut MailLog,
-    stopped: Stopped,
-) -> Result<Resuming, NoMemory>
+fn try_go_on<R: Wait>(rt: &R, log: &mut MailLog, stopped: Stopped) -> Result<Resuming, NoMemory>
     ensures { IfOk result (λ resuming. GoesFrom stopped.proc log.old resuming log.new) }
 {
     let (stopped, why) = match stopped.try_resume(rt) {

@@ -12,5 +12,5 @@ returns-then-at-len c = λ mails h.
     let new : DataCount = record { messages = c.saturating_add.result; bytes = c.saturating_add-then-at-len.result } in
     let inside : c.in-Message.port < length counts = omega arith in
     subst (λ m. AreCounted (mails ++ m ∷ []) (slice_set counts c.in-Message.port new)) (sym c.in-Message.is)
-        (counted_set mails counts c.in-Message.port c.in-Message.flag c.in-Message.bytes c.index.result.now new inside
-            (λ d. sym (get_or_read counts c.in-Message.port c.index.result.now inside c.index.ensures d)) (omega arith) (omega arith) h)
+    (counted_set mails counts c.in-Message.port c.in-Message.flag c.in-Message.bytes c.index.result.now new inside
+    (λ d. sym (get_or_read counts c.in-Message.port c.index.result.now inside c.index.ensures d)) (omega arith) (omega arith) h)

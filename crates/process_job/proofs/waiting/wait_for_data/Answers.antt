@@ -7,7 +7,7 @@ use Rattle.process_job.proofs.Resuming.{closed_waits, inside_waits, look_closed}
 use Rattle.process_job.proofs.waiting.wait_for_data.Goals as goal
 
 pub mail-init : goal.mail-init
-mail-init g c = record { looked = looked_none c.args.over.now; waits = waits_none (state c.args.proc.now c.args.log.now); inside = c.requires; closed = λ e. absurd (false≢true e) }
+mail-init g c = record { looked = looked_none c.args.over.now; waits = waits_none (state c.args.proc.now c.args.log.now); inside = c.requires.port; closed = λ e. absurd (false≢true e) }
 
 pub mail-preserved-then-not-matches : goal.mail-preserved-then-not-matches
 mail-preserved-then-not-matches g c =

@@ -9,5 +9,5 @@ returns-in_err-wake g c =
     let w = c.wake.ensures in
     let old = c.args.self.now in
     after_halt c.from_residual.result halt.NoMemory old (seats_with c.wake.new.self old.over) c.from_residual.ensures.1
-        (no_memory w.tickets.0 old (seats_with c.wake.new.self old.over) (subst (λ r. KeptBy r w.tickets.0) c.in_err-wake.was w.tickets.1)
-        (waken c.wake.result old (seats_with c.wake.new.self old.over) w.tickets.0 w.refused w.homes w.tickets.1 w.tickets.2 refl))
+    (no_memory w.tickets.0 old (seats_with c.wake.new.self old.over) (subst (λ r. KeptBy r w.tickets.0) c.in_err-wake.was w.tickets.1)
+    (waken c.wake.result old (seats_with c.wake.new.self old.over) w.tickets.0 w.refused w.homes w.tickets.1 w.tickets.2 refl))
