@@ -7,3 +7,4 @@ pub mod Resuming
 pub mod Made
 pub mod Stepping
 pub mod Endings
+pub mod Sent
