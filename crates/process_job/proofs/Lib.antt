@@ -1,0 +1,10 @@
+pub mod Counting
+pub mod Mailing
+pub mod Ports
+pub mod Goings
+pub mod Seating
+pub mod Resuming
+pub mod Made
+pub mod Stepping
+pub mod Endings
+pub mod Sent

@@ -1,0 +1,17 @@
+use Rattle.std.proofs.Common.{[], ℕ, length}
+use Rattle.process_job.specs.Going.{state}
+use Rattle.process_job.specs.Jobs.{AreAmong, AreWithin}
+use Rattle.process_job.specs.Seats.{SeatsGo, HasPorts}
+use Rattle.process_job.specs.Steps.{HasComeTo}
+use Rattle.process_job.proofs.running.make_steps.Given as goal
+
+abbrev pub invariant-steps : goal.invariant-steps
+invariant-steps g l = record {
+  seats : SeatsGo [] l.fn.seats l.seats;
+  ports : HasPorts l.seats l.sender;
+  within : (processes : ℕ) × AreAmong processes l.sender.lanes × AreWithin processes (length l.sender.lanes) l.steps.items;
+  come : HasComeTo l.fn.program.steps.items l.fn.program.files.items (state l.fn.proc l.fn.log) l.steps.items l.files.items (state l.sender l.log);
+}
+
+abbrev pub decreases-steps : goal.decreases-steps
+decreases-steps g l = length l.steps.items

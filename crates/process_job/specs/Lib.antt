@@ -1,0 +1,11 @@
+pub mod Asks
+pub mod Mails
+pub mod Waits
+pub mod Counts
+pub mod Taking
+pub mod Waiting
+pub mod Actions
+pub mod Going
+pub mod Seats
+pub mod Steps
+pub mod Jobs

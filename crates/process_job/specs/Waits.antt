@@ -1,0 +1,25 @@
+-- When a step has waited enough.
+use Rattle.std.specs.Prelude.{◌≡◌, ◌⊎◌, ℕ, ◌≤◌, List, [], ◌∷◌, true, false, slice_index_or}
+use Rattle.port_model.specs.declared.mail.Mail.{Mail}
+use Rattle.port_words.specs.busy.Known.{SendKnown}
+use Rattle.process_receipts.specs.Ledgers.{saw_closed}
+use Rattle.script_plan.specs.declared.step.Step.{Step}
+use Rattle.script_plan.specs.declared.step.Act.{Act}
+use Rattle.script_plan.specs.declared.step.Act.TheVariants.{Expect, Bytes}
+use Rattle.script_plan.specs.Monitors.{is_die}
+use Rattle.process_job.specs.Mails.{messages_of, bytes_of}
+
+-- a load of the port's STAT, by a call or a look, found the port closed
+abbrev pub FoundClosed : ℕ → List SendKnown → Type 0
+FoundClosed port seats = (d : SendKnown) → saw_closed (slice_index_or seats port d).sender.stats ≡ true
+
+-- the mail has so much data of the port for which the act waits, or the port was found closed
+abbrev pub HasWaited : List Mail → List SendKnown → Act → Type 0
+HasWaited mails seats (Expect port count) = (count ≤ messages_of port mails) ⊎ FoundClosed port seats
+HasWaited mails seats (Bytes port count) = (count ≤ bytes_of port mails) ⊎ FoundClosed port seats
+HasWaited mails seats _ = Unit {0}
+
+-- so has each step, up to the one that ends the process
+abbrev pub HaveWaited : List Mail → List SendKnown → List Step → Type 0
+HaveWaited mails seats [] = Unit {0}
+HaveWaited mails seats (step ∷ steps) = HasWaited mails seats step.act × (is_die step.act ≡ false → HaveWaited mails seats steps)
