@@ -20,14 +20,14 @@ use Rattle.recorded_port.specs.View.{RecordedView, IsSettled, state_of}
 use Rattle.recorded_port.specs.Taking.{IsSameRecorded}
 use Rattle.recorded_port.specs.Resuming.{MayList}
 use Rattle.recorded_port.proofs.Append.{rows-more}
-use Rattle.port_body.specs.Body.{BodyView, Holds, Accounts, IsDue, WasTaken, AreNumbered, rows_from, tasks_of}
+use Rattle.port_body.specs.LanePort.{LanePortView, Holds, Accounts, IsDue, WasTaken, AreNumbered, rows_from, tasks_of}
 use Rattle.port_body.specs.Steps.{Came}
 use Rattle.port_body.proofs.Holding.{all-append, all-map, within-lane, among}
 use Rattle.port_body.proofs.Items.{items-append}
 use Rattle.port_body.proofs.Places.{apart}
 use Rattle.port_body.proofs.Rows.{counted}
 
-abbrev pub before_view : BodyView → List (Item ParcelView) → BodyView
+abbrev pub before_view : LanePortView → List (Item ParcelView) → LanePortView
 before_view v before = record v { lane = record v.lane { taken = before } }
 
 -- the numbers go on with an item behind the others
@@ -61,7 +61,7 @@ own-item x = ap (λ b. cond b (x ∷ []) []) (eq-eqb x.sender x.sender refl)
 
 -- An item stands behind those that wait, but for its being listed
 
-pub record Stands (v : BodyView) (x : Item ParcelView) : Type 0 where
+pub record Stands (v : LanePortView) (x : Item ParcelView) : Type 0 where
   pub within : x.sender < end_of v.lane.key Timer
   pub accounts : (n : ℕ) → n < end_of v.lane.key Timer → Accounts v (v.waiting.items ++ x ∷ []) n
   pub due : AllByRecursion (IsDue v) v.waiting.items
@@ -71,7 +71,7 @@ pub record Stands (v : BodyView) (x : Item ParcelView) : Type 0 where
   pub taken : x.seq < length (items_of x.sender v.lane.taken)
   pub rows_fewer : length (rows_from (sender_at v.lane.key x.sender) (reverse v.port.rows)) ≤ x.seq
 
-fresh-entry : (v : BodyView) (before : List (Item ParcelView)) (x : Item ParcelView) (entries : List Entry) → x.sender < end_of v.lane.key Timer → x.seq ≡ length (items_of x.sender before)
+fresh-entry : (v : LanePortView) (before : List (Item ParcelView)) (x : Item ParcelView) (entries : List Entry) → x.sender < end_of v.lane.key Timer → x.seq ≡ length (items_of x.sender before)
     → AllByRecursion (WasTaken (before_view v before)) entries → has_entry (entry (sender_at v.lane.key x.sender) x.seq) entries ≡ false
 fresh-entry v before x [] within next all = refl
 fresh-entry v before x (e ∷ entries) within next all =
@@ -87,7 +87,7 @@ fresh-entry v before x (e ∷ entries) within next all =
     ] refl in
     rw (differs) (fresh-entry v before x entries within next all.1)
 
-pub stands : (v : BodyView) (x : Item ParcelView) → Came v x → Stands v x
+pub stands : (v : LanePortView) (x : Item ParcelView) → Came v x → Stands v x
 stands v x came =
     let key = v.lane.key in
     let h = came.body.holds in
@@ -130,7 +130,7 @@ stands v x came =
     }
 
 -- a task that doesn't suspend its sender stands behind the others
-pub plain-behind : (v : BodyView) (x : Item ParcelView) → Came v x → x.value.task.suspends ≡ false → Holds v (v.waiting.items ++ x ∷ [])
+pub plain-behind : (v : LanePortView) (x : Item ParcelView) → Came v x → x.value.task.suspends ≡ false → Holds v (v.waiting.items ++ x ∷ [])
 plain-behind v x came plain =
     let s = stands v x came in
     let h = came.body.holds in
@@ -159,7 +159,7 @@ plain-behind v x came plain =
 process-below : (key : Key) (n process : ℕ) → sender_at key n ≡ Process process → process < key.processes
 process-below key n process at = subst (IsAmong key.processes) at (among key n)
 
-pub may-list : (v : BodyView) (x : Item ParcelView) (process : ℕ) → Came v x → sender_at v.lane.key x.sender ≡ Process process → MayList v.port process x.seq
+pub may-list : (v : LanePortView) (x : Item ParcelView) (process : ℕ) → Came v x → sender_at v.lane.key x.sender ≡ Process process → MayList v.port process x.seq
 may-list v x process came at =
     let s = stands v x came in
     let h = came.body.holds in
@@ -183,7 +183,7 @@ other-entry key n m i k process entries within inside at less =
     ] refl in
     ap (λ b. b || has_entry (entry (sender_at key n) i) entries) differs
 
-pub listed-behind : (v : BodyView) (x : Item ParcelView) (port : RecordedView) (process : ℕ) → Came v x → x.value.task.suspends ≡ true → sender_at v.lane.key x.sender ≡ Process process
+pub listed-behind : (v : LanePortView) (x : Item ParcelView) (port : RecordedView) (process : ℕ) → Came v x → x.value.task.suspends ≡ true → sender_at v.lane.key x.sender ≡ Process process
     → IsSettled port → IsSameRecorded v.port port → port.rows ≡ v.port.rows ++ Listed (Process process) x.seq ∷ []
     → Holds (record v { port = port }) (v.waiting.items ++ x ∷ [])
 listed-behind v x port process came suspends at settled same rows =

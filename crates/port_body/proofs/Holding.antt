@@ -21,7 +21,7 @@ use Rattle.waiting_parcels.specs.Waiting.{Waiting, GoesFirst, has_sender}
 use Rattle.recorded_port.specs.View.{RecordedView, IsSettled, state_of}
 use Rattle.recorded_port.specs.Taking.{Takes, IsSameRecorded}
 use Rattle.recorded_port.specs.Resuming.{Resumes, may_go}
-use Rattle.port_body.specs.Body.{BodyView, Holds, IsBody, OwnItems, IsDue, WasTaken, AreNumbered, rows_from, tasks_of}
+use Rattle.port_body.specs.LanePort.{LanePortView, Holds, IsBody, OwnItems, IsDue, WasTaken, AreNumbered, rows_from, tasks_of}
 use Rattle.port_body.proofs.Items.{items-moved}
 use Rattle.port_body.proofs.Places.{apart, not-lt}
 use Rattle.port_body.proofs.Rows.{OneTask, SameTasks, after-task, after-resumes}
@@ -39,7 +39,7 @@ all-map P Q [] f all = tt
 all-map P Q (x ∷ xs) f all = (f x all.0, all-map P Q xs f all.1)
 
 -- the item that goes first may stand in front of all others
-pub first-moved : (v : BodyView) (busy : Bool) (items : List (Item ParcelView)) (x : Item ParcelView) (rest : List (Item ParcelView)) → Holds v items → GoesFirst busy items x rest
+pub first-moved : (v : LanePortView) (busy : Bool) (items : List (Item ParcelView)) (x : Item ParcelView) (rest : List (Item ParcelView)) → Holds v items → GoesFirst busy items x rest
     → Holds v (x ∷ rest)
 first-moved v busy items x rest h goes =
     let parts = all-parts (IsDue v) goes.before (x ∷ goes.after) (subst (AllByRecursion (IsDue v)) goes.split h.due) in
@@ -108,7 +108,7 @@ counts-on true rows taken x rest tasks numbers = (
 counts-on false rows taken x rest tasks numbers =
     (ap (λ t. t ++ map (λ (i : Item ParcelView). i.value.task) rest) (append-nil rows) ∙ tasks, subst (λ t. AreNumbered (length t) rest) (sym (append-nil rows)) numbers)
 
-pub took : (old : BodyView) (port : RecordedView) (x : Item ParcelView) (rest : List (Item ParcelView)) → Holds old (x ∷ rest) → IsSettled port → IsSameRecorded old.port port
+pub took : (old : LanePortView) (port : RecordedView) (x : Item ParcelView) (rest : List (Item ParcelView)) → Holds old (x ∷ rest) → IsSettled port → IsSameRecorded old.port port
     → Takes old.port port (sender_at old.lane.key x.sender) x.seq x.value.task → Holds (record old { port = port }) rest
 took old port x rest h settled same takes =
     let key = old.lane.key in
@@ -153,7 +153,7 @@ same-tasks old port same (inr (word, looked)) = elim (may_go (state_of old) word
   | false ↦ λ stays. subst (λ r. SameTasks old.opening (reverse old.rows) (reverse r)) (sym (looked.nobody stays).0) (record { rows = λ from. refl; senders = refl; entries = refl; reason = refl })
 ] refl
 
-pub resumed : (old : BodyView) (port : RecordedView) (items : List (Item ParcelView)) → Holds old items → IsSettled port → IsSameRecorded old.port port → Resumes old.port port
+pub resumed : (old : LanePortView) (port : RecordedView) (items : List (Item ParcelView)) → Holds old items → IsSettled port → IsSameRecorded old.port port → Resumes old.port port
     → Holds (record old { port = port }) items
 resumed old port items h settled same resumes =
     let key = old.lane.key in
@@ -182,7 +182,7 @@ resumed old port items h settled same resumes =
     }
 
 -- what holds says nothing of the list of those that wait but how many senders it knows
-pub waits : (v : BodyView) (waiting : Waiting) (items : List (Item ParcelView)) → Holds v items → waiting.senders ≡ v.waiting.senders → Holds (record v { waiting = waiting }) items
+pub waits : (v : LanePortView) (waiting : Waiting) (items : List (Item ParcelView)) → Holds v items → waiting.senders ≡ v.waiting.senders → Holds (record v { waiting = waiting }) items
 waits v waiting items h senders = record {
   settled = h.settled;
   table = h.table;
@@ -210,7 +210,7 @@ among key n = elim (nat_lt n key.processes) as (λ b. nat_lt n key.processes ≡
       | false ↦ λ _. among-if key n (n == key.processes) (nat_lt (n - (key.processes + 1)) key.workers)
     ] refl
 
-pub rearranged : (v : BodyView) (items others : List (Item ParcelView)) → Holds v items → ((n : ℕ) → items_of n items ≡ items_of n others) → AllByRecursion (IsDue v) others → Holds v others
+pub rearranged : (v : LanePortView) (items others : List (Item ParcelView)) → Holds v items → ((n : ℕ) → items_of n items ≡ items_of n others) → AllByRecursion (IsDue v) others → Holds v others
 rearranged v items others h same due = record {
   settled = h.settled;
   table = h.table;
@@ -229,14 +229,14 @@ rearranged v items others h same due = record {
 }
 
 -- the last item may stand in front, where none of its sender stands before it
-pub last-moved : (v : BodyView) (items : List (Item ParcelView)) (x : Item ParcelView) → Holds v (items ++ x ∷ []) → has_sender x.sender items ≡ false → Holds v (x ∷ items)
+pub last-moved : (v : LanePortView) (items : List (Item ParcelView)) (x : Item ParcelView) → Holds v (items ++ x ∷ []) → has_sender x.sender items ≡ false → Holds v (x ∷ items)
 last-moved v items x h alone =
     let parts = all-parts (IsDue v) items (x ∷ []) h.due in
     rearranged v (items ++ x ∷ []) (x ∷ items) h
     (λ n. sym (items-moved n x items [] alone) ∙ ap (λ t. items_of n (x ∷ t)) (append-nil items)) (parts.1.0, parts.0)
 
 -- a body that was just opened
-pub opened-body : (v : BodyView) → IsSettled v.port → v.port.rows ≡ [] → v.waiting.items ≡ [] → v.lane.taken ≡ [] → v.lane.key.table ≡ v.port.seat.table
+pub opened-body : (v : LanePortView) → IsSettled v.port → v.port.rows ≡ [] → v.waiting.items ≡ [] → v.lane.taken ≡ [] → v.lane.key.table ≡ v.port.seat.table
     → v.processes ≡ v.lane.key.processes → v.workers ≡ v.lane.key.workers → v.port.opening.processes ≡ v.processes → v.waiting.senders ≡ v.processes → IsBody v
 opened-body v settled rows items taken table processes workers opening senders = record {
   holds = subst (Holds v) (sym items) (record {

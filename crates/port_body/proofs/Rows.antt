@@ -16,7 +16,7 @@ use Rattle.port_history.specs.State.{state}
 use Rattle.port_history.specs.Suspension.{Entry}
 use Rattle.recorded_port.specs.Taking.{TellsOf}
 use Rattle.recorded_port.specs.Resuming.{resumed_rows}
-use Rattle.port_body.specs.Body.{rows_from, task_from}
+use Rattle.port_body.specs.LanePort.{rows_from, task_from}
 
 -- a mark or a resume
 abbrev pub is_quiet : Row → Bool

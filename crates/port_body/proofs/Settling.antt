@@ -25,7 +25,7 @@ use Rattle.port_words.specs.busy.Known.{PortKnown}
 use Rattle.recorded_port.specs.View.{RecordedView, state_of}
 use Rattle.recorded_port.specs.Taking.{MayTake, Takes, TellsOf, IsSameRecorded}
 use Rattle.recorded_port.specs.Resuming.{Resumes, may_go, resumed_rows}
-use Rattle.port_body.specs.Body.{BodyView, Holds, OwnItems, AreNumbered, rows_from}
+use Rattle.port_body.specs.LanePort.{LanePortView, Holds, OwnItems, AreNumbered, rows_from}
 use Rattle.port_body.specs.Steps.{MayGo, SettlesOne, SettlesFirst, HasLooked}
 use Rattle.port_body.proofs.Holding.{among, within-lane, same-tasks}
 use Rattle.port_body.proofs.Rows.{counted, quiet-rows, quiet-reverse, quiet-marks, task-reverse}
@@ -46,7 +46,7 @@ first-number : (x : Item ParcelView) (rest : List (Item ParcelView)) (first : �
 first-number x rest first numbers =
     (subst (λ b. AreNumbered first (cond b (x ∷ items_of x.sender rest) (items_of x.sender rest))) (eq-eqb x.sender x.sender refl) numbers).0
 
-pub may-take : (v : BodyView) (x : Item ParcelView) (rest : List (Item ParcelView)) → Holds v (x ∷ rest) → MayGo v x → MayTake v.port (sender_at v.lane.key x.sender) x.seq x.value
+pub may-take : (v : LanePortView) (x : Item ParcelView) (rest : List (Item ParcelView)) → Holds v (x ∷ rest) → MayGo v x → MayTake v.port (sender_at v.lane.key x.sender) x.seq x.value
 may-take v x rest h free =
     let from = sender_at v.lane.key x.sender in
     let within = within-lane v.lane.key x h.due.0.fits in
@@ -112,7 +112,7 @@ added old port (inr (word, looked)) = elim (may_go (state_of old) word) as (λ b
   | false ↦ λ stays. record { more = []; rows = (looked.nobody stays).0 ∙ sym (append-nil old.rows) }
 ] refl
 
-pub settles-one : (old new : BodyView) (mid : RecordedView) (x : Item ParcelView) → Takes old.port mid (sender_at old.lane.key x.sender) x.seq x.value.task → IsSameRecorded old.port mid
+pub settles-one : (old new : LanePortView) (mid : RecordedView) (x : Item ParcelView) → Takes old.port mid (sender_at old.lane.key x.sender) x.seq x.value.task → IsSameRecorded old.port mid
     → IsSameRecorded mid new.port → Resumes mid new.port → new ≡ record old { port = new.port } → SettlesOne old new x
 settles-one old new mid x takes same again resumes rest =
     let a = added mid new.port resumes in
@@ -139,20 +139,20 @@ pub process-at : (key : Key) (n : ℕ) → n < key.processes → sender_at key n
 process-at key n below = rw (lt-ltb n key.processes below) refl
 
 -- a port that isn't open handles no task of a process
-pub shut-free : (v : BodyView) (x : Item ParcelView) → x.sender < v.processes → v.processes ≡ v.lane.key.processes → is_open (state_of v.port) ≡ false → MayGo v x
+pub shut-free : (v : LanePortView) (x : Item ParcelView) → x.sender < v.processes → v.processes ≡ v.lane.key.processes → is_open (state_of v.port) ≡ false → MayGo v x
 shut-free v x below same shut handled =
     let at = process-at v.lane.key x.sender (subst (λ p. x.sender < p) same below) in
     let opened : is_open (state_of v.port) ≡ true = sym (ap (λ s. is_handled (state_of v.port) s x.value.task.signal) at) ∙ handled in
     absurd (cc)
 
-pub settles-first : (old new : BodyView) (waiting : Waiting) (x : Item ParcelView) → old.waiting.items ≡ x ∷ waiting.items → OwnItems old.processes old.waiting.items
+pub settles-first : (old new : LanePortView) (waiting : Waiting) (x : Item ParcelView) → old.waiting.items ≡ x ∷ waiting.items → OwnItems old.processes old.waiting.items
     → is_open (state_of old.port) ≡ false → SettlesOne (record old { waiting = waiting }) new x → SettlesFirst old new
 settles-first old new waiting x items owners shut one = record {
   behind = one.row ∷ one.behind;
   rows = one.rows;
-  lane = ap (λ (v : BodyView). v.lane) one.rest;
-  processes = ap (λ (v : BodyView). v.processes) one.rest;
-  owners = subst (λ (v : BodyView). OwnItems v.processes v.waiting.items) (sym one.rest) (subst (OwnItems old.processes) items owners).1;
+  lane = ap (λ (v : LanePortView). v.lane) one.rest;
+  processes = ap (λ (v : LanePortView). v.processes) one.rest;
+  owners = subst (λ (v : LanePortView). OwnItems v.processes v.waiting.items) (sym one.rest) (subst (OwnItems old.processes) items owners).1;
   looked = one.looked;
   shut = one.shut shut;
 }

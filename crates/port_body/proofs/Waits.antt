@@ -17,7 +17,7 @@ use Rattle.waiting_parcels.specs.Waiting.{Waiting, GoesFirst, NoneGoes, has_send
 use Rattle.served_port.specs.Outcomes.{is_handled}
 use Rattle.recorded_port.specs.View.{RecordedView, state_of}
 use Rattle.recorded_port.specs.Taking.{TellsOf}
-use Rattle.port_body.specs.Body.{BodyView, Holds, IsBody, OwnItems}
+use Rattle.port_body.specs.LanePort.{LanePortView, Holds, IsBody, OwnItems}
 use Rattle.port_body.specs.Steps.{must_wait, is_busy_at, MayGo, Settles, CameToRow, CameToWait, Arrives, HasLooked, LaneWent, WaitingWent}
 use Rattle.port_body.proofs.Holding.{within-lane, waits as waits-on}
 use Rattle.port_body.proofs.Places.{Place, process, poller, worker, place, not-lt}
@@ -91,7 +91,7 @@ and-flip false true e = refl
 and-flip false false e = refl
 
 -- where it needn't wait, none of its sender waits
-pub alone : (v : BodyView) (x : Item ParcelView) → must_wait v x ≡ false → OwnItems v.processes v.waiting.items → (is_open (state_of v.port) ≡ false → v.waiting.items ≡ [])
+pub alone : (v : LanePortView) (x : Item ParcelView) → must_wait v x ≡ false → OwnItems v.processes v.waiting.items → (is_open (state_of v.port) ≡ false → v.waiting.items ≡ [])
     → has_sender x.sender v.waiting.items ≡ false
 alone v x goes owners closed = elim (is_open (state_of v.port)) as (λ b. is_open (state_of v.port) ≡ b → has_sender x.sender v.waiting.items ≡ false) [
   | true ↦ λ opened. elim (nat_lt x.sender v.processes) as (λ b. nat_lt x.sender v.processes ≡ b → has_sender x.sender v.waiting.items ≡ false) [
@@ -104,7 +104,7 @@ alone v x goes owners closed = elim (is_open (state_of v.port)) as (λ b. is_ope
 ] refl
 
 -- and may go
-pub free-to-go : (v : BodyView) (x : Item ParcelView) → must_wait v x ≡ false → FitsLane v.lane.key x.sender x.value → v.processes ≡ v.lane.key.processes → MayGo v x
+pub free-to-go : (v : LanePortView) (x : Item ParcelView) → must_wait v x ≡ false → FitsLane v.lane.key x.sender x.value → v.processes ≡ v.lane.key.processes → MayGo v x
 free-to-go v x goes fits same handled = elim (nat_lt x.sender v.processes) as (λ b. nat_lt x.sender v.processes ≡ b → (waits_where_busy x.value.task && is_busy_at v) ≡ false) [
   | true ↦ λ own.
       let at = process-at v.lane.key x.sender (subst (λ p. x.sender < p) same (ltb-true x.sender v.processes own)) in
@@ -118,7 +118,7 @@ free-to-go v x goes fits same handled = elim (nat_lt x.sender v.processes) as (�
 ] refl
 
 -- a task that goes first doesn't wait for a busy port
-pub first-free : (v : BodyView) (waiting : Waiting) (items rest : List (Item ParcelView)) (x : Item ParcelView) (busy : Bool) → busy ≡ is_busy_at v → GoesFirst busy items x rest
+pub first-free : (v : LanePortView) (waiting : Waiting) (items rest : List (Item ParcelView)) (x : Item ParcelView) (busy : Bool) → busy ≡ is_busy_at v → GoesFirst busy items x rest
     → MayGo (record v { waiting = waiting }) x
 first-free v waiting items rest x busy same goes handled =
     subst (λ b. (waits_where_busy x.value.task && b) ≡ false) same (and-flip busy (waits_where_busy x.value.task) (second (has_sender x.sender goes.before) (busy && waits_where_busy x.value.task) goes.goes))
@@ -150,7 +150,7 @@ and-last : (a b : Bool) → (a && b) ≡ true → b ≡ true
 and-last true b e = e
 and-last false b e = absurd cc
 
-pub waits-body : (v : BodyView) (w : Waiting) (x : Item ParcelView) → Holds v (v.waiting.items ++ x ∷ []) → must_wait v x ≡ true → OwnItems v.processes v.waiting.items
+pub waits-body : (v : LanePortView) (w : Waiting) (x : Item ParcelView) → Holds v (v.waiting.items ++ x ∷ []) → must_wait v x ≡ true → OwnItems v.processes v.waiting.items
     → w.items ≡ v.waiting.items ++ x ∷ [] → w.senders ≡ v.waiting.senders → IsBody (record v { waiting = w })
 waits-body v w x h waits owners items senders = record {
   holds = subst (Holds (record v { waiting = w })) (sym items) (waits-on v w (v.waiting.items ++ x ∷ []) h senders);
@@ -159,20 +159,20 @@ waits-body v w x h waits owners items senders = record {
   closed = λ shut. absurd (let opened = and-first (is_open (state_of v.port)) _ waits in cc);
 }
 
-pub waits-arrives : (old v : BodyView) (w : Waiting) (x : Item ParcelView) → v ≡ record old { port = v.port } → must_wait v x ≡ true → w.items ≡ v.waiting.items ++ x ∷ [] → HasLooked v.port
+pub waits-arrives : (old v : LanePortView) (w : Waiting) (x : Item ParcelView) → v ≡ record old { port = v.port } → must_wait v x ≡ true → w.items ≡ v.waiting.items ++ x ∷ [] → HasLooked v.port
     → Arrives old (record v { waiting = w }) x
 waits-arrives old v w x rest waits items looked = record {
   went = inr (record {
-    has_to = ap (λ (l : Waiting). must_wait (record v { waiting = l }) x) (sym (ap (λ (b : BodyView). b.waiting) rest)) ∙ waits;
-    waiting = items ∙ ap (λ (b : BodyView). b.waiting.items ++ x ∷ []) rest;
+    has_to = ap (λ (l : Waiting). must_wait (record v { waiting = l }) x) (sym (ap (λ (b : LanePortView). b.waiting) rest)) ∙ waits;
+    waiting = items ∙ ap (λ (b : LanePortView). b.waiting.items ++ x ∷ []) rest;
   });
-  lane = ap (λ (b : BodyView). b.lane) rest;
+  lane = ap (λ (b : LanePortView). b.lane) rest;
   looked = looked;
 }
 
-pub settles-arrives : (old v new : BodyView) (x : Item ParcelView) (before : List Row) → v ≡ record old { port = v.port } → v.port.rows ≡ old.port.rows ++ before → Settles v new x → Arrives old new x
+pub settles-arrives : (old v new : LanePortView) (x : Item ParcelView) (before : List Row) → v ≡ record old { port = v.port } → v.port.rows ≡ old.port.rows ++ before → Settles v new x → Arrives old new x
 settles-arrives old v new x before rest rows s =
-    let lane = ap (λ (b : BodyView). b.lane) rest in
+    let lane = ap (λ (b : LanePortView). b.lane) rest in
     record {
       went = inl (record {
         row = record {
@@ -182,21 +182,21 @@ settles-arrives old v new x before rest rows s =
           rows = s.rows ∙ ap (λ r. r ++ s.row ∷ s.behind) rows;
           tells = subst (λ l. TellsOf s.row (sender_at l x.sender) x.seq x.value.task) (ap (λ l. l.key) lane) s.tells;
         };
-        waiting = s.waiting ∙ ap (λ (b : BodyView). if is_open (state_of new.port) then b.waiting.items else []) rest;
+        waiting = s.waiting ∙ ap (λ (b : LanePortView). if is_open (state_of new.port) then b.waiting.items else []) rest;
       });
       lane = s.lane ∙ lane;
       looked = s.looked;
     }
 
 -- the body is the same with the same tasks waiting
-pub body-waits : (v : BodyView) (w : Waiting) → IsBody v → w.items ≡ v.waiting.items → w.senders ≡ v.waiting.senders → IsBody (record v { waiting = w })
+pub body-waits : (v : LanePortView) (w : Waiting) → IsBody v → w.items ≡ v.waiting.items → w.senders ≡ v.waiting.senders → IsBody (record v { waiting = w })
 body-waits v w body items senders = record {
   holds = subst (Holds (record v { waiting = w })) (sym items) (waits-on v w v.waiting.items body.holds senders);
   owners = subst (OwnItems v.processes) (sym items) body.owners;
   closed = λ shut. items ∙ body.closed shut;
 }
 
-pub waiting-went : (old new : BodyView) (w : Waiting) (x : Item ParcelView) (busy : Bool) → busy ≡ is_busy_at old → GoesFirst busy old.waiting.items x w.items
+pub waiting-went : (old new : LanePortView) (w : Waiting) (x : Item ParcelView) (busy : Bool) → busy ≡ is_busy_at old → GoesFirst busy old.waiting.items x w.items
     → Settles (record old { waiting = w }) new x → WaitingWent old new
 waiting-went old new w x busy same goes s = record {
   item = x;
@@ -213,7 +213,7 @@ waiting-went old new w x busy same goes s = record {
   waiting = s.waiting;
 }
 
-pub lane-went : (old v new : BodyView) (x : Item ParcelView) → NoneGoes (is_busy_at old) old.waiting.items → v.port ≡ old.port → v.lane ≡ record old.lane { taken = old.lane.taken ++ x ∷ [] }
+pub lane-went : (old v new : LanePortView) (x : Item ParcelView) → NoneGoes (is_busy_at old) old.waiting.items → v.port ≡ old.port → v.lane ≡ record old.lane { taken = old.lane.taken ++ x ∷ [] }
     → v.waiting.items ≡ old.waiting.items → Arrives v new x → LaneWent old new
 lane-went old v new x none port lane items arrives = record {
   item = x;

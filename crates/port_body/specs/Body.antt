@@ -1,87 +1,55 @@
--- A port with its lane and the tasks that wait, as contracts see it, and what always holds of it.
-use Rattle.std.specs.Prelude.{◌≡◌, ◌<◌, ℕ, List, [], ◌∷◌, ◌++◌, length, map, suc, true, false, if◌then◌else◌}
-use Rattle.std.specs.List.{AllByRecursion}
-use Rattle.task_queue.specs.declared.item.Item.{Item}
-use Rattle.task_queue.specs.Ends.{Taking}
-use Rattle.task_queue.specs.Items.{items_of}
-use Rattle.port_lanes.specs.Keys.{Key, end_of, sender_at}
-use Rattle.port_lanes.specs.Parcels.{ParcelView, FitsLane}
-use Rattle.port_model.specs.declared.row.Row.{Row}
-use Rattle.port_model.specs.declared.row.Row.TheVariants.{Handled, Late}
-use Rattle.port_model.specs.declared.signal.Sender.{Sender}
-use Rattle.port_model.specs.declared.signal.Sender.TheVariants.{Timer}
-use Rattle.port_model.specs.Tasks.{TaskView}
-use Rattle.port_history.specs.Laws.{is_listed_right}
-use Rattle.port_history.specs.Opening.{same_sender}
-use Rattle.port_history.specs.State.{is_open}
-use Rattle.port_history.specs.Suspension.{Entry}
-use Rattle.waiting_parcels.specs.Waiting.{Waiting}
-use Rattle.recorded_port.specs.View.{RecordedView, IsSettled, history, state_of}
+-- A body, as contracts see it, its name, and what always holds of it.
+use Rattle.std.specs.Prelude.{◌≡◌, ◌≢◌, ◌≤◌, ℕ, List, Bool, false}
+use Rattle.atomic_table.specs.Seated.{TableId}
+use Rattle.task_queue.specs.Ends.{LaneId}
+use Rattle.port_driver.specs.declared.life.Life.TheVariants.{Fresh}
+use Rattle.port_history.specs.Opening.{Opening}
+use Rattle.port_lanes.specs.Keys.{Key}
+use Rattle.served_port.specs.View.{EndName, end_name, end_names}
+use Rattle.recorded_port.specs.View.{is_finished, state_of}
+use Rattle.port_body.specs.LanePort.{LanePortView, IsBody}
 
--- the port, its end of the lane, the tasks that were taken and have no row yet, and how many processes and workers there are
+-- the port at its lane, whether a step found no memory or the driver was stopped before its port closed, whether it has finished, or had before it broke, and
+-- its driver's count of faults when it was opened
 pub record BodyView : Type 0 where
-  pub port : RecordedView
-  pub lane : Taking ParcelView Key
-  pub waiting : Waiting
+  pub lane_port : LanePortView
+  pub broken : Bool
+  pub finished : Bool
+  pub first_faults : ℕ
+
+-- All that no turn changes: how the port was opened (its number, how many processes there are, its kind, its options, its first owner, and the events of its
+-- program), how many processes and workers its lane knows, the lane and its key, the table of its words, which ends it has in the mailboxes, in the poller's lane and
+-- in the workers', and its driver's count of faults when it was opened
+pub record BodyName : Type 0 where
+  pub opening : Opening
   pub processes : ℕ
   pub workers : ℕ
+  pub lane : LaneId
+  pub key : Key
+  pub table : TableId
+  pub mailboxes : List EndName
+  pub asks : EndName
+  pub pool : List EndName
+  pub faults : ℕ
 
-abbrev pub task_from : Sender → Sender → TaskView → List TaskView
-task_from from other task = if same_sender from other then task ∷ [] else []
+abbrev pub name_of : BodyView → BodyName
+name_of v = record {
+  opening = v.lane_port.port.opening;
+  processes = v.lane_port.processes;
+  workers = v.lane_port.workers;
+  lane = v.lane_port.lane.lane;
+  key = v.lane_port.lane.key;
+  table = v.lane_port.port.seat.table;
+  mailboxes = end_names v.lane_port.port.ends;
+  asks = end_name v.lane_port.port.port.events.asks;
+  pool = end_names v.lane_port.port.port.jobs.lanes;
+  faults = v.first_faults;
+}
 
--- the tasks of a sender that have a row, oldest first, of rows that stand newest first
-abbrev pub rows_from : Sender → List Row → List TaskView
-rows_from from [] = []
-rows_from from (Handled other seq task outside effects ∷ older) = rows_from from older ++ task_from from other task
-rows_from from (Late other seq task ∷ older) = rows_from from older ++ task_from from other task
-rows_from from (row ∷ older) = rows_from from older
-
--- the tasks of an end among these
-abbrev pub tasks_of : ℕ → List (Item ParcelView) → List TaskView
-tasks_of number items = map (λ (i : Item ParcelView). i.value.task) (items_of number items)
-
--- the numbers of these items are so many and those after it
-abbrev pub AreNumbered : ℕ → List (Item ParcelView) → Type 0
-AreNumbered first [] = Unit {0}
-AreNumbered first (x ∷ items) = (x.seq ≡ first) × AreNumbered (suc first) items
-
--- the rows of an end's sender, and then these items of it, are what was taken of it, in its order
-pub record Accounts (v : BodyView) (items : List (Item ParcelView)) (number : ℕ) : Type 0 where
-  pub tasks : rows_from (sender_at v.lane.key number) (history v.port) ++ tasks_of number items ≡ tasks_of number v.lane.taken
-  pub numbers : AreNumbered (length (rows_from (sender_at v.lane.key number) (history v.port))) (items_of number items)
-
--- an item that has no row yet: it fits its end, was listed exactly if it suspends, and was taken
-pub record IsDue (v : BodyView) (x : Item ParcelView) : Type 0 where
-  pub fits : FitsLane v.lane.key x.sender x.value
-  pub listed : is_listed_right (state_of v.port) (sender_at v.lane.key x.sender) x.seq x.value.task ≡ true
-  pub taken : x.seq < length (items_of x.sender v.lane.taken)
-
--- a task that was listed was taken
-pub record WasTaken (v : BodyView) (e : Entry) : Type 0 where
-  pub number : ℕ
-  pub within : number < end_of v.lane.key Timer
-  pub from : e.from ≡ sender_at v.lane.key number
-  pub taken : e.seq < length (items_of number v.lane.taken)
-
--- these are the items that have no row yet, of a port that is settled
-pub record Holds (v : BodyView) (items : List (Item ParcelView)) : Type 0 where
-  pub settled : IsSettled v.port
-  pub table : v.lane.key.table ≡ v.port.seat.table
-  pub processes : v.processes ≡ v.lane.key.processes
-  pub workers : v.workers ≡ v.lane.key.workers
-  pub port_processes : v.port.opening.processes ≡ v.processes
-  pub senders : v.waiting.senders ≡ v.processes
-  pub accounts : (number : ℕ) → number < end_of v.lane.key Timer → Accounts v items number
-  pub due : AllByRecursion (IsDue v) items
-  pub entries : AllByRecursion (WasTaken v) (state_of v.port).entries
-
--- each is a task of one of so many processes
-abbrev pub OwnItems : ℕ → List (Item ParcelView) → Type 0
-OwnItems processes items = AllByRecursion (λ (x : Item ParcelView). x.sender < processes) items
-
--- What always holds of a body whose calls all found memory: the items that wait have no row yet, only processes' tasks wait, and nothing waits where the port
--- isn't open
-pub record IsBody (v : BodyView) : Type 0 where
-  pub holds : Holds v v.waiting.items
-  pub owners : OwnItems v.processes v.waiting.items
-  pub closed : is_open (state_of v.port) ≡ false → v.waiting.items ≡ []
+-- Of a body that isn't broken all holds that a step keeps, and it has finished exactly where nothing is wanting at the end of its history. Of each its driver's
+-- faults didn't fall, and its driver was started
+pub record AlwaysHolds (v : BodyView) : Type 0 where
+  pub body : v.broken ≡ false → IsBody v.lane_port
+  pub finished : v.broken ≡ false → v.finished ≡ is_finished (state_of v.lane_port.port)
+  pub faults : v.first_faults ≤ v.lane_port.port.port.state.service.faults
+  pub life : v.lane_port.port.port.state.service.stage ≢ Fresh

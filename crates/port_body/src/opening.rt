@@ -2,27 +2,18 @@
 ghost use Rattle.std.specs.Prelude.{◌≡◌, ◌≤◌, ◌<◌, ◌⊎◌, None, IfOk, IfErr, OnOk};
 ghost use Rattle.driver_model.specs.Drivers.{refusal_of};
 ghost use Rattle.port_driver.specs.Starting.{Refuses};
-ghost use Rattle.recorded_port.specs.Openings.{AreUnused, IsOpened};
-ghost use Rattle.port_body.specs.Body.{IsBody};
-ghost use Rattle.port_body.specs.Openings.{FitsPlace};
+ghost use Rattle.recorded_port.specs.Openings.{AreUnused};
+ghost use Rattle.port_body.specs.Openings.{FitsPlace, IsOpenedBody};
 
 use crate::body::Body;
-use crate::{Driver, Parcel, RecordedPort, StartRefusal};
+use crate::lane_port::LanePort;
+use crate::{BodyParts, Driver, RecordedPort, StartRefusal};
 use port_driver::Life;
-use recorded_port::PortParts;
 use served_port::PortPlace;
 use std::alloc::Global;
+use std::snapshot::Snapshot;
 use std::sync::Wait;
-use task_queue::TakeEnd;
 use waiting_parcels::WaitingList;
-
-/// What a body is opened with: the parts of its port, the taking end of its lane, and how many workers there are.
-#[derive(Drop)]
-pub struct BodyParts<D: Driver> {
-    pub port: PortParts<D>,
-    pub lane: TakeEnd<Parcel>,
-    pub workers: u32,
-}
 
 impl<D: Driver> Body<D> {
     /// Opens the port of this place. Where its driver refuses, or memory is wanting, all parts come back, the driver stopped, or fresh if it wasn't called.
@@ -36,9 +27,7 @@ impl<D: Driver> Body<D> {
         requires owner { place.owner < place.processes }
         requires unused { AreUnused parts.port.outlets }
         requires lane { FitsPlace place parts.workers parts.port.outlets parts.lane }
-        ensures body { IfOk result (λ b. IsBody b) }
-        ensures opened { IfOk result (λ b. IsOpened place (D.kind parts.port.driver) parts.port.config parts.port.outlets b.port) }
-        ensures lane { IfOk result (λ b. b.lane ≡ parts.lane) }
+        ensures opened { IfOk result (λ b. IsOpenedBody place (D.kind parts.port.driver) (D.faults parts.port.driver) parts.port.config parts.workers parts.port.outlets parts.lane b) }
         ensures starts { OnOk result (refusal_of (D.kind parts.port.driver) parts.port.config ≡ None) }
         ensures kind { IfErr result (λ r. D.kind r.0.port.driver ≡ D.kind parts.port.driver) }
         ensures back { IfErr result (λ r. (D.stage r.0.port.driver ≡ Life.Fresh) ⊎ (D.stage r.0.port.driver ≡ Life.Stopped)) }
@@ -46,6 +35,7 @@ impl<D: Driver> Body<D> {
         ensures faults { IfErr result (λ r. D.faults parts.port.driver ≤ D.faults r.0.port.driver) }
         ensures refusal { IfErr result (λ r. Refuses (D.kind parts.port.driver) parts.port.config (D.faults parts.port.driver) (D.faults r.0.port.driver) r.1) }
     {
+        let handed_in = Snapshot::of(&parts.port.driver);
         let BodyParts {
             port,
             lane,
@@ -61,11 +51,17 @@ impl<D: Driver> Body<D> {
         };
         match RecordedPort::open(rt, alloc, place, port) {
             Ok(port) => Ok(Body {
-                port,
-                lane,
-                waiting,
-                processes: place.processes,
-                workers,
+                alloc,
+                lane_port: LanePort {
+                    port,
+                    lane,
+                    waiting,
+                    processes: place.processes,
+                    workers,
+                },
+                broken: false,
+                finished: false,
+                handed_in,
             }),
             Err((port, refusal)) => {
                 let parts = BodyParts {

@@ -3,16 +3,16 @@ ghost use Rattle.std.specs.Prelude.{◌≡◌, ◌<◌, ◌∷◌, ◌++◌, [],
 ghost use Rattle.port_history.specs.State.{is_open};
 ghost use Rattle.port_lanes.specs.Keys.{sender_at};
 ghost use Rattle.recorded_port.specs.View.{state_of};
-ghost use Rattle.port_body.specs.Body.{Holds, IsBody, OwnItems};
+ghost use Rattle.port_body.specs.LanePort.{Holds, IsBody, OwnItems};
 ghost use Rattle.port_body.specs.Steps.{Arrives, Came, HasLooked, KnowsLane, ListsSender, MayGo, Settles, SettlesNext, SettlesOne, SettlesRest, Stepped, must_wait};
 
-use crate::body::Body;
+use crate::lane_port::LanePort;
 use crate::{Driver, NoMemory, Parcel, Sender};
 use std::alloc::Global;
 use std::sync::Wait;
 use task_queue::Item;
 
-impl<D: Driver> Body<D> {
+impl<D: Driver> LanePort<D> {
     /// Who has the end of this number.
     fn sender_at(&self, number: u32) -> Sender
         requires { KnowsLane self.now }
@@ -108,7 +108,7 @@ impl<D: Driver> Body<D> {
         match self.sender_at(item.sender) {
             Sender::Process(process) => self.port.list(process, item.seq),
             // Only processes send commands, and nothing else suspends.
-            Sender::Poller | Sender::Worker(_) | Sender::Timer => Err(NoMemory),
+            Sender::Poller | Sender::Worker(_) | Sender::Timer => unreachable!(),
         }
     }
 
@@ -141,14 +141,29 @@ impl<D: Driver> Body<D> {
         self.settle(rt, alloc, item)
     }
 
+    /// Makes room for the rows of a step, and a place for a task to wait.
+    ///
+    /// At most one task comes to three rows, a row and two marks. Before it one sender may be listed, and each of those who are listed, at most all processes, may be
+    /// resumed. Behind it each task that waits may come to one row.
+    fn reserve(&mut self) -> Result<(), NoMemory>
+        ensures waits { OnOk result (0 < self.new.waiting.room) }
+        ensures same { self.new ≡ record self.old { waiting = self.new.waiting } }
+        ensures items { self.new.waiting.items ≡ self.old.waiting.items }
+        ensures senders { self.new.waiting.senders ≡ self.old.waiting.senders }
+    {
+        self.waiting.reserve()?;
+        let most = (self.processes as usize).saturating_add(self.waiting.len());
+        self.port.reserve(most.saturating_add(4))
+    }
+
     /// Makes one step: the first task that waits and may go comes to its row, and where none may, the next one of the lane comes to its row or to wait. False exactly where
     /// none may go and the lane was found empty.
-    pub fn step<R: Wait>(&mut self, rt: &R, alloc: Global) -> Result<bool, NoMemory>
+    pub(crate) fn step<R: Wait>(&mut self, rt: &R, alloc: Global) -> Result<bool, NoMemory>
         requires { IsBody self.old }
         ensures body { OnOk result (IsBody self.new) }
         ensures stepped { IfOk result (λ did. Stepped did self.old self.new) }
     {
-        self.waiting.reserve()?;
+        self.reserve()?;
         if let Some(item) = self.waiting.take_first(self.port.is_busy()) {
             self.settle(rt, alloc, item)?;
             return Ok(true);

@@ -1,5 +1,5 @@
 //! A task that the port handles.
-ghost use Rattle.std.specs.Prelude.{◌≡◌, ◌≤◌, ◌&&◌, true, [], length, map, not, is_some, if◌then◌else◌, IfOk, OnOk};
+ghost use Rattle.std.specs.Prelude.{◌≡◌, ◌≢◌, ◌≤◌, ◌&&◌, true, [], length, map, not, is_some, if◌then◌else◌, IfOk, OnOk};
 ghost use Rattle.port_driver.specs.Context.{SameEvents};
 ghost use Rattle.driver_model.specs.Drivers.{held_events};
 ghost use Rattle.port_links.specs.Posts.{sent_of};
@@ -124,6 +124,7 @@ impl<D: Driver> PortState<D> {
         requires held { length held.now ≤ 64 }
         ensures same { IsSamePort self.old self.new }
         ensures faults { self.old.service.faults ≤ self.new.service.faults }
+        ensures life { self.new.service.stage ≢ Life.Fresh }
         ensures serves { IfOk result (λ made. (port : Opening) (s : State) (task : TaskView) → task.signal ≡ signal.now → IsStateOf self.old port s → s.due ≡ []
             → SameEvents held.now (held_events port.kind port.config s.calls)
             → IsServed port s (taken_of from seq task made.outside made.effects) signal.now made self.new) }

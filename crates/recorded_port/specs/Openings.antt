@@ -6,6 +6,8 @@ use Rattle.port_mail.specs.Ends.{MailEnd}
 use Rattle.served_port.specs.declared.ends.PortPlace.{PortPlace}
 use Rattle.recorded_port.specs.declared.parts.PortOutlets.{PortOutlets}
 use Rattle.recorded_port.specs.Asks.{AreFresh}
+use Rattle.driver_model.specs.Drivers.{read_event_of, write_event_of}
+use Rattle.served_port.specs.View.{end_names}
 use Rattle.recorded_port.specs.View.{RecordedView}
 
 -- nothing was sent by the ends or marked by the seat
@@ -23,6 +25,10 @@ pub record IsOpened (place : PortPlace) (kind : Kind) (config : Config) (outlets
   pub kind_is : v.opening.kind ≡ kind
   pub config_is : v.opening.config ≡ config
   pub owner : v.opening.owner ≡ place.owner
+  pub read : v.opening.read ≡ read_event_of v.port.state.service.own
+  pub write : v.opening.write ≡ write_event_of v.port.state.service.own
   pub rows : v.rows ≡ []
   pub ends : v.ends ≡ outlets.mailboxes
   pub seat : v.seat ≡ outlets.seat
+  pub asks : v.port.events.asks ≡ record outlets.ends.asks { sent = v.port.events.asks.sent }
+  pub pool : end_names v.port.jobs.lanes ≡ end_names outlets.ends.pool

@@ -12,7 +12,7 @@ use Rattle.port_model.specs.declared.signal.Sender.{Sender}
 use Rattle.port_model.specs.Tasks.{TaskView}
 use Rattle.port_history.specs.Laws.{is_next, is_listed_right, waits_where_busy}
 use Rattle.port_history.specs.Marks.{is_busy}
-use Rattle.served_port.specs.View.{IsSameServed}
+use Rattle.served_port.specs.View.{IsSameServed, end_names}
 use Rattle.served_port.specs.Outcomes.{is_handled}
 use Rattle.recorded_port.specs.Asks.{command_sizes}
 use Rattle.recorded_port.specs.View.{RecordedView, state_of, IsRecorded}
@@ -42,11 +42,17 @@ pub record Takes (old new : RecordedView) (from : Sender) (seq : ℕ) (task : Ta
   pub rows : new.rows ≡ old.rows ++ row ∷ map Mark marks
   pub suspended : new.suspended ≡ old.suspended
 
--- the same port, with the same ends and words
+-- these rows came behind the others
+pub record GrewTo (old new : List Row) : Type 0 where
+  pub more : List Row
+  pub rows : new ≡ old ++ more
+
+-- the same port, with the same ends and words, of which the rows alone grew, and what its ends sent
 pub record IsSameRecorded (old new : RecordedView) : Type 0 where
   pub opening : new.opening ≡ old.opening
+  pub rows : GrewTo old.rows new.rows
   pub port : IsSameServed old.port new.port
-  pub ends : length new.ends ≡ length old.ends
+  pub ends : end_names new.ends ≡ end_names old.ends
   pub table : new.seat.table ≡ old.seat.table
   pub places : new.suspended.places ≡ old.suspended.places
 

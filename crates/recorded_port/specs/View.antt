@@ -1,5 +1,5 @@
 -- A port with its rows, its mail and its words, as contracts see it, and what always holds of it.
-use Rattle.std.specs.Prelude.{◌≡◌, ◌<◌, ◌≤◌, ℕ, List, [], ◌∷◌, ◌++◌, length, map, reverse, slice_index_or, Bool, true, false}
+use Rattle.std.specs.Prelude.{◌≡◌, ◌<◌, ◌≤◌, ℕ, List, [], ◌∷◌, ◌++◌, length, map, reverse, slice_index_or, Bool, true, false, ◌&&◌}
 use Rattle.port_words.specs.busy.Stat.{marked_busy}
 use Rattle.suspend_list.specs.Entries.{Suspended}
 use Rattle.port_words.specs.busy.Known.{PortKnown}
@@ -11,7 +11,8 @@ use Rattle.port_signal.specs.declared.row.MarkKind.TheVariants.{Busy, Free, Clos
 use Rattle.port_model.specs.declared.row.Row.{Row}
 use Rattle.port_mail.specs.Ends.{MailEnd}
 use Rattle.port_history.specs.Mail.{mails}
-use Rattle.port_history.specs.Marks.{is_busy}
+use Rattle.port_history.specs.Laws.{keeps_end}
+use Rattle.port_history.specs.Marks.{is_busy, none_due}
 use Rattle.port_history.specs.Opening.{Opening}
 use Rattle.port_history.specs.State.{State, state}
 use Rattle.port_suspension.specs.Listed.{AgreesListed}
@@ -79,6 +80,10 @@ IsRecorded v left = Records v.opening (reverse v.rows) v left
 pub record IsSettled (v : RecordedView) : Type 0 where
   pub recorded : IsRecorded v []
   pub none_due : (state_of v).due ≡ []
+
+-- nothing is wanting at the end of a history: no mark is due, and the last law holds
+abbrev pub is_finished : State → Bool
+is_finished s = none_due s.due && keeps_end s
 
 -- the mark changes a port that is busy or not, as is said
 abbrev pub CanChange : MarkKind → Bool → Type 0

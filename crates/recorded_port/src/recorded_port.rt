@@ -1,4 +1,5 @@
 ghost use Rattle.std.specs.Prelude.{◌≡◌, not, is_some};
+ghost use Rattle.recorded_port.specs.View.{IsSettled, is_finished, state_of};
 
 use crate::fixed::Fixed;
 use crate::{Driver, Mailboxes, PortSeat, Row, ServedPort, Suspension};
@@ -47,6 +48,22 @@ impl<D: Driver> RecordedPort<D> {
         ensures { result ≡ not (is_some self.now.port.state.reason) }
     {
         self.port.is_open()
+    }
+
+    /// Whether the driver was stopped.
+    pub fn is_stopped(&self) -> bool
+        ensures { result ≡ self.now.port.state.stopped }
+    {
+        self.port.is_stopped()
+    }
+
+    /// Whether nothing is wanting at the end of its history: no mark is due, the driver was stopped, nobody is listed, each event that it used is given back, and
+    /// each of its jobs was told done.
+    pub fn is_finished(&self) -> bool
+        requires { IsSettled self.now }
+        ensures { result ≡ is_finished (state_of self.now) }
+    {
+        self.port.is_finished() && self.suspension.is_empty()
     }
 
     /// Whether the port is busy by its marks.

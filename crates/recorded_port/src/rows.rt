@@ -13,11 +13,11 @@ use crate::{Driver, MarkKind, NoMemory, RecordedPort, Row};
 const MAX_ROWS: u64 = 0x1000_0000_0000_0000;
 
 impl<D: Driver> RecordedPort<D> {
-    /// Makes room for a row and its marks.
-    pub(crate) fn make_room(&mut self) -> Result<(), NoMemory>
+    /// Makes room for so many rows.
+    pub fn reserve(&mut self, rows: usize) -> Result<(), NoMemory>
         ensures { self.new ≡ self.old }
     {
-        Ok(self.rows.reserve(3)?)
+        Ok(self.rows.reserve(rows)?)
     }
 
     /// Writes a row behind the others.

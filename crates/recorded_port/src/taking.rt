@@ -18,8 +18,8 @@ use std::sync::Wait;
 
 impl<D: Driver> RecordedPort<D> {
     /// Takes in the next task of this sender, which has this place in the sender's order, from 0: it is handled or late, its row is written and its
-    /// mail is put, what changed is marked in STAT, and a command's bytes are removed from MSGQ. After want of memory nothing is said of a history any
-    /// more; the driver can still be stopped.
+    /// mail is put, what changed is marked in STAT, and a command's bytes are removed from MSGQ. That adds at most three rows. After want of memory nothing
+    /// is said of a history any more; the driver can still be stopped.
     pub fn take<R: Wait>(
         &mut self,
         rt: &R,
@@ -35,7 +35,6 @@ impl<D: Driver> RecordedPort<D> {
         ensures takes { OnOk result (Takes self.old self.new from seq parcel.task) }
     {
         let (task, weight) = parcel.into_parts();
-        self.make_room()?;
         self.write_task(rt, alloc, from, seq, task)?;
         self.write_marks()?;
         self.remove(rt, weight);

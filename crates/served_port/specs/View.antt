@@ -1,7 +1,9 @@
 -- A port with its driver, its events and its jobs, as contracts see it, and what it says of a history.
-use Rattle.std.specs.Prelude.{◌≡◌, ◌≤◌, ℕ, true, false}
+use Rattle.std.specs.Prelude.{◌≡◌, ◌≤◌, ℕ, List, map, true, false}
+use Rattle.task_queue.specs.Ends.{LaneId, Sending}
 use Rattle.driver_model.specs.Drivers.{held_events}
 use Rattle.port_driver.specs.Context.{SameEvents}
+use Rattle.port_driver.specs.declared.life.Life.TheVariants.{Fresh}
 use Rattle.port_model.specs.declared.event.Dir.{Dir}
 use Rattle.port_history.specs.Events.{event_of, is_selected}
 use Rattle.port_history.specs.Opening.{Opening}
@@ -35,10 +37,23 @@ pub record IsSomewhere (v : ServedView) : Type 0 where
   pub s : State
   pub at : IsAt v port s
 
+-- which sending end it is: of which lane, and with which number
+pub record EndName : Type 0 where
+  pub lane : LaneId
+  pub number : ℕ
+
+abbrev pub end_name : {T K : Type 0} → Sending T K → EndName
+end_name end = record { lane = end.lane; number = end.number }
+
+abbrev pub end_names : {T K : Type 0} → List (Sending T K) → List EndName
+end_names ends = map end_name ends
+
 -- the same port, with the same ends, of which those in the lanes of the poller and of the workers may have sent more, and with a driver that may have
--- counted more faults
+-- counted more faults, and is fresh only if it was
 pub record IsSameServed (old new : ServedView) : Type 0 where
   pub state : IsSamePort old.state new.state
   pub faults : old.state.service.faults ≤ new.state.service.faults
+  pub life : new.state.service.stage ≡ Fresh → old.state.service.stage ≡ Fresh
   pub events : KeepsEnd old.events new.events
   pub jobs : new.jobs.port ≡ old.jobs.port
+  pub pool : end_names new.jobs.lanes ≡ end_names old.jobs.lanes

@@ -8,11 +8,12 @@ ghost use Rattle.port_model.specs.Tasks.{TaskView};
 ghost use Rattle.port_model.specs.declared.row.Row.TheVariants.{Late};
 ghost use Rattle.port_state.specs.View.{IsSamePort};
 ghost use Rattle.port_state.specs.Served.{IsServed};
-ghost use Rattle.served_port.specs.View.{IsAt, IsSameServed, IsSomewhere};
+ghost use Rattle.served_port.specs.View.{IsAt, IsSameServed, IsSomewhere, end_names};
 ghost use Rattle.served_port.specs.Outcomes.{is_handled, IsOutcome};
 ghost use Rattle.served_port.specs.Steps.{Handles, Follows};
 
 use crate::{Driver, Effect, NoMemory, Outcome, Sender, Served, ServedPort, Signal};
+use port_driver::Life;
 use port_events::{Ending, EventFault};
 use port_jobs::SubmitFault;
 use std::alloc::Global;
@@ -72,6 +73,7 @@ impl<D: Driver> ServedPort<D> {
         requires handled { Handles self.old from signal.now }
         ensures same { IsSamePort self.old.state self.new.state }
         ensures faults { self.old.state.service.faults ≤ self.new.state.service.faults }
+        ensures life { self.new.state.service.stage ≡ Life.Fresh → self.old.state.service.stage ≡ Life.Fresh }
         ensures rest { (self.new.events ≡ self.old.events) × (self.new.jobs ≡ self.old.jobs) }
         ensures serves { IfOk result (λ made. (port : Opening) (s : State) (task : TaskView) → task.signal ≡ signal.now → IsAt self.old port s → s.due ≡ []
             → IsServed port s (taken_of from seq task made.outside made.effects) signal.now made self.new.state) }
@@ -101,6 +103,7 @@ impl<D: Driver> ServedPort<D> {
         ensures ok { OnOk result (Submits self.old.jobs self.new.jobs effects.now) }
         ensures same { (self.new.state ≡ self.old.state) × (self.new.events ≡ self.old.events) }
         ensures port { self.new.jobs.port ≡ self.old.jobs.port }
+        ensures pool { end_names self.new.jobs.lanes ≡ end_names self.old.jobs.lanes }
     {
         match self.jobs.submit(rt, effects) {
             Ok(()) => Ok(()),

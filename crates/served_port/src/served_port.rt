@@ -61,6 +61,13 @@ impl<D: Driver> ServedPort<D> {
         self.state.is_busy()
     }
 
+    /// Whether the driver was stopped.
+    pub fn is_stopped(&self) -> bool
+        ensures { result ≡ self.now.state.stopped }
+    {
+        self.state.is_stopped()
+    }
+
     /// Whether the driver was stopped, each event that it used is given back, and each job that it submitted was told done.
     pub fn is_finished(&self) -> bool
         ensures { (port : Opening) (s : State) → IsAt self.now port s

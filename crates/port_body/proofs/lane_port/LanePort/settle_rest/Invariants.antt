@@ -2,9 +2,9 @@ use Rattle.std.proofs.Common.{◌≡◌, ◌++◌, List, false}
 use Rattle.port_model.specs.declared.row.Row.{Row}
 use Rattle.port_history.specs.State.{is_open}
 use Rattle.recorded_port.specs.View.{state_of}
-use Rattle.port_body.specs.Body.{Holds, OwnItems}
+use Rattle.port_body.specs.LanePort.{Holds, OwnItems}
 use Rattle.port_body.specs.Steps.{HasLooked}
-use Rattle.port_body.proofs.body.Body.settle_rest.Given as goal
+use Rattle.port_body.proofs.lane_port.LanePort.settle_rest.Given as goal
 
 -- rows came behind those at the start
 abbrev pub invariant-loop : goal.invariant-loop

@@ -1,10 +1,10 @@
 use Rattle.std.proofs.Common.{sym, ap, subst}
 use Rattle.port_lanes.specs.Keys.{sender_at}
 use Rattle.recorded_port.specs.Taking.{MayTake, Takes, IsSameRecorded}
-use Rattle.port_body.specs.Body.{BodyView, Holds}
+use Rattle.port_body.specs.LanePort.{LanePortView, Holds}
 use Rattle.port_body.proofs.Holding.{took, resumed}
 use Rattle.port_body.proofs.Settling.{on-both, on-one, may-take, settles-one}
-use Rattle.port_body.proofs.body.Body.settle_one.Goals as goal
+use Rattle.port_body.proofs.lane_port.LanePort.settle_one.Goals as goal
 
 pub take-requires-clause-may : goal.take-requires-clause-may
 take-requires-clause-may g c =
@@ -12,25 +12,25 @@ take-requires-clause-may g c =
     let x = c.args.item in
     let may = may-take old x old.waiting.items c.requires.holds c.requires.free in
     subst (λ s. MayTake c.self.inside.port s x.seq x.value) (sym c.sender_at-from.ensures)
-    (subst (λ (v : BodyView). MayTake v.port (sender_at old.lane.key x.sender) x.seq x.value) (sym c.self.view_is) may)
+    (subst (λ (v : LanePortView). MayTake v.port (sender_at old.lane.key x.sender) x.seq x.value) (sym c.self.view_is) may)
 
 pub returns-clause-holds : goal.returns-clause-holds
 returns-clause-holds g c =
     let old = c.args.self.now in
     let x = c.args.item in
-    let takes = subst (λ (v : BodyView). Takes v.port c.take.new.self (sender_at old.lane.key x.sender) x.seq x.value.task) c.self.view_is
+    let takes = subst (λ (v : LanePortView). Takes v.port c.take.new.self (sender_at old.lane.key x.sender) x.seq x.value.task) c.self.view_is
     (subst (λ s. Takes c.self.inside.port c.take.new.self s x.seq x.value.task) c.sender_at-from.ensures c.in_ok-take.ensures.takes) in
-    let same = subst (λ (v : BodyView). IsSameRecorded v.port c.take.new.self) c.self.view_is c.take.ensures.same in
+    let same = subst (λ (v : LanePortView). IsSameRecorded v.port c.take.new.self) c.self.view_is c.take.ensures.same in
     let mid = took old c.take.new.self x old.waiting.items c.requires.holds c.in_ok-take.ensures.settled same takes in
-    on-both c.resume.result (λ settled resumes. subst (λ (v : BodyView). Holds (record v { port = c.resume.new.self }) v.waiting.items) (sym c.self.view_is)
+    on-both c.resume.result (λ settled resumes. subst (λ (v : LanePortView). Holds (record v { port = c.resume.new.self }) v.waiting.items) (sym c.self.view_is)
     (resumed (record old { port = c.take.new.self }) c.resume.new.self old.waiting.items mid settled c.resume.ensures.same resumes)) c.resume.ensures.settled c.resume.ensures.resumes
 
 pub returns-clause-settles : goal.returns-clause-settles
 returns-clause-settles g c =
     let old = c.args.self.now in
     let x = c.args.item in
-    let takes = subst (λ (v : BodyView). Takes v.port c.take.new.self (sender_at old.lane.key x.sender) x.seq x.value.task) c.self.view_is
+    let takes = subst (λ (v : LanePortView). Takes v.port c.take.new.self (sender_at old.lane.key x.sender) x.seq x.value.task) c.self.view_is
     (subst (λ s. Takes c.self.inside.port c.take.new.self s x.seq x.value.task) c.sender_at-from.ensures c.in_ok-take.ensures.takes) in
-    let same = subst (λ (v : BodyView). IsSameRecorded v.port c.take.new.self) c.self.view_is c.take.ensures.same in
+    let same = subst (λ (v : LanePortView). IsSameRecorded v.port c.take.new.self) c.self.view_is c.take.ensures.same in
     on-one c.resume.result (λ resumes. settles-one old _ c.take.new.self x takes same c.resume.ensures.same resumes
-    (ap (λ (v : BodyView). record v { port = c.resume.new.self }) c.self.view_is)) c.resume.ensures.resumes
+    (ap (λ (v : LanePortView). record v { port = c.resume.new.self }) c.self.view_is)) c.resume.ensures.resumes

@@ -5,71 +5,71 @@ use Rattle.port_history.specs.State.{state, is_open}
 use Rattle.recorded_port.specs.View.{state_of}
 use Rattle.recorded_port.specs.Taking.{IsSameRecorded}
 use Rattle.recorded_port.specs.Resuming.{Resumes}
-use Rattle.port_body.specs.Body.{BodyView, Holds, OwnItems}
+use Rattle.port_body.specs.LanePort.{LanePortView, Holds, OwnItems}
 use Rattle.port_body.proofs.Holding.{resumed, last-moved, same-tasks}
 use Rattle.port_body.proofs.Settling.{added, after-look, on-one}
 use Rattle.port_body.proofs.Waits.{alone, waits-body, waits-arrives, settles-arrives}
-use Rattle.port_body.proofs.body.Body.arrive.Goals as goal
+use Rattle.port_body.proofs.lane_port.LanePort.arrive.Goals as goal
 
 pub must_wait-requires : goal.must_wait-requires
 must_wait-requires g c =
     let mid = c.list_sender.new.self in
     let x = c.args.item in
-    let same = subst (λ (v : BodyView). IsSameRecorded v.port c.resume.new.self) c.self.view_is c.resume.ensures.same in
-    let resumes = subst (λ (v : BodyView). Resumes v.port c.resume.new.self) c.self.view_is c.in_ok-resume.ensures.resumes in
+    let same = subst (λ (v : LanePortView). IsSameRecorded v.port c.resume.new.self) c.self.view_is c.resume.ensures.same in
+    let resumes = subst (λ (v : LanePortView). Resumes v.port c.resume.new.self) c.self.view_is c.in_ok-resume.ensures.resumes in
     let holds = resumed mid c.resume.new.self (mid.waiting.items ++ x ∷ []) c.in_ok-list_sender.ensures.holds c.in_ok-resume.ensures.settled same resumes in
-    let here = subst (λ (v : BodyView). Holds (record v { port = c.resume.new.self }) (v.waiting.items ++ x ∷ [])) (sym c.self.view_is) holds in
+    let here = subst (λ (v : LanePortView). Holds (record v { port = c.resume.new.self }) (v.waiting.items ++ x ∷ [])) (sym c.self.view_is) holds in
     here
 
 pub returns-then-must_wait-clause-body : goal.returns-then-must_wait-clause-body
 returns-then-must_wait-clause-body g c =
     let mid = c.list_sender.new.self in
     let x = c.args.item in
-    let same = subst (λ (v : BodyView). IsSameRecorded v.port c.resume.new.self) c.self.view_is c.resume.ensures.same in
-    let resumes = subst (λ (v : BodyView). Resumes v.port c.resume.new.self) c.self.view_is c.in_ok-resume.ensures.resumes in
+    let same = subst (λ (v : LanePortView). IsSameRecorded v.port c.resume.new.self) c.self.view_is c.resume.ensures.same in
+    let resumes = subst (λ (v : LanePortView). Resumes v.port c.resume.new.self) c.self.view_is c.in_ok-resume.ensures.resumes in
     let holds = resumed mid c.resume.new.self (mid.waiting.items ++ x ∷ []) c.in_ok-list_sender.ensures.holds c.in_ok-resume.ensures.settled same resumes in
-    let here = subst (λ (v : BodyView). Holds (record v { port = c.resume.new.self }) (v.waiting.items ++ x ∷ [])) (sym c.self.view_is) holds in
-    let owners = subst (λ (v : BodyView). OwnItems v.processes v.waiting.items) (sym (c.self.view_is ∙ c.in_ok-list_sender.ensures.lists.rest)) c.requires.came.body.owners in
+    let here = subst (λ (v : LanePortView). Holds (record v { port = c.resume.new.self }) (v.waiting.items ++ x ∷ [])) (sym c.self.view_is) holds in
+    let owners = subst (λ (v : LanePortView). OwnItems v.processes v.waiting.items) (sym (c.self.view_is ∙ c.in_ok-list_sender.ensures.lists.rest)) c.requires.came.body.owners in
     waits-body _ c.push.new.self x here (sym c.must_wait.ensures ∙ c.if-must_wait.true) owners c.push.ensures.items c.push.ensures.senders
 
 pub returns-then-must_wait-clause-arrives : goal.returns-then-must_wait-clause-arrives
 returns-then-must_wait-clause-arrives g c =
     let mid = c.list_sender.new.self in
     let x = c.args.item in
-    let same = subst (λ (v : BodyView). IsSameRecorded v.port c.resume.new.self) c.self.view_is c.resume.ensures.same in
-    let resumes = subst (λ (v : BodyView). Resumes v.port c.resume.new.self) c.self.view_is c.in_ok-resume.ensures.resumes in
+    let same = subst (λ (v : LanePortView). IsSameRecorded v.port c.resume.new.self) c.self.view_is c.resume.ensures.same in
+    let resumes = subst (λ (v : LanePortView). Resumes v.port c.resume.new.self) c.self.view_is c.in_ok-resume.ensures.resumes in
     let holds = resumed mid c.resume.new.self (mid.waiting.items ++ x ∷ []) c.in_ok-list_sender.ensures.holds c.in_ok-resume.ensures.settled same resumes in
-    let here = subst (λ (v : BodyView). Holds (record v { port = c.resume.new.self }) (v.waiting.items ++ x ∷ [])) (sym c.self.view_is) holds in
-    let rest = ap (λ (v : BodyView). record v { port = c.resume.new.self }) (c.self.view_is ∙ c.in_ok-list_sender.ensures.lists.rest) in
+    let here = subst (λ (v : LanePortView). Holds (record v { port = c.resume.new.self }) (v.waiting.items ++ x ∷ [])) (sym c.self.view_is) holds in
+    let rest = ap (λ (v : LanePortView). record v { port = c.resume.new.self }) (c.self.view_is ∙ c.in_ok-list_sender.ensures.lists.rest) in
     waits-arrives c.args.self.now _ c.push.new.self x rest (sym c.must_wait.ensures ∙ c.if-must_wait.true) c.push.ensures.items (after-look mid.port c.resume.new.self same resumes)
 
 pub settle-requires-clause-holds : goal.settle-requires-clause-holds
 settle-requires-clause-holds g c =
     let mid = c.list_sender.new.self in
     let x = c.args.item in
-    let same = subst (λ (v : BodyView). IsSameRecorded v.port c.resume.new.self) c.self.view_is c.resume.ensures.same in
-    let resumes = subst (λ (v : BodyView). Resumes v.port c.resume.new.self) c.self.view_is c.in_ok-resume.ensures.resumes in
+    let same = subst (λ (v : LanePortView). IsSameRecorded v.port c.resume.new.self) c.self.view_is c.resume.ensures.same in
+    let resumes = subst (λ (v : LanePortView). Resumes v.port c.resume.new.self) c.self.view_is c.in_ok-resume.ensures.resumes in
     let holds = resumed mid c.resume.new.self (mid.waiting.items ++ x ∷ []) c.in_ok-list_sender.ensures.holds c.in_ok-resume.ensures.settled same resumes in
-    let here = subst (λ (v : BodyView). Holds (record v { port = c.resume.new.self }) (v.waiting.items ++ x ∷ [])) (sym c.self.view_is) holds in
-    let owners = subst (λ (v : BodyView). OwnItems v.processes v.waiting.items) (sym (c.self.view_is ∙ c.in_ok-list_sender.ensures.lists.rest)) c.requires.came.body.owners in
+    let here = subst (λ (v : LanePortView). Holds (record v { port = c.resume.new.self }) (v.waiting.items ++ x ∷ [])) (sym c.self.view_is) holds in
+    let owners = subst (λ (v : LanePortView). OwnItems v.processes v.waiting.items) (sym (c.self.view_is ∙ c.in_ok-list_sender.ensures.lists.rest)) c.requires.came.body.owners in
     let tasks = same-tasks mid.port c.resume.new.self same resumes in
     let reason = ap (λ o. (state o (reverse c.resume.new.self.rows)).reason) same.opening ∙ (tasks.reason ∙ c.in_ok-list_sender.ensures.lists.reason) in
     let closed = λ (shut : is_open (state_of c.resume.new.self) ≡ _).
-    ap (λ (v : BodyView). v.waiting.items) (c.self.view_is ∙ c.in_ok-list_sender.ensures.lists.rest) ∙ c.requires.came.body.closed (sym (ap (λ r. not (is_some r)) reason) ∙ shut) in
-    let v : BodyView = record { port = c.resume.new.self; lane = c.self.inside.lane; waiting = c.self.inside.waiting; processes = c.self.inside.processes; workers = c.self.inside.workers } in
+    ap (λ (v : LanePortView). v.waiting.items) (c.self.view_is ∙ c.in_ok-list_sender.ensures.lists.rest) ∙ c.requires.came.body.closed (sym (ap (λ r. not (is_some r)) reason) ∙ shut) in
+    let v : LanePortView = record { port = c.resume.new.self; lane = c.self.inside.lane; waiting = c.self.inside.waiting; processes = c.self.inside.processes; workers = c.self.inside.workers } in
     last-moved v c.self.inside.waiting.items x here (alone v x (sym c.must_wait.ensures ∙ c.if-must_wait.false) owners closed)
 
 pub returns-clause-arrives : goal.returns-clause-arrives
 returns-clause-arrives g c =
     let mid = c.list_sender.new.self in
     let x = c.args.item in
-    let same = subst (λ (v : BodyView). IsSameRecorded v.port c.resume.new.self) c.self.view_is c.resume.ensures.same in
-    let resumes = subst (λ (v : BodyView). Resumes v.port c.resume.new.self) c.self.view_is c.in_ok-resume.ensures.resumes in
+    let same = subst (λ (v : LanePortView). IsSameRecorded v.port c.resume.new.self) c.self.view_is c.resume.ensures.same in
+    let resumes = subst (λ (v : LanePortView). Resumes v.port c.resume.new.self) c.self.view_is c.in_ok-resume.ensures.resumes in
     let holds = resumed mid c.resume.new.self (mid.waiting.items ++ x ∷ []) c.in_ok-list_sender.ensures.holds c.in_ok-resume.ensures.settled same resumes in
-    let here = subst (λ (v : BodyView). Holds (record v { port = c.resume.new.self }) (v.waiting.items ++ x ∷ [])) (sym c.self.view_is) holds in
+    let here = subst (λ (v : LanePortView). Holds (record v { port = c.resume.new.self }) (v.waiting.items ++ x ∷ [])) (sym c.self.view_is) holds in
     let old = c.args.self.now in
     let lists = c.in_ok-list_sender.ensures.lists in
     let more = added mid.port c.resume.new.self resumes in
-    let rest = ap (λ (v : BodyView). record v { port = c.resume.new.self }) (c.self.view_is ∙ lists.rest) in
+    let rest = ap (λ (v : LanePortView). record v { port = c.resume.new.self }) (c.self.view_is ∙ lists.rest) in
     let rows = more.rows ∙ (ap (λ r. r ++ more.more) lists.rows ∙ append_assoc old.port.rows lists.more more.more) in
     on-one c.settle.result (λ s. settles-arrives old _ c.settle.new.self x (lists.more ++ more.more) rest rows s) c.settle.ensures.settles

@@ -1,0 +1,64 @@
+-- What a body is once it ended, and what it gives back.
+use Rattle.std.specs.Prelude.{◌≡◌, ◌<◌, ◌≤◌, ℕ, List, [], ◌++◌, length, slice_index_or, reverse, Bool, true, false}
+use Rattle.task_queue.specs.declared.item.Item.{Item}
+use Rattle.task_queue.specs.Ends.{Taking}
+use Rattle.port_config.specs.declared.config.Config.{Config}
+use Rattle.port_driver.specs.declared.life.Life.TheVariants.{Stopped}
+use Rattle.port_history.specs.Lawful.{IsFinished}
+use Rattle.port_history.specs.Mail.{mails}
+use Rattle.port_history.specs.Opening.{Opening}
+use Rattle.port_history.specs.State.{is_open, state}
+use Rattle.port_lanes.specs.Keys.{Key, end_of, sender_at}
+use Rattle.port_lanes.specs.Parcels.{ParcelView}
+use Rattle.port_model.specs.declared.row.Row.{Row}
+use Rattle.port_model.specs.declared.signal.Sender.TheVariants.{Timer}
+use Rattle.port_mail.specs.Ends.{MailEnd}
+use Rattle.port_words.specs.busy.Known.{PortKnown}
+use Rattle.recorded_port.specs.Asks.{GaveJobs, asks, removals}
+use Rattle.recorded_port.specs.Laws.{IsLawful}
+use Rattle.recorded_port.specs.View.{removed_sizes, stat_marks, state_of}
+use Rattle.recorded_port.specs.declared.parts.PortOutlets.{PortOutlets}
+use Rattle.port_body.specs.Body.{BodyView, name_of}
+use Rattle.port_body.specs.LanePort.{rows_from, tasks_of}
+
+-- Its driver is stopped, and its faults didn't fall; rows, ends and words are as they were. It is broken from then on, unless its port had stopped the driver, and
+-- then nothing changed
+pub record HasEnded (old new : BodyView) : Type 0 where
+  pub stopped : new.lane_port.port.port.state.service.stage ≡ Stopped
+  pub name : name_of new ≡ name_of old
+  pub faults : old.lane_port.port.port.state.service.faults ≤ new.lane_port.port.port.state.service.faults
+  pub rows : new.lane_port.port.rows ≡ old.lane_port.port.rows
+  pub lane : new.lane_port.lane ≡ old.lane_port.lane
+  pub waiting : new.lane_port.waiting ≡ old.lane_port.waiting
+  pub finished : new.finished ≡ old.finished
+  pub broken : old.broken ≡ false → (state_of old.lane_port.port).stopped ≡ false → new.broken ≡ true
+  pub unchanged : old.broken ≡ false → (state_of old.lane_port.port).stopped ≡ true → new ≡ old
+
+-- the rows, the options, the ends and the words are those of the body
+pub record IsEndOf (v : BodyView) (rows : List Row) (config : Config) (outlets : PortOutlets) (lane : Taking ParcelView Key) : Type 0 where
+  pub rows_are : rows ≡ v.lane_port.port.rows
+  pub config_is : config ≡ v.lane_port.port.opening.config
+  pub mailboxes : outlets.mailboxes ≡ v.lane_port.port.ends
+  pub seat : outlets.seat ≡ v.lane_port.port.seat
+  pub asks : outlets.ends.asks ≡ v.lane_port.port.port.events.asks
+  pub pool : outlets.ends.pool ≡ v.lane_port.port.port.jobs.lanes
+  pub lane_is : lane ≡ v.lane_port.lane
+
+-- these are the mail, the asks, the jobs, the marks and the removed bytes of a lawful history
+pub record IsSentBy (port : Opening) (history : List Row) (outlets : PortOutlets) : Type 0 where
+  pub lawful : IsLawful port history
+  pub mail : (process : ℕ) (e : MailEnd) → process < length outlets.mailboxes → (slice_index_or outlets.mailboxes process e).sent ≡ mails port process history
+  pub asks_are : outlets.ends.asks.sent ≡ asks port history
+  pub jobs : GaveJobs port history outlets.ends.pool
+  pub marks : outlets.seat.known.marks ≡ stat_marks (state port history).marks
+  pub removed : removed_sizes outlets.seat ≡ removals history
+
+-- What an unbroken body ends with: its history is lawful, and what it sent and marked is what that says. Of each end of its lane the tasks that have a row, and then
+-- those that wait, are what was taken of it. Nothing waits where the port isn't open, and so of a body that has finished
+pub record IsWholeEnd (v : BodyView) (rows : List Row) (outlets : PortOutlets) (lane : Taking ParcelView Key) : Type 0 where
+  pub sent : IsSentBy v.lane_port.port.opening (reverse rows) outlets
+  pub taken : (number : ℕ) → number < end_of lane.key Timer
+      → rows_from (sender_at lane.key number) (reverse rows) ++ tasks_of number v.lane_port.waiting.items ≡ tasks_of number lane.taken
+  pub closed : is_open (state v.lane_port.port.opening (reverse rows)) ≡ false → v.lane_port.waiting.items ≡ []
+  pub finished : v.finished ≡ true → IsFinished v.lane_port.port.opening (reverse rows)
+  pub none_waits : v.finished ≡ true → v.lane_port.waiting.items ≡ []
