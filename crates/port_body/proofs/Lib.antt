@@ -5,3 +5,9 @@ pub mod Places
 pub mod Rows
 pub mod Settling
 pub mod Waits
+pub mod Same
+pub mod Names
+pub mod Room
+pub mod Reserved
+pub mod Always
+pub mod Finished

@@ -1,6 +1,6 @@
 -- A task may come to its row, and what that and a resume leave.
-use Rattle.std.proofs.Common.{◌≡◌, ℕ, ◌<◌, cond, map, Bool, true, false, ◌&&◌, ◌||◌, List, [], ◌∷◌, ◌++◌, length, Option, Some, None, is_some, refl, sym, ap, ◌∙◌, subst, eq-eqb, inl, inr}
-use Rattle.std.specs.Prelude.{not, reverse, IfSome, Result, Ok, Err, OnOk}
+use Rattle.std.proofs.Common.{◌≡◌, ℕ, ◌+◌, ◌<◌, arith, cond, map, Bool, true, false, ◌&&◌, ◌||◌, List, [], ◌∷◌, ◌++◌, length, Option, Some, None, is_some, refl, sym, ap, ◌∙◌, subst, eq-eqb, inl, inr}
+use Rattle.std.specs.Prelude.{not, reverse, IfOk, IfSome, Result, Ok, Err, OnOk}
 use Rattle.std.proofs.lemmas.Bool.{lt-ltb}
 use Rattle.waiting_parcels.specs.Waiting.{Waiting}
 use Rattle.served_port.specs.Outcomes.{is_handled}
@@ -22,12 +22,13 @@ use Rattle.port_history.specs.Service.{first_reason}
 use Rattle.port_history.specs.State.{State, state, is_open}
 use Rattle.port_history.specs.Suspension.{is_queue_busy}
 use Rattle.port_words.specs.busy.Known.{PortKnown}
-use Rattle.recorded_port.specs.View.{RecordedView, state_of}
-use Rattle.recorded_port.specs.Taking.{MayTake, Takes, TellsOf, IsSameRecorded}
+use Rattle.recorded_port.specs.View.{RecordedView, IsSettled, state_of}
+use Rattle.recorded_port.specs.Taking.{MayTake, Takes, TellsOf, IsSameRecorded, UsesRoom}
 use Rattle.recorded_port.specs.Resuming.{Resumes, may_go, resumed_rows}
-use Rattle.port_body.specs.LanePort.{LanePortView, Holds, OwnItems, AreNumbered, rows_from}
+use Rattle.port_body.specs.LanePort.{LanePortView, HasRoom, Holds, OwnItems, AreNumbered, rows_from}
 use Rattle.port_body.specs.Steps.{MayGo, SettlesOne, SettlesFirst, HasLooked}
 use Rattle.port_body.proofs.Holding.{among, within-lane, same-tasks}
+use Rattle.port_body.proofs.Room.{late_room, resumed_room, took_room}
 use Rattle.port_body.proofs.Rows.{counted, quiet-rows, quiet-reverse, quiet-marks, task-reverse}
 
 pub on-both : {T E : Type 0} (r : Result T E) {P Q S : Type 0} → (P → Q → S) → OnOk r P → OnOk r Q → OnOk r S
@@ -37,6 +38,10 @@ on-both (Err error) f p q = tt
 pub on-one : {T E : Type 0} (r : Result T E) {P Q : Type 0} → (P → Q) → OnOk r P → OnOk r Q
 on-one (Ok value) f p = f p
 on-one (Err error) f p = tt
+
+pub if-ok : {T E : Type 0} (r : Result T E) {P Q : T → Type 0} → ((value : T) → P value → Q value) → IfOk r P → IfOk r Q
+if-ok (Ok value) f p = f value p
+if-ok (Err error) f p = tt
 
 if-some : {X : Type 0} {P Q : X → Type 0} (o : Option X) → ((x : X) → P x → Q x) → IfSome o P → IfSome o Q
 if-some None f p = tt
@@ -113,8 +118,9 @@ added old port (inr (word, looked)) = elim (may_go (state_of old) word) as (λ b
 ] refl
 
 pub settles-one : (old new : LanePortView) (mid : RecordedView) (x : Item ParcelView) → Takes old.port mid (sender_at old.lane.key x.sender) x.seq x.value.task → IsSameRecorded old.port mid
-    → IsSameRecorded mid new.port → Resumes mid new.port → new ≡ record old { port = new.port } → SettlesOne old new x
-settles-one old new mid x takes same again resumes rest =
+    → IsSameRecorded mid new.port → Resumes mid new.port → new ≡ record old { port = new.port } → IsSettled old.port → IsSettled mid → IsSettled new.port
+    → UsesRoom old.port mid → UsesRoom mid new.port → SettlesOne old new x
+settles-one old new mid x takes same again resumes rest first second third took look =
     let a = added mid new.port resumes in
     record {
       row = takes.row;
@@ -123,6 +129,9 @@ settles-one old new mid x takes same again resumes rest =
       tells = takes.tells;
       rest = rest;
       looked = after-look mid new.port again resumes;
+      room = λ rows enough. resumed_room mid new.port second third look resumes rows (took_room old.port mid (sender_at old.lane.key x.sender) x.seq x.value.task first second took takes rows enough);
+      late = λ miss rows enough.
+          resumed_room mid new.port second third look resumes rows (late_room old.port mid (sender_at old.lane.key x.sender) x.seq x.value.task first second took takes miss rows enough);
       shut = λ shut.
           let o = old.port.opening in
           let told = told-shut o (reverse old.port.rows) takes.row (sender_at old.lane.key x.sender) x.seq x.value.task takes.tells shut in
@@ -146,8 +155,9 @@ shut-free v x below same shut handled =
     absurd (cc)
 
 pub settles-first : (old new : LanePortView) (waiting : Waiting) (x : Item ParcelView) → old.waiting.items ≡ x ∷ waiting.items → OwnItems old.processes old.waiting.items
-    → is_open (state_of old.port) ≡ false → SettlesOne (record old { waiting = waiting }) new x → SettlesFirst old new
-settles-first old new waiting x items owners shut one = record {
+    → is_open (state_of old.port) ≡ false → old.processes ≡ old.lane.key.processes → HasRoom (2 + length old.waiting.items) old → SettlesOne (record old { waiting = waiting }) new x
+    → SettlesFirst old new
+settles-first old new waiting x items owners shut known room one = record {
   behind = one.row ∷ one.behind;
   rows = one.rows;
   lane = ap (λ (v : LanePortView). v.lane) one.rest;
@@ -155,4 +165,10 @@ settles-first old new waiting x items owners shut one = record {
   owners = subst (λ (v : LanePortView). OwnItems v.processes v.waiting.items) (sym one.rest) (subst (OwnItems old.processes) items owners).1;
   looked = one.looked;
   shut = one.shut shut;
+  room =
+      let many = ap length items in
+      let left = ap (λ (v : LanePortView). length v.waiting.items) one.rest in
+      let at = process-at old.lane.key x.sender (subst (λ p. x.sender < p) known (subst (OwnItems old.processes) items owners).0) in
+      let late : is_handled (state_of old.port) (sender_at old.lane.key x.sender) x.value.task.signal ≡ false = ap (λ s. is_handled (state_of old.port) s x.value.task.signal) at ∙ shut in
+      subst (λ n. HasRoom n new) (omega (arith, left)) (one.late late (2 + length waiting.items) (let enough = room in omega (arith, many, enough)));
 }

@@ -1,5 +1,5 @@
 -- A port with its lane and the tasks that wait, as contracts see it, and what always holds of it.
-use Rattle.std.specs.Prelude.{◌≡◌, ◌<◌, ℕ, List, [], ◌∷◌, ◌++◌, length, map, suc, true, false, if◌then◌else◌}
+use Rattle.std.specs.Prelude.{◌≡◌, ◌<◌, ◌≤◌, ◌+◌, ℕ, List, [], ◌∷◌, ◌++◌, length, map, suc, true, false, if◌then◌else◌}
 use Rattle.std.specs.List.{AllByRecursion}
 use Rattle.task_queue.specs.declared.item.Item.{Item}
 use Rattle.task_queue.specs.Ends.{Taking}
@@ -16,6 +16,7 @@ use Rattle.port_history.specs.Opening.{same_sender}
 use Rattle.port_history.specs.State.{is_open}
 use Rattle.port_history.specs.Suspension.{Entry}
 use Rattle.waiting_parcels.specs.Waiting.{Waiting}
+use Rattle.recorded_port.specs.Taking.{IsSameRecorded}
 use Rattle.recorded_port.specs.View.{RecordedView, IsSettled, history, state_of}
 
 -- the port, its end of the lane, the tasks that were taken and have no row yet, and how many processes and workers there are
@@ -75,6 +76,10 @@ pub record Holds (v : LanePortView) (items : List (Item ParcelView)) : Type 0 wh
   pub due : AllByRecursion (IsDue v) items
   pub entries : AllByRecursion (WasTaken v) (state_of v.port).entries
 
+-- there is room for so many rows, beside one for each sender who is listed
+abbrev pub HasRoom : ℕ → LanePortView → Type 0
+HasRoom rows v = rows + length (state_of v.port).listed ≤ v.port.room
+
 -- each is a task of one of so many processes
 abbrev pub OwnItems : ℕ → List (Item ParcelView) → Type 0
 OwnItems processes items = AllByRecursion (λ (x : Item ParcelView). x.sender < processes) items
@@ -85,3 +90,18 @@ pub record IsBody (v : LanePortView) : Type 0 where
   pub holds : Holds v v.waiting.items
   pub owners : OwnItems v.processes v.waiting.items
   pub closed : is_open (state_of v.port) ≡ false → v.waiting.items ≡ []
+
+-- the same port, with the same lane and ends: rows came behind the others, and items were taken behind the others, or none
+pub record IsSameLanePort (old new : LanePortView) : Type 0 where
+  pub port : IsSameRecorded old.port new.port
+  pub lane : new.lane ≡ record old.lane { taken = new.lane.taken }
+  pub more : List (Item ParcelView)
+  pub taken : new.lane.taken ≡ old.lane.taken ++ more
+  pub processes : new.processes ≡ old.processes
+  pub workers : new.workers ≡ old.workers
+
+-- the same tasks wait, and there may be more room
+pub record IsSameBut (old new : LanePortView) : Type 0 where
+  pub rest : new ≡ record old { port = record old.port { room = new.port.room }; waiting = new.waiting }
+  pub items : new.waiting.items ≡ old.waiting.items
+  pub senders : new.waiting.senders ≡ old.waiting.senders

@@ -1,5 +1,5 @@
 -- What one step of a turn does, where memory is found.
-use Rattle.std.specs.Prelude.{◌≡◌, ◌⊎◌, ℕ, if◌then◌else◌, List, [], ◌∷◌, ◌++◌, length, Bool, true, false, ◌||◌, ◌&&◌, nat_lt}
+use Rattle.std.specs.Prelude.{◌≡◌, ◌⊎◌, ◌+◌, ℕ, if◌then◌else◌, List, [], ◌∷◌, ◌++◌, length, Bool, true, false, ◌||◌, ◌&&◌, nat_lt}
 use Rattle.task_queue.specs.declared.item.Item.{Item}
 use Rattle.task_queue.specs.Ends.{KeepsOrder, TookAll, WasEmpty}
 use Rattle.port_lanes.specs.Keys.{sender_at}
@@ -14,7 +14,7 @@ use Rattle.served_port.specs.Outcomes.{is_handled}
 use Rattle.recorded_port.specs.View.{RecordedView, state_of}
 use Rattle.recorded_port.specs.Taking.{TellsOf}
 use Rattle.task_queue.specs.Items.{of}
-use Rattle.port_body.specs.LanePort.{LanePortView, IsBody, OwnItems}
+use Rattle.port_body.specs.LanePort.{LanePortView, HasRoom, IsBody, OwnItems}
 
 abbrev pub is_busy_at : LanePortView → Bool
 is_busy_at v = is_busy (state_of v.port).marks
@@ -70,7 +70,7 @@ pub record KnowsLane (v : LanePortView) : Type 0 where
   pub processes : v.processes ≡ v.lane.key.processes
   pub workers : v.workers ≡ v.lane.key.workers
 
--- a task came to its row, and those who may be resumed were. A port that isn't open stays so
+-- A task came to its row, and those who may be resumed were. A port that isn't open stays so. The row took room for three rows, or for one where the task is late
 pub record SettlesOne (old new : LanePortView) (x : Item ParcelView) : Type 0 where
   pub row : Row
   pub behind : List Row
@@ -79,8 +79,10 @@ pub record SettlesOne (old new : LanePortView) (x : Item ParcelView) : Type 0 wh
   pub rest : new ≡ record old { port = new.port }
   pub looked : HasLooked new.port
   pub shut : is_open (state_of old.port) ≡ false → is_open (state_of new.port) ≡ false
+  pub room : (rows : ℕ) → HasRoom (rows + 3) old → HasRoom rows new
+  pub late : is_handled (state_of old.port) (sender_at old.lane.key x.sender) x.value.task.signal ≡ false → (rows : ℕ) → HasRoom (rows + 1) old → HasRoom rows new
 
--- rows came for the first task that waited
+-- rows came for the first task that waited, and there is room for those that still wait
 pub record SettlesFirst (old new : LanePortView) : Type 0 where
   pub behind : List Row
   pub rows : new.port.rows ≡ old.port.rows ++ behind
@@ -89,6 +91,7 @@ pub record SettlesFirst (old new : LanePortView) : Type 0 where
   pub owners : OwnItems new.processes new.waiting.items
   pub looked : HasLooked new.port
   pub shut : is_open (state_of new.port) ≡ false
+  pub room : HasRoom (2 + length new.waiting.items) new
 
 abbrev pub SettlesNext : Bool → LanePortView → LanePortView → Type 0
 SettlesNext true old new = SettlesFirst old new
@@ -111,12 +114,13 @@ pub record Came (v : LanePortView) (x : Item ParcelView) : Type 0 where
   pub next : x.seq ≡ length (of x.sender before)
   pub fits : FitsLane v.lane.key x.sender x.value
 
--- at most a row of a listed sender came, and the port is open and busy as before
+-- at most a row of a listed sender came, and the port is open as before
 pub record ListsSender (old new : LanePortView) : Type 0 where
   pub more : List Row
   pub rows : new.port.rows ≡ old.port.rows ++ more
   pub rest : new ≡ record old { port = new.port }
   pub reason : (state_of new.port).reason ≡ (state_of old.port).reason
+  pub room : (rows : ℕ) → HasRoom (rows + 2) old → HasRoom rows new
 
 -- the item came to its row, or to wait
 pub record Arrives (old new : LanePortView) (x : Item ParcelView) : Type 0 where
@@ -140,13 +144,13 @@ pub record LaneWent (old new : LanePortView) : Type 0 where
   pub lane : new.lane ≡ record old.lane { taken = old.lane.taken ++ item ∷ [] }
   pub went : CameToRow old new item ⊎ CameToWait old new item
 
--- none may go, and the lane was found empty, when all that its ended senders sent had been taken: nothing changed
+-- none may go, and the lane was found empty, when all that its ended senders sent had been taken: nothing changed but the room for rows
 pub record FoundNothing (old new : LanePortView) : Type 0 where
   pub none : NoneGoes (is_busy_at old) old.waiting.items
   pub empty : WasEmpty FitsLane old.lane
   pub all : TookAll old.lane
   pub order : KeepsOrder FitsLane new.lane
-  pub port : new.port ≡ old.port
+  pub port : new.port ≡ record old.port { room = new.port.room }
   pub lane : new.lane ≡ old.lane
   pub waiting : new.waiting.items ≡ old.waiting.items
 

@@ -13,6 +13,14 @@ use crate::{BodyEnd, Driver, Parcel};
 use task_queue::SendEnd;
 
 impl<D: Driver> LanePort<D> {
+    /// Takes in a sending end of the lane.
+    pub(crate) fn take_in(&mut self, end: SendEnd<Parcel>)
+        requires { end.lane ≡ self.old.lane.lane }
+        ensures { self.new ≡ record self.old { lane = record self.old.lane { ended = self.old.lane.ended ++ ended_of end ∷ [] } } }
+    {
+        self.lane.take_in(end);
+    }
+
     /// Whether nothing is wanting at the end of the port's history.
     pub(crate) fn is_finished(&self) -> bool
         requires { IsBody self.now }
@@ -28,7 +36,7 @@ impl<D: Driver> Body<D> {
         requires { end.lane ≡ self.old.lane_port.lane.lane }
         ensures { self.new ≡ record self.old { lane_port = record self.old.lane_port { lane = record self.old.lane_port.lane { ended = self.old.lane_port.lane.ended ++ ended_of end ∷ [] } } } }
     {
-        self.lane_port.lane.take_in(end);
+        self.lane_port.take_in(end);
     }
 
     /// Stops the driver, if it wasn't stopped, where a run ends before its port does. No process is told, and no task is taken any more. It takes no memory.

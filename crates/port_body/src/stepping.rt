@@ -1,9 +1,9 @@
 //! One step: a task that waits and may go, or else the next one of the lane.
-ghost use Rattle.std.specs.Prelude.{◌≡◌, ◌<◌, ◌∷◌, ◌++◌, [], false, IfOk, OnOk};
+ghost use Rattle.std.specs.Prelude.{◌≡◌, ◌<◌, ◌+◌, ◌∷◌, ◌++◌, [], length, false, IfOk, OnOk};
 ghost use Rattle.port_history.specs.State.{is_open};
 ghost use Rattle.port_lanes.specs.Keys.{sender_at};
 ghost use Rattle.recorded_port.specs.View.{state_of};
-ghost use Rattle.port_body.specs.LanePort.{Holds, IsBody, OwnItems};
+ghost use Rattle.port_body.specs.LanePort.{HasRoom, Holds, IsBody, IsSameBut, IsSameLanePort, OwnItems};
 ghost use Rattle.port_body.specs.Steps.{Arrives, Came, HasLooked, KnowsLane, ListsSender, MayGo, Settles, SettlesNext, SettlesOne, SettlesRest, Stepped, must_wait};
 
 use crate::lane_port::LanePort;
@@ -41,6 +41,8 @@ impl<D: Driver> LanePort<D> {
     ) -> Result<(), NoMemory>
         requires holds { Holds self.old (item ∷ self.old.waiting.items) }
         requires free { MayGo self.old item }
+        requires room { HasRoom 3 self.old }
+        ensures same { IsSameLanePort self.old self.new }
         ensures holds { OnOk result (Holds self.new self.new.waiting.items) }
         ensures settles { OnOk result (SettlesOne self.old self.new item) }
     {
@@ -54,6 +56,8 @@ impl<D: Driver> LanePort<D> {
         requires holds { Holds self.old self.old.waiting.items }
         requires closed { is_open (state_of self.old.port) ≡ false }
         requires owners { OwnItems self.old.processes self.old.waiting.items }
+        requires room { HasRoom (2 + length self.old.waiting.items) self.old }
+        ensures same { IsSameLanePort self.old self.new }
         ensures holds { OnOk result (Holds self.new self.new.waiting.items) }
         ensures next { IfOk result (λ went. SettlesNext went self.old self.new) }
     {
@@ -70,6 +74,8 @@ impl<D: Driver> LanePort<D> {
         requires closed { is_open (state_of self.old.port) ≡ false }
         requires owners { OwnItems self.old.processes self.old.waiting.items }
         requires looked { HasLooked self.old.port }
+        requires room { HasRoom (2 + length self.old.waiting.items) self.old }
+        ensures same { IsSameLanePort self.old self.new }
         ensures body { OnOk result (IsBody self.new) }
         ensures rest { OnOk result (SettlesRest self.old self.new) }
     {
@@ -86,6 +92,8 @@ impl<D: Driver> LanePort<D> {
         requires holds { Holds self.old (item ∷ self.old.waiting.items) }
         requires free { MayGo self.old item }
         requires owners { OwnItems self.old.processes self.old.waiting.items }
+        requires room { HasRoom (5 + length self.old.waiting.items) self.old }
+        ensures same { IsSameLanePort self.old self.new }
         ensures body { OnOk result (IsBody self.new) }
         ensures settles { OnOk result (Settles self.old self.new item) }
     {
@@ -98,7 +106,9 @@ impl<D: Driver> LanePort<D> {
 
     /// Lists the sender of a task that was just taken, if the task suspends it.
     fn list_sender(&mut self, item: &Item<Parcel>) -> Result<(), NoMemory>
-        requires { Came self.old item.now }
+        requires came { Came self.old item.now }
+        requires room { HasRoom 2 self.old }
+        ensures same { IsSameLanePort self.old self.new }
         ensures holds { OnOk result (Holds self.new (self.new.waiting.items ++ item.now ∷ [])) }
         ensures lists { OnOk result (ListsSender self.old self.new) }
     {
@@ -108,7 +118,7 @@ impl<D: Driver> LanePort<D> {
         match self.sender_at(item.sender) {
             Sender::Process(process) => self.port.list(process, item.seq),
             // Only processes send commands, and nothing else suspends.
-            Sender::Poller | Sender::Worker(_) | Sender::Timer => unreachable!(),
+            Sender::Poller | Sender::Worker(_) | Sender::Timer => Err(NoMemory),
         }
     }
 
@@ -128,7 +138,9 @@ impl<D: Driver> LanePort<D> {
     /// A task that was just taken from the lane: its sender is listed if it suspends, who may be resumed is, and it waits or comes to its row.
     fn arrive<R: Wait>(&mut self, rt: &R, alloc: Global, item: Item<Parcel>) -> Result<(), NoMemory>
         requires came { Came self.old item }
-        requires room { 0 < self.old.waiting.room }
+        requires place { 0 < self.old.waiting.room }
+        requires room { HasRoom (7 + length self.old.waiting.items) self.old }
+        ensures same { IsSameLanePort self.old self.new }
         ensures body { OnOk result (IsBody self.new) }
         ensures arrives { OnOk result (Arrives self.old self.new item) }
     {
@@ -143,27 +155,30 @@ impl<D: Driver> LanePort<D> {
 
     /// Makes room for the rows of a step, and a place for a task to wait.
     ///
-    /// At most one task comes to three rows, a row and two marks. Before it one sender may be listed, and each of those who are listed, at most all processes, may be
-    /// resumed. Behind it each task that waits may come to one row.
+    /// One task comes to a row and at most two marks. Before it one sender may be listed, and each that is listed may be resumed. Behind it each task that waits may
+    /// come to a row, where the next one is taken in as if it came to three.
     fn reserve(&mut self) -> Result<(), NoMemory>
-        ensures waits { OnOk result (0 < self.new.waiting.room) }
-        ensures same { self.new ≡ record self.old { waiting = self.new.waiting } }
-        ensures items { self.new.waiting.items ≡ self.old.waiting.items }
-        ensures senders { self.new.waiting.senders ≡ self.old.waiting.senders }
+        requires { IsBody self.old }
+        ensures place { OnOk result (0 < self.new.waiting.room) }
+        ensures room { OnOk result (HasRoom (7 + length self.old.waiting.items) self.new) }
+        ensures same { IsSameBut self.old self.new }
     {
         self.waiting.reserve()?;
-        let most = (self.processes as usize).saturating_add(self.waiting.len());
-        self.port.reserve(most.saturating_add(4))
+        let Some(rows) = self.waiting.len().checked_add(7) else {
+            return Err(NoMemory);
+        };
+        self.port.reserve(rows)
     }
 
-    /// Makes one step: the first task that waits and may go comes to its row, and where none may, the next one of the lane comes to its row or to wait. False exactly where
-    /// none may go and the lane was found empty.
-    pub(crate) fn step<R: Wait>(&mut self, rt: &R, alloc: Global) -> Result<bool, NoMemory>
-        requires { IsBody self.old }
+    /// Brings the task that goes next to its row or to wait. False exactly where none of those that wait may go and the lane was found empty.
+    fn take_next<R: Wait>(&mut self, rt: &R, alloc: Global) -> Result<bool, NoMemory>
+        requires body { IsBody self.old }
+        requires place { 0 < self.old.waiting.room }
+        requires room { HasRoom (7 + length self.old.waiting.items) self.old }
+        ensures same { IsSameLanePort self.old self.new }
         ensures body { OnOk result (IsBody self.new) }
         ensures stepped { IfOk result (λ did. Stepped did self.old self.new) }
     {
-        self.reserve()?;
         if let Some(item) = self.waiting.take_first(self.port.is_busy()) {
             self.settle(rt, alloc, item)?;
             return Ok(true);
@@ -173,5 +188,17 @@ impl<D: Driver> LanePort<D> {
         };
         self.arrive(rt, alloc, item)?;
         Ok(true)
+    }
+
+    /// Makes one step: the first task that waits and may go comes to its row, and where none may, the next one of the lane comes to its row or to wait. False exactly where
+    /// none may go and the lane was found empty.
+    pub(crate) fn step<R: Wait>(&mut self, rt: &R, alloc: Global) -> Result<bool, NoMemory>
+        requires { IsBody self.old }
+        ensures same { IsSameLanePort self.old self.new }
+        ensures body { OnOk result (IsBody self.new) }
+        ensures stepped { IfOk result (λ did. Stepped did self.old self.new) }
+    {
+        self.reserve()?;
+        self.take_next(rt, alloc)
     }
 }

@@ -1,8 +1,8 @@
 //! Turns: chains of steps.
-ghost use Rattle.std.specs.Prelude.{◌≡◌, false};
+ghost use Rattle.std.specs.Prelude.{◌≡◌, ◌≢◌, false};
 ghost use Rattle.recorded_port.specs.View.{is_finished, state_of};
-ghost use Rattle.port_body.specs.LanePort.{IsBody};
-ghost use Rattle.port_body.specs.Turns.{IsSameLanePort, MakesSteps, Turned, leaves_body};
+ghost use Rattle.port_body.specs.LanePort.{IsBody, IsSameLanePort};
+ghost use Rattle.port_body.specs.Turns.{MakesSteps, Turned};
 
 use crate::body::Body;
 use crate::lane_port::LanePort;
@@ -16,7 +16,7 @@ impl<D: Driver> LanePort<D> {
         requires { IsBody self.old }
         ensures same { IsSameLanePort self.old self.new }
         ensures steps { MakesSteps result max self.old self.new }
-        ensures body { leaves_body result → IsBody self.new }
+        ensures body { result ≢ Turn.NoMemory → IsBody self.new }
     {
         for _ in 0..max {
             match self.step(rt, alloc) {
@@ -45,9 +45,9 @@ impl<D: Driver> Body<D> {
         let turn = self.lane_port.make_steps(rt, self.alloc, max);
         if turn == Turn::NoMemory {
             self.broken = true;
-        } else {
-            self.finished = self.lane_port.is_finished();
+            return Turn::NoMemory;
         }
+        self.finished = self.lane_port.is_finished();
         turn
     }
 

@@ -8,7 +8,8 @@ use Rattle.driver_model.specs.Calls.{DriverCall}
 use Rattle.driver_model.specs.Drivers.{held_events}
 use Rattle.driver_model.specs.Same.{same_effects}
 use Rattle.port_driver.specs.Driven.{Stands}
-use Rattle.port_driver.specs.declared.life.Life.TheVariants.{Started, Stopped}
+use Rattle.port_driver.specs.declared.life.Life.{Life}
+use Rattle.port_driver.specs.declared.life.Life.TheVariants.{Fresh, Started, Stopped}
 use Rattle.port_history.specs.Opening.{Opening, Taken, taken_of}
 use Rattle.port_history.specs.Marks.{busy_after, busy_marks, closed_marks, is_busy}
 use Rattle.port_history.specs.Service.{callback_of, caller_of, calls_by, effects_after, first_reason, flush_calls, must_stop, stop_calls}
@@ -199,3 +200,8 @@ pub stands-with : (port : Opening) (calls : List DriverCall) (own : _) (program 
     → Stands port.kind port.config calls own program (standing next (held_events port.kind port.config calls) queue)
     → SameEvents held (held_events port.kind port.config calls) → Stands port.kind port.config calls own program (standing next held queue)
 stands-with port calls own program next held queue stands same = record { holds = stands.holds; jobs = stands.jobs; events = same; told = stands.told }
+
+-- a driver that was called isn't fresh
+pub not-fresh : (stops : Bool) (stage : Life) → stage ≡ (if stops then Stopped else Started) → stage ≡ Fresh → ⊥
+not-fresh true stage e fresh = absurd (let two : Stopped ≡ Fresh = sym e ∙ fresh in cc)
+not-fresh false stage e fresh = absurd (let two : Started ≡ Fresh = sym e ∙ fresh in cc)

@@ -1,4 +1,4 @@
-ghost use Rattle.std.specs.Prelude.{◌≡◌, ◌<◌, ◌++◌, ◌∷◌, ◌↔◌, [], List, true, false, not, IsTrue, IfOk, IfSome, IfNone, slice_get};
+ghost use Rattle.std.specs.Prelude.{◌≡◌, ◌<◌, ◌≤◌, ◌++◌, ◌∷◌, ◌↔◌, [], List, true, false, not, IsTrue, IfOk, IfSome, IfNone, length, slice_get};
 ghost use Rattle.port_model.specs.declared.signal.Sender.TheVariants.{Process};
 ghost use Rattle.port_history.specs.Suspension.{Entry as HistoryEntry, entry, has_sender, is_first, without_entry};
 ghost use Rattle.suspend_list.specs.Entries.{suspended};
@@ -40,6 +40,14 @@ impl Suspension {
             list: SuspendList::new(alloc, processes)?,
             is_listed: vec![in alloc; false; processes as usize]?,
         })
+    }
+
+    /// How many processes there are, of each of which at most one task is listed.
+    pub fn places(&self) -> usize
+        ensures places { result ≡ self.now.places }
+        ensures few { length self.now.entries ≤ self.now.places }
+    {
+        self.is_listed.len()
     }
 
     /// Lists a task that suspends its sender, behind the others. False exactly where a task of this process is listed already,

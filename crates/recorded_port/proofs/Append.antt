@@ -139,6 +139,20 @@ due-first Free (Free ∷ due) busy e c = c
 due-first Free (Closed ∷ due) busy e c = absurd cc
 due-first Closed due busy e c = tt
 
+pub due-kind : (kind : MarkKind) (due : List MarkKind) → is_due kind due ≡ true → due ≡ kind ∷ drop 1 due
+due-kind Busy [] e = absurd cc
+due-kind Busy (Busy ∷ due) e = refl
+due-kind Busy (Free ∷ due) e = absurd cc
+due-kind Busy (Closed ∷ due) e = absurd cc
+due-kind Free [] e = absurd cc
+due-kind Free (Busy ∷ due) e = absurd cc
+due-kind Free (Free ∷ due) e = refl
+due-kind Free (Closed ∷ due) e = absurd cc
+due-kind Closed [] e = absurd cc
+due-kind Closed (Busy ∷ due) e = absurd cc
+due-kind Closed (Free ∷ due) e = absurd cc
+due-kind Closed (Closed ∷ due) e = refl
+
 pub mark-row : (port : Opening) (rows : List Row) (old new : RecordedView) (mid : ServedView) (kind : MarkKind) (left : List ℕ)
     → Records port rows old left → is_due kind (state port rows).due ≡ true → IsAt mid port (after port (state port rows) (Mark kind))
     → mid.events ≡ old.port.events → mid.jobs ≡ old.port.jobs

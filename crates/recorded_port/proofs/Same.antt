@@ -1,6 +1,7 @@
 -- What stays the same of a port.
-use Rattle.std.proofs.Common.{◌≡◌, ℕ, Bool, true, false, List, [], length, Some, None, refl, sym, ap, ◌∙◌, subst, arith}
+use Rattle.std.proofs.Common.{◌≡◌, ℕ, Bool, true, false, List, [], ◌∷◌, ◌++◌, ◌+◌, length, length-append, Some, None, refl, sym, ap, ◌∙◌, subst, arith}
 use Rattle.std.specs.Prelude.{Result, Ok, Err, OnOk, not, if◌then◌else◌}
+use Rattle.std.proofs.lemmas.List.{append-nil, append_assoc}
 use Rattle.driver_model.specs.Calls.{Kind}
 use Rattle.port_model.specs.declared.row.Row.{Row}
 use Rattle.port_events.specs.Table.{EventTable}
@@ -8,16 +9,17 @@ use Rattle.port_history.specs.Mail.{Sent}
 use Rattle.port_history.specs.Opening.{Opening}
 use Rattle.port_history.specs.State.{State, state_at_start, is_open}
 use Rattle.port_mail.specs.Ends.{MailEnd, Puts, Posts}
-use Rattle.served_port.specs.View.{ServedView, IsSameServed}
+use Rattle.served_port.specs.View.{ServedView, IsSameServed, end_name, end_names}
+use Rattle.served_port.proofs.EndNames.{names_by_place}
 use Rattle.recorded_port.specs.View.{RecordedView}
-use Rattle.recorded_port.specs.Taking.{IsSameRecorded}
+use Rattle.recorded_port.specs.Taking.{GrewTo, IsSameRecorded, UsesRoom}
 
 pub on-ok : {T E : Type 0} (r : Result T E) {P Q : Type 0} → (P → Q) → OnOk r P → OnOk r Q
 on-ok (Ok value) f p = f p
 on-ok (Err error) f p = tt
 
 pub served-refl : (v : ServedView) → IsSameServed v v
-served-refl v = record { state = record { number = refl; processes = refl; kind = refl }; faults = omega (arith); events = refl; jobs = refl }
+served-refl v = record { state = record { number = refl; processes = refl; kind = refl }; faults = omega (arith); life = λ fresh. fresh; events = refl; jobs = refl; pool = refl }
 
 pub served-trans : (a b c : ServedView) → IsSameServed a b → IsSameServed b c → IsSameServed a c
 served-trans a b c p q = record {
@@ -25,14 +27,30 @@ served-trans a b c p q = record {
   faults = let m = p.faults in let n = q.faults in omega (arith);
   events = q.events ∙ ap (λ (e : EventTable). record e { selector = c.events.selector; asks = record e.asks { sent = c.events.asks.sent } }) p.events;
   jobs = q.jobs ∙ p.jobs;
+  life = λ fresh. p.life (q.life fresh);
+  pool = q.pool ∙ p.pool;
 }
 
+pub grew-none : (rows : List Row) → GrewTo rows rows
+grew-none rows = record { more = []; rows = sym (append-nil rows) }
+
+pub grew-one : (rows : List Row) (row : Row) → GrewTo rows (rows ++ row ∷ [])
+grew-one rows row = record { more = row ∷ []; rows = refl }
+
+grew-trans : (a b c : List Row) → GrewTo a b → GrewTo b c → GrewTo a c
+grew-trans a b c p q = record { more = p.more ++ q.more; rows = q.rows ∙ (ap (λ x. x ++ q.more) p.rows ∙ append_assoc a p.more q.more) }
+
+-- a row takes a place for which there was room
+pub row-room : (old new : RecordedView) (row : Row) → new.rows ≡ old.rows ++ row ∷ [] → new.room + 1 ≡ old.room → UsesRoom old new
+row-room old new row rows less = let more = ap length rows ∙ length-append old.rows (row ∷ []) in omega (arith, less, more)
+
 pub same-refl : (v : RecordedView) → IsSameRecorded v v
-same-refl v = record { opening = refl; port = served-refl v.port; ends = refl; table = refl; places = refl }
+same-refl v = record { opening = refl; rows = grew-none v.rows; port = served-refl v.port; ends = refl; table = refl; places = refl }
 
 pub same-trans : (a b c : RecordedView) → IsSameRecorded a b → IsSameRecorded b c → IsSameRecorded a c
 same-trans a b c p q = record {
   opening = q.opening ∙ p.opening;
+  rows = grew-trans a.rows b.rows c.rows p.rows q.rows;
   port = served-trans a.port b.port c.port p.port q.port;
   ends = q.ends ∙ p.ends;
   table = q.table ∙ p.table;
@@ -40,12 +58,18 @@ same-trans a b c p q = record {
 }
 
 -- rows and mail alone came to it
-pub same-written : (old new : RecordedView) (rows : List Row) (ends : List MailEnd) → new ≡ record old { rows = rows; ends = ends } → length ends ≡ length old.ends → IsSameRecorded old new
-same-written old new rows ends e count = subst (λ x. IsSameRecorded old x) (sym e) (record { opening = refl; port = served-refl old.port; ends = count; table = refl; places = refl })
+pub same-written : (old new : RecordedView) (row : Row) (room : ℕ) (ends : List MailEnd) → new ≡ record old { rows = old.rows ++ row ∷ []; room = room; ends = ends }
+    → end_names ends ≡ end_names old.ends → IsSameRecorded old new
+same-written old new row room ends e names =
+    subst (λ x. IsSameRecorded old x) (sym e)
+    (record { opening = refl; rows = grew-one old.rows row; port = served-refl old.port; ends = names; table = refl; places = refl })
 
-pub puts-count : {T E : Type 0} (r : Result T E) (ended : List ℕ) (old new : List MailEnd) (sent : List Sent) → Puts r ended old new sent → length new ≡ length old
-puts-count (Ok value) ended old new sent p = p.processes
-puts-count (Err error) ended old new sent p = p.posted.processes
+posted-names : (ended : List ℕ) (old new : List MailEnd) (sent : List Sent) → Posts ended old new sent → end_names new ≡ end_names old
+posted-names ended old new sent p = names_by_place old new p.processes (λ n e less. ap end_name (p.ends n e less))
+
+pub put-names : {T E : Type 0} (r : Result T E) (ended : List ℕ) (old new : List MailEnd) (sent : List Sent) → Puts r ended old new sent → end_names new ≡ end_names old
+put-names (Ok value) ended old new sent p = posted-names ended old new sent p
+put-names (Err error) ended old new sent p = posted-names ended old new p.first p.posted
 
 -- some state of a port that is open or not
 abbrev pub state-with : Opening → Bool → State

@@ -1,5 +1,5 @@
 -- Rows that came behind the others, and a port at its start.
-use Rattle.std.proofs.Common.{◌≡◌, ℕ, ◌<◌, map, true, List, [], ◌∷◌, ◌++◌, length, sym, ap, ◌∙◌, subst, arith}
+use Rattle.std.proofs.Common.{◌≡◌, ℕ, ◌<◌, ◌≤◌, map, true, List, [], ◌∷◌, ◌++◌, length, length-append, sym, ap, ◌∙◌, subst, arith}
 use Rattle.std.specs.Prelude.{All, reverse, slice_index_or}
 use Rattle.std.proofs.lemmas.List.{length-map, length-reverse}
 use Rattle.std.proofs.lemmas.List.Elements.{All-get_or}
@@ -15,7 +15,10 @@ use Rattle.port_suspension.specs.Listed.{AgreesListed}
 use Rattle.served_port.specs.Openings.{IsAtStart}
 use Rattle.recorded_port.specs.declared.parts.PortOutlets.{PortOutlets}
 use Rattle.port_words.specs.declared.busy.view.AddName.{AddName}
+use Rattle.port_model.specs.declared.row.Row.TheVariants.{Resumed}
 use Rattle.recorded_port.specs.Asks.{start_asks}
+use Rattle.recorded_port.specs.Resuming.{ResumesFirst}
+use Rattle.recorded_port.specs.Taking.{UsesRoom}
 use Rattle.recorded_port.specs.Openings.{AreUnused}
 use Rattle.recorded_port.specs.View.{RecordedView, Records, IsRecorded, IsSettled, CanMark, CanChange, removed_sizes, state_of, stat_mark}
 use Rattle.recorded_port.proofs.Append.{rows-more, due-first, marks-below}
@@ -75,3 +78,10 @@ opened v port outlets o r start places listed ends seat unused = record {
   }));
   none_due = ap (λ x. (state x (reverse v.rows)).due) o ∙ ap (λ x. (state port (reverse x)).due) r;
 }
+
+-- the one that is resumed takes the place that there was for it
+pub next-room : (old new : RecordedView) (word : ℕ) → ResumesFirst old new word → UsesRoom old new → length (state_of old).listed ≤ old.room → length (state_of new).listed ≤ new.room
+next-room old new word first uses enough =
+    let listed = ap length first.listed in
+    let rows = ap length first.rows ∙ length-append old.rows (Resumed first.first.from first.first.seq word ∷ []) in
+    omega (arith, listed, rows, uses, enough)

@@ -1,7 +1,7 @@
 -- The row of a task, and the marks behind it.
-use Rattle.std.proofs.Common.{◌≡◌, ℕ, Bool, true, false, List, [], ◌∷◌, ◌++◌, drop, map, refl, sym, ap, ◌∙◌, subst, inl, inr}
+use Rattle.std.proofs.Common.{◌≡◌, ℕ, Bool, true, false, List, [], ◌∷◌, ◌++◌, drop, length, map, true≢false, refl, sym, ap, ◌∙◌, subst, inl, inr}
 use Rattle.std.specs.Prelude.{reverse}
-use Rattle.std.proofs.lemmas.List.{append_assoc}
+use Rattle.std.proofs.lemmas.List.{append-nil, append_assoc}
 use Rattle.port_signal.specs.declared.row.MarkKind.{MarkKind}
 use Rattle.port_words.specs.busy.Known.{PortKnown, port_known}
 use Rattle.port_words.specs.busy.Steps.{marked}
@@ -25,7 +25,7 @@ use Rattle.recorded_port.specs.Asks.{GaveJobs, command_sizes}
 use Rattle.recorded_port.specs.Resuming.{ResumesFirst, may_go, resumed_rows}
 use Rattle.recorded_port.specs.View.{RecordedView, Records, IsRecorded, IsSettled, stat_mark, state_of}
 use Rattle.recorded_port.specs.Taking.{MayWrite, WritesTask, WritesMark, WritesNext, WritesMarks}
-use Rattle.recorded_port.proofs.Append.{handled-row, late-row, mark-row, resumed-row}
+use Rattle.recorded_port.proofs.Append.{due-kind, handled-row, late-row, mark-row, resumed-row}
 use Rattle.recorded_port.proofs.RowParts.{HasMail}
 use Rattle.recorded_port.proofs.Settled.{recorded-more, settled-more, state-more}
 
@@ -33,6 +33,7 @@ use Rattle.recorded_port.proofs.Settled.{recorded-more, settled-more, state-more
 pub record Between (old mid : RecordedView) (port : ServedView) : Type 0 where
   pub opening : mid.opening ≡ old.opening
   pub rows : mid.rows ≡ old.rows
+  pub room : mid.room ≡ old.room
   pub port_is : mid.port ≡ port
   pub ends : mid.ends ≡ old.ends
   pub seat : mid.seat ≡ old.seat
@@ -40,7 +41,7 @@ pub record Between (old mid : RecordedView) (port : ServedView) : Type 0 where
 
 pub handled-task : (old mid new : RecordedView) (port : ServedView) (from : Sender) (seq : ℕ) (task : TaskView) (made : Served)
     → IsSettled old → MayWrite old from seq task → IsHandledRow old.opening (state_of old) from seq task made old.port port → Between old mid port
-    → new ≡ record mid { rows = mid.rows ++ Handled from seq task made.outside made.effects ∷ []; ends = new.ends }
+    → new ≡ record mid { rows = mid.rows ++ Handled from seq task made.outside made.effects ∷ []; room = new.room; ends = new.ends }
     → Posts mid.port.state.links.ties.ended mid.ends new.ends (handled_mail mid.opening (state_of old) (taken_of from seq task made.outside made.effects))
     → WritesTask old new from seq task
 handled-task old mid new port from seq task made settled may row b e posts =
@@ -54,6 +55,7 @@ handled-task old mid new port from seq task made settled may row b e posts =
       row = h;
       tells = inr (made.outside, made.effects, refl);
       rows = rows;
+      quiet = λ late. absurd (true≢false (sym row.handled ∙ late));
       recorded = recorded-more old new h (command_sizes task.signal) (ap (λ (v : RecordedView). v.opening) e ∙ b.opening) rows
           (handled-row old.opening (reverse old.rows) old new port from seq task made settled.recorded settled.none_due row may.next may.free may.listed
           (ap (λ (v : RecordedView). v.port) e ∙ b.port_is) (ap (λ (v : RecordedView). v.suspended) e ∙ b.suspended) (ap (λ (v : RecordedView). v.seat) e ∙ b.seat) sent);
@@ -63,7 +65,7 @@ handled-task old mid new port from seq task made settled may row b e posts =
 
 pub late-task : (old mid new : RecordedView) (port : ServedView) (from : Sender) (seq : ℕ) (task : TaskView)
     → IsSettled old → MayWrite old from seq task → IsLateRow old.opening (state_of old) from seq task old.port port → Between old mid port
-    → new ≡ record mid { rows = mid.rows ++ Late from seq task ∷ []; ends = new.ends }
+    → new ≡ record mid { rows = mid.rows ++ Late from seq task ∷ []; room = new.room; ends = new.ends }
     → Posts mid.port.state.links.ties.ended mid.ends new.ends (row_mail mid.opening (state_of old) (Late from seq task))
     → WritesTask old new from seq task
 late-task old mid new port from seq task settled may row b e posts =
@@ -76,6 +78,7 @@ late-task old mid new port from seq task settled may row b e posts =
       row = h;
       tells = inl refl;
       rows = rows;
+      quiet = λ late. ap (λ (x : State). x.due) (state-more old new h (ap (λ (v : RecordedView). v.opening) e ∙ b.opening) rows) ∙ settled.none_due;
       recorded = recorded-more old new h (command_sizes task.signal) (ap (λ (v : RecordedView). v.opening) e ∙ b.opening) rows
           (late-row old.opening (reverse old.rows) old new port from seq task settled.recorded settled.none_due row may.next may.listed
           (ap (λ (v : RecordedView). v.port) e ∙ b.port_is) (ap (λ (v : RecordedView). v.suspended) e ∙ b.suspended) (ap (λ (v : RecordedView). v.seat) e ∙ b.seat) sent);
@@ -85,24 +88,40 @@ late-task old mid new port from seq task settled may row b e posts =
 
 pub written-two : (b : Bool) (old mid new : RecordedView) (left : List ℕ) → drop 1 (drop 1 (state_of old).due) ≡ [] → WritesMark old mid left → WritesNext b mid new left
     → WritesMarks old new left
-written-two true old mid new left most first second = record {
-  recorded = second.recorded;
-  none_due = second.due ∙ (ap (λ x. drop 1 x) first.due ∙ most);
-  marks = first.kind ∷ second.kind ∷ [];
-  rows = second.rows ∙ (ap (λ x. x ++ Mark second.kind ∷ []) first.rows ∙ append_assoc old.rows (Mark first.kind ∷ []) (Mark second.kind ∷ []));
-  suspended = second.suspended ∙ first.suspended;
-}
+written-two true old mid new left most first second =
+    let two : (state_of old).due ≡ first.kind ∷ second.kind ∷ (state_of new).due = first.due ∙ ap (λ x. first.kind ∷ x) second.due in
+    let none : (state_of new).due ≡ [] = sym (ap (λ x. drop 1 (drop 1 x)) two) ∙ most in
+    record {
+      recorded = second.recorded;
+      none_due = none;
+      marks = first.kind ∷ second.kind ∷ [];
+      many = sym (ap length (two ∙ ap (λ x. first.kind ∷ second.kind ∷ x) none));
+      rows = second.rows ∙ (ap (λ x. x ++ Mark second.kind ∷ []) first.rows ∙ append_assoc old.rows (Mark first.kind ∷ []) (Mark second.kind ∷ []));
+      suspended = second.suspended ∙ first.suspended;
+    }
 written-two false old mid new left most first second = record {
   recorded = subst (λ v. IsRecorded v left) (sym second.1) first.recorded;
   none_due = ap (λ (v : RecordedView). (state_of v).due) second.1 ∙ second.0;
   marks = first.kind ∷ [];
+  many = sym (ap length (first.due ∙ ap (λ x. first.kind ∷ x) second.0));
   rows = ap (λ (v : RecordedView). v.rows) second.1 ∙ first.rows;
   suspended = ap (λ (v : RecordedView). v.suspended) second.1 ∙ first.suspended;
 }
 
+-- none was due
+pub written-none : (old new : RecordedView) (left : List ℕ) → IsRecorded old left → WritesNext false old new left → WritesMarks old new left
+written-none old new left recorded none = record {
+  recorded = subst (λ v. IsRecorded v left) (sym none.1) recorded;
+  none_due = ap (λ (v : RecordedView). (state_of v).due) none.1 ∙ none.0;
+  marks = [];
+  many = sym (ap length none.0);
+  rows = ap (λ (v : RecordedView). v.rows) none.1 ∙ sym (append-nil old.rows);
+  suspended = ap (λ (v : RecordedView). v.suspended) none.1;
+}
+
 pub marked-row : (old mid new : RecordedView) (port : ServedView) (kind : MarkKind) (left : List ℕ) → IsRecorded old left → is_due kind (state_of old).due ≡ true
     → IsAt port old.opening (after old.opening (state_of old) (Mark kind)) → port.events ≡ old.port.events → port.jobs ≡ old.port.jobs → Between old mid port
-    → new ≡ record mid { rows = mid.rows ++ Mark kind ∷ []; seat = port_known mid.seat.table (marked mid.seat.known (stat_mark kind)) }
+    → new ≡ record mid { rows = mid.rows ++ Mark kind ∷ []; room = new.room; seat = port_known mid.seat.table (marked mid.seat.known (stat_mark kind)) }
     → WritesMark old new left
 marked-row old mid new port kind left recorded due at ev jb b e =
     let rows = ap (λ (v : RecordedView). v.rows) e ∙ ap (λ x. x ++ Mark kind ∷ []) b.rows in
@@ -114,7 +133,7 @@ marked-row old mid new port kind left recorded due at ev jb b e =
           (ap (λ (v : RecordedView). v.suspended) e ∙ b.suspended) (ap (λ (v : RecordedView). v.ends) e ∙ b.ends)
           (ap (λ (v : RecordedView). v.seat.known.marks) e ∙ ap (λ (x : PortKnown). x.known.marks ++ stat_mark kind ∷ []) b.seat)
           (ap (λ (v : RecordedView). v.seat.known.removed) e ∙ ap (λ (x : PortKnown). x.known.removed) b.seat));
-      due = ap (λ (x : State). x.due) (state-more old new (Mark kind) opening rows);
+      due = due-kind kind (state_of old).due due ∙ sym (ap (λ (x : State). kind ∷ x.due) (state-more old new (Mark kind) opening rows));
       rows = rows;
       suspended = ap (λ (v : RecordedView). v.suspended) e ∙ b.suspended;
     }
@@ -123,6 +142,7 @@ marked-row old mid new port kind left recorded due at ev jb b e =
 pub record BetweenLists (old mid : RecordedView) : Type 0 where
   pub opening : mid.opening ≡ old.opening
   pub rows : mid.rows ≡ old.rows
+  pub room : mid.room ≡ old.room
   pub port : mid.port ≡ old.port
   pub ends : mid.ends ≡ old.ends
   pub seat : mid.seat ≡ old.seat
@@ -136,7 +156,7 @@ pub record WasResumed (old new : RecordedView) (word : ℕ) : Type 0 where
 pub resumed-first : (old mid new : RecordedView) (process seq word : ℕ) → IsSettled old → is_first (entry (Process process) seq) (state_of old).listed ≡ true
     → may_go (state_of old) word ≡ true → (state_of old).listed ≡ entry (Process process) seq ∷ without_entry (entry (Process process) seq) (state_of old).listed
     → AgreesListed mid.suspended (without_entry (entry (Process process) seq) (state_of old).listed) → BetweenLists old mid
-    → new ≡ record mid { rows = mid.rows ++ Resumed (Process process) seq word ∷ []; ends = new.ends }
+    → new ≡ record mid { rows = mid.rows ++ Resumed (Process process) seq word ∷ []; room = new.room; ends = new.ends }
     → Posts mid.port.state.links.ties.ended mid.ends new.ends (row_mail mid.opening (state_of old) (Resumed (Process process) seq word))
     → WasResumed old new word
 resumed-first old mid new process seq word settled first goes listed agrees b e posts =

@@ -1,5 +1,5 @@
 -- What has to hold of a task that a port takes in, and what that adds to its rows.
-use Rattle.std.specs.Prelude.{◌≡◌, ◌⊎◌, ℕ, List, [], ◌∷◌, ◌++◌, length, map, drop, Bool, true, false, ◌&&◌, IfSome, Option, Some, None}
+use Rattle.std.specs.Prelude.{◌≡◌, ◌⊎◌, ◌+◌, ◌≤◌, ℕ, List, [], ◌∷◌, ◌++◌, length, map, Bool, true, false, ◌&&◌, IfSome, Option, Some, None}
 use Rattle.port_words.specs.busy.Known.{WeightKnown}
 use Rattle.port_lanes.specs.Parcels.{ParcelView}
 use Rattle.port_links.specs.Table.{IsAmong}
@@ -34,12 +34,14 @@ pub record MayTake (v : RecordedView) (from : Sender) (seq : ℕ) (parcel : Parc
 abbrev pub TellsOf : Row → Sender → ℕ → TaskView → Type 0
 TellsOf row from seq task = (row ≡ Late from seq task) ⊎ ((outside : List Outside) × (effects : List Effect) × (row ≡ Handled from seq task outside effects))
 
--- its row came behind the others, and then its marks
+-- its row came behind the others, and then its marks: at most two, and none where the task is late
 pub record Takes (old new : RecordedView) (from : Sender) (seq : ℕ) (task : TaskView) : Type 0 where
   pub row : Row
   pub marks : List MarkKind
   pub tells : TellsOf row from seq task
   pub rows : new.rows ≡ old.rows ++ row ∷ map Mark marks
+  pub few : length marks ≤ 2
+  pub quiet : is_handled (state_of old) from task.signal ≡ false → marks ≡ []
   pub suspended : new.suspended ≡ old.suspended
 
 -- these rows came behind the others
@@ -47,7 +49,7 @@ pub record GrewTo (old new : List Row) : Type 0 where
   pub more : List Row
   pub rows : new ≡ old ++ more
 
--- the same port, with the same ends and words, of which the rows alone grew, and what its ends sent
+-- the same port, with the same ends and words, of which the rows grew, and what its ends sent
 pub record IsSameRecorded (old new : RecordedView) : Type 0 where
   pub opening : new.opening ≡ old.opening
   pub rows : GrewTo old.rows new.rows
@@ -56,11 +58,16 @@ pub record IsSameRecorded (old new : RecordedView) : Type 0 where
   pub table : new.seat.table ≡ old.seat.table
   pub places : new.suspended.places ≡ old.suspended.places
 
--- the task's row is written: its marks are due, and a command's bytes are still in the message queue
+-- the rows that came took places for which there was room
+abbrev pub UsesRoom : RecordedView → RecordedView → Type 0
+UsesRoom old new = new.room + length new.rows ≡ old.room + length old.rows
+
+-- the task's row is written: its marks are due, none where it is late, and a command's bytes are still in the message queue
 pub record WritesTask (old new : RecordedView) (from : Sender) (seq : ℕ) (task : TaskView) : Type 0 where
   pub row : Row
   pub tells : TellsOf row from seq task
   pub rows : new.rows ≡ old.rows ++ row ∷ []
+  pub quiet : is_handled (state_of old) from task.signal ≡ false → (state_of new).due ≡ []
   pub recorded : IsRecorded new (command_sizes task.signal)
   pub suspended : new.suspended ≡ old.suspended
   pub seat : new.seat ≡ old.seat
@@ -69,7 +76,7 @@ pub record WritesTask (old new : RecordedView) (from : Sender) (seq : ℕ) (task
 pub record WritesMark (old new : RecordedView) (left : List ℕ) : Type 0 where
   pub kind : MarkKind
   pub recorded : IsRecorded new left
-  pub due : (state_of new).due ≡ drop 1 (state_of old).due
+  pub due : (state_of old).due ≡ kind ∷ (state_of new).due
   pub rows : new.rows ≡ old.rows ++ Mark kind ∷ []
   pub suspended : new.suspended ≡ old.suspended
 
@@ -83,6 +90,7 @@ pub record WritesMarks (old new : RecordedView) (left : List ℕ) : Type 0 where
   pub recorded : IsRecorded new left
   pub none_due : (state_of new).due ≡ []
   pub marks : List MarkKind
+  pub many : length marks ≡ length (state_of old).due
   pub rows : new.rows ≡ old.rows ++ map Mark marks
   pub suspended : new.suspended ≡ old.suspended
 

@@ -20,11 +20,12 @@ use Rattle.served_port.specs.View.{ServedView, IsAt}
 use Rattle.recorded_port.specs.Laws.{IsLawful}
 use Rattle.recorded_port.specs.Asks.{asks, GaveJobs, removals}
 
--- what was fixed at its opening, its rows, oldest first, the port with its driver, its ends into the mailboxes by the numbers of the processes, the seat of
+-- what was fixed at its opening, its rows, oldest first, for how many more of them there is room, the port with its driver, its ends into the mailboxes by the numbers of the processes, the seat of
 -- its words, and the senders that it suspended
 pub record RecordedView : Type 0 where
   pub opening : Opening
   pub rows : List Row
+  pub room : ℕ
   pub port : ServedView
   pub ends : List MailEnd
   pub seat : PortKnown

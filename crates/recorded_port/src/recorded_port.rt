@@ -15,11 +15,12 @@ pub struct RecordedPort<D: Driver> {
     pub(crate) mailboxes: Mailboxes,
     pub(crate) seat: PortSeat,
     pub(crate) suspension: Suspension,
-    // Oldest first.
+    // Oldest first, at most 2^60.
     pub(crate) rows: Vec<Row>,
 }
 
 impl<D: Driver> Model for RecordedPort<D> {
+    ghost use Rattle.std.specs.Prelude.{◌-◌, ◌^◌, min, vec_capacity, vec_len};
     ghost use Rattle.recorded_port.specs.View.{RecordedView};
 
     ghost Value = { RecordedView };
@@ -35,6 +36,7 @@ impl<D: Driver> Model for RecordedPort<D> {
         write = p.fixed.write;
       };
       rows = p.rows.items;
+      room = min (vec_capacity p.rows) (2 ^ 60) - vec_len p.rows;
       port = p.port;
       ends = p.mailboxes;
       seat = p.seat;

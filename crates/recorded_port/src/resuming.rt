@@ -1,12 +1,12 @@
 //! Senders that are suspended and resumed.
-ghost use Rattle.std.specs.Prelude.{◌≡◌, ◌∷◌, ◌++◌, [], OnOk, IfOk, true, not, is_some};
+ghost use Rattle.std.specs.Prelude.{◌≡◌, ◌<◌, ◌≤◌, ◌∷◌, ◌++◌, [], length, OnOk, IfOk, true, not, is_some};
 ghost use Rattle.port_model.specs.declared.row.Row.TheVariants.{Listed, Resumed};
 ghost use Rattle.port_model.specs.declared.signal.Sender.TheVariants.{Process};
 ghost use Rattle.port_history.specs.Mail.{row_mail};
 ghost use Rattle.port_history.specs.State.{State, is_open};
 ghost use Rattle.port_mail.specs.Ends.{Posts};
 ghost use Rattle.recorded_port.specs.View.{IsSettled, state_of};
-ghost use Rattle.recorded_port.specs.Taking.{IsSameRecorded};
+ghost use Rattle.recorded_port.specs.Taking.{IsSameRecorded, UsesRoom};
 ghost use Rattle.recorded_port.specs.Resuming.{MayList, Resumes, ResumesAll, ResumesNext, may_go};
 
 use crate::{Driver, NoMemory, RecordedPort, Row, Sender};
@@ -20,7 +20,9 @@ impl<D: Driver> RecordedPort<D> {
     pub fn list(&mut self, process: u32, seq: u64) -> Result<(), NoMemory>
         requires settled { IsSettled self.old }
         requires may { MayList self.old process seq }
+        requires room { 0 < self.old.room }
         ensures same { IsSameRecorded self.old self.new }
+        ensures room { UsesRoom self.old self.new }
         ensures settled { OnOk result (IsSettled self.new) }
         ensures rows { OnOk result (self.new.rows ≡ self.old.rows ++ Listed (Process process) seq ∷ []) }
     {
@@ -30,14 +32,17 @@ impl<D: Driver> RecordedPort<D> {
         self.write(Row::Listed {
             from: Sender::Process(process),
             seq,
-        })
+        });
+        Ok(())
     }
 
     /// Resumes all senders that wait, in their order, where the port isn't open, or where it isn't busy and one load of MSGQ finds that its message queue
     /// isn't either. Where nobody waits nothing is loaded.
     pub fn resume<R: Wait>(&mut self, rt: &R) -> Result<(), NoMemory>
-        requires { IsSettled self.old }
+        requires settled { IsSettled self.old }
+        requires room { length (state_of self.old).listed ≤ self.old.room }
         ensures same { IsSameRecorded self.old self.new }
+        ensures room { UsesRoom self.old self.new }
         ensures settled { OnOk result (IsSettled self.new) }
         ensures resumes { OnOk result (Resumes self.old self.new) }
     {
@@ -55,7 +60,9 @@ impl<D: Driver> RecordedPort<D> {
     fn resume_all<R: Wait>(&mut self, rt: &R, word: u64) -> Result<(), NoMemory>
         requires settled { IsSettled self.old }
         requires may { may_go (state_of self.old) word ≡ true }
+        requires room { length (state_of self.old).listed ≤ self.old.room }
         ensures same { IsSameRecorded self.old self.new }
+        ensures room { UsesRoom self.old self.new }
         ensures settled { OnOk result (IsSettled self.new) }
         ensures all { OnOk result (ResumesAll self.old self.new word) }
     {
@@ -71,7 +78,9 @@ impl<D: Driver> RecordedPort<D> {
     fn resume_next<R: Wait>(&mut self, rt: &R, word: u64) -> Result<bool, NoMemory>
         requires settled { IsSettled self.old }
         requires may { may_go (state_of self.old) word ≡ true }
+        requires room { length (state_of self.old).listed ≤ self.old.room }
         ensures same { IsSameRecorded self.old self.new }
+        ensures room { UsesRoom self.old self.new }
         ensures settled { OnOk result (IsSettled self.new) }
         ensures next { IfOk result (λ went. ResumesNext went self.old self.new word) }
     {
@@ -84,8 +93,10 @@ impl<D: Driver> RecordedPort<D> {
 
     /// Puts the mail of a resumed sender and writes its row.
     fn write_resumed<R: Wait>(&mut self, rt: &R, entry: Entry, word: u64) -> Result<(), NoMemory>
+        requires { 0 < self.old.room }
         ensures same { IsSameRecorded self.old self.new }
-        ensures rows { OnOk result (self.new ≡ record self.old { rows = self.old.rows ++ Resumed (Process entry.process) entry.seq word ∷ []; ends = self.new.ends }) }
+        ensures room { UsesRoom self.old self.new }
+        ensures rows { self.new ≡ record self.old { rows = self.old.rows ++ Resumed (Process entry.process) entry.seq word ∷ []; room = self.new.room; ends = self.new.ends } }
         ensures mail { OnOk result ((s : State) → (is_open s ≡ not (is_some self.old.port.state.reason))
             → Posts self.old.port.state.links.ties.ended self.old.ends self.new.ends (row_mail self.old.opening s (Resumed (Process entry.process) entry.seq word))) }
     {
@@ -102,7 +113,7 @@ impl<D: Driver> RecordedPort<D> {
             from: Sender::Process(entry.process),
             seq: entry.seq,
             word,
-        })?;
+        });
         posted
     }
 }

@@ -1,5 +1,5 @@
 //! A task that comes to its row.
-ghost use Rattle.std.specs.Prelude.{◌≡◌, ◌∷◌, ◌++◌, [], ℕ, List, OnOk, IfOk, IfSome};
+ghost use Rattle.std.specs.Prelude.{◌≡◌, ◌<◌, ◌≤◌, ◌∷◌, ◌++◌, [], ℕ, List, OnOk, IfSome};
 ghost use Rattle.port_model.specs.Tasks.{TaskView};
 ghost use Rattle.port_model.specs.declared.row.Row.TheVariants.{Handled, Late};
 ghost use Rattle.port_history.specs.Mail.{handled_mail, row_mail};
@@ -8,7 +8,7 @@ ghost use Rattle.port_history.specs.State.{State};
 ghost use Rattle.port_mail.specs.Ends.{Posts};
 ghost use Rattle.port_mail.specs.Rows.{IsRowOf};
 ghost use Rattle.recorded_port.specs.View.{IsRecorded, IsSettled, removed_sizes};
-ghost use Rattle.recorded_port.specs.Taking.{IsSameRecorded, MayTake, MayWrite, Takes, WritesMarks, WritesNext, WritesTask, sizes_of};
+ghost use Rattle.recorded_port.specs.Taking.{IsSameRecorded, MayTake, MayWrite, Takes, UsesRoom, WritesMarks, WritesNext, WritesTask, sizes_of};
 
 use crate::{Driver, NoMemory, Parcel, RecordedPort, Row, Sender, Served, Task};
 use port_words::busy::Weight;
@@ -18,8 +18,9 @@ use std::sync::Wait;
 
 impl<D: Driver> RecordedPort<D> {
     /// Takes in the next task of this sender, which has this place in the sender's order, from 0: it is handled or late, its row is written and its
-    /// mail is put, what changed is marked in STAT, and a command's bytes are removed from MSGQ. That adds at most three rows. After want of memory nothing
-    /// is said of a history any more; the driver can still be stopped.
+    /// mail is put, what changed is marked in STAT, and a command's bytes are removed from MSGQ. That adds at most three rows, for which there has to be room. Want
+    /// of memory is that of a callback, and then no row is written, or of a mail, and then the row stands and no later mail is put. After it nothing is said of a
+    /// history any more; the driver can still be stopped.
     pub fn take<R: Wait>(
         &mut self,
         rt: &R,
@@ -30,13 +31,15 @@ impl<D: Driver> RecordedPort<D> {
     ) -> Result<(), NoMemory>
         requires settled { IsSettled self.old }
         requires may { MayTake self.old from seq parcel }
+        requires room { 3 ≤ self.old.room }
         ensures same { IsSameRecorded self.old self.new }
+        ensures room { UsesRoom self.old self.new }
         ensures settled { OnOk result (IsSettled self.new) }
         ensures takes { OnOk result (Takes self.old self.new from seq parcel.task) }
     {
         let (task, weight) = parcel.into_parts();
         self.write_task(rt, alloc, from, seq, task)?;
-        self.write_marks()?;
+        self.write_marks();
         self.remove(rt, weight);
         Ok(())
     }
@@ -52,7 +55,9 @@ impl<D: Driver> RecordedPort<D> {
     ) -> Result<(), NoMemory>
         requires settled { IsSettled self.old }
         requires may { MayWrite self.old from seq task }
+        requires room { 0 < self.old.room }
         ensures same { IsSameRecorded self.old self.new }
+        ensures room { UsesRoom self.old self.new }
         ensures writes { OnOk result (WritesTask self.old self.new from seq task) }
     {
         match self.port.take(rt, alloc, from, seq, task.signal())? {
@@ -70,9 +75,11 @@ impl<D: Driver> RecordedPort<D> {
         task: Task,
         served: Served,
     ) -> Result<(), NoMemory>
-        requires { (s : State) × IsRowOf served.handling served.effects task.signal served.closing self.old.opening s (taken_of from seq task served.outside served.effects) }
+        requires served { (s : State) × IsRowOf served.handling served.effects task.signal served.closing self.old.opening s (taken_of from seq task served.outside served.effects) }
+        requires room { 0 < self.old.room }
         ensures same { IsSameRecorded self.old self.new }
-        ensures rows { OnOk result (self.new ≡ record self.old { rows = self.old.rows ++ Handled from seq task served.outside served.effects ∷ []; ends = self.new.ends }) }
+        ensures room { UsesRoom self.old self.new }
+        ensures rows { self.new ≡ record self.old { rows = self.old.rows ++ Handled from seq task served.outside served.effects ∷ []; room = self.new.room; ends = self.new.ends } }
         ensures mail { OnOk result ((s : State) → IsRowOf served.handling served.effects task.signal served.closing self.old.opening s (taken_of from seq task served.outside served.effects)
             → Posts self.old.port.state.links.ties.ended self.old.ends self.new.ends (handled_mail self.old.opening s (taken_of from seq task served.outside served.effects))) }
     {
@@ -97,7 +104,7 @@ impl<D: Driver> RecordedPort<D> {
             task,
             outside,
             effects,
-        })?;
+        });
         posted
     }
 
@@ -109,8 +116,10 @@ impl<D: Driver> RecordedPort<D> {
         seq: u64,
         task: Task,
     ) -> Result<(), NoMemory>
+        requires room { 0 < self.old.room }
         ensures same { IsSameRecorded self.old self.new }
-        ensures rows { OnOk result (self.new ≡ record self.old { rows = self.old.rows ++ Late from seq task ∷ []; ends = self.new.ends }) }
+        ensures room { UsesRoom self.old self.new }
+        ensures rows { self.new ≡ record self.old { rows = self.old.rows ++ Late from seq task ∷ []; room = self.new.room; ends = self.new.ends } }
         ensures mail { OnOk result ((s : State) → Posts self.old.port.state.links.ties.ended self.old.ends self.new.ends (row_mail self.old.opening s (Late from seq task))) }
     {
         let posted = self.mailboxes.post_late_row(
@@ -121,33 +130,36 @@ impl<D: Driver> RecordedPort<D> {
             seq,
             task.signal(),
         );
-        self.write(Row::Late { from, seq, task })?;
+        self.write(Row::Late { from, seq, task });
         posted
     }
 
     /// Writes the marks that are due: at most a change of the busy state, and then the closed mark.
-    fn write_marks(&mut self) -> Result<(), NoMemory>
-        requires { (left : List ℕ) × IsRecorded self.old left }
+    fn write_marks(&mut self)
+        requires recorded { (left : List ℕ) × IsRecorded self.old left }
+        requires room { 2 ≤ self.old.room }
         ensures same { IsSameRecorded self.old self.new }
-        ensures marks { OnOk result ((left : List ℕ) → IsRecorded self.old left → WritesMarks self.old self.new left) }
+        ensures room { UsesRoom self.old self.new }
+        ensures marks { (left : List ℕ) → IsRecorded self.old left → WritesMarks self.old self.new left }
     {
-        if self.write_next_mark()? {
-            self.write_next_mark()?;
+        if self.write_next_mark() {
+            self.write_next_mark();
         }
-        Ok(())
     }
 
     /// Writes the mark that stands next, if one is due.
-    fn write_next_mark(&mut self) -> Result<bool, NoMemory>
-        requires { (left : List ℕ) × IsRecorded self.old left }
+    fn write_next_mark(&mut self) -> bool
+        requires recorded { (left : List ℕ) × IsRecorded self.old left }
+        requires room { 0 < self.old.room }
         ensures same { IsSameRecorded self.old self.new }
-        ensures next { IfOk result (λ wrote. (left : List ℕ) → IsRecorded self.old left → WritesNext wrote self.old self.new left) }
+        ensures room { UsesRoom self.old self.new }
+        ensures next { (left : List ℕ) → IsRecorded self.old left → WritesNext result self.old self.new left }
     {
         let Some(kind) = self.port.next_mark() else {
-            return Ok(false);
+            return false;
         };
-        self.write_mark(kind)?;
-        Ok(true)
+        self.write_mark(kind);
+        true
     }
 
     /// Removes the bytes of a command from MSGQ.

@@ -1,3 +1,4 @@
+pub mod EndNames
 pub mod Held
 pub mod Laws
 pub mod Opened

@@ -8,16 +8,20 @@ use Rattle.port_history.specs.Jobs.{submitted_by}
 use Rattle.port_history.specs.Opening.{Opening}
 use Rattle.port_history.specs.State.{start_call, state_at_start}
 use Rattle.port_events.specs.Asks.{arm_asks}
+use Rattle.ready_select.specs.declared.ask.PollAsk.{PollAsk}
+use Rattle.task_queue.specs.Ends.{Sending}
+use Rattle.async_jobs.specs.Pool.{Lanes}
 use Rattle.port_events.specs.Table as table
 use Rattle.port_events.specs.Table.{EventTable, KeepsEnd}
 use Rattle.port_jobs.specs.Jobs as jobs
 use Rattle.port_jobs.specs.Jobs.{JobsView, Submits, AreJobsOf}
 use Rattle.port_state.specs.View.{IsStateOf}
 use Rattle.served_port.specs.declared.ends.PortEnds.{PortEnds}
-use Rattle.served_port.specs.View.{ServedView}
+use Rattle.served_port.specs.View.{ServedView, end_names}
 use Rattle.served_port.specs.Outcomes.{SubmitsJobs}
 use Rattle.served_port.specs.Openings.{IsAtStart}
 use Rattle.served_port.specs.Steps.{StartsEvents}
+use Rattle.served_port.proofs.EndNames.{names_submitted}
 use Rattle.served_port.proofs.Rows.{start-at}
 
 submitted : (port number : ℕ) (effects others : List Effect) (old new : JobsView) → number ≡ port → effects ≡ others → old.port ≡ number → Submits old new effects
@@ -39,6 +43,8 @@ opened-at number v ends port events told effects state are n starts none ep ea k
       (ap (λ (x : EventTable). x.port) kept ∙ (ep ∙ n))
       (subst (λ x. jobs.Agrees v.jobs (submitted_by x) []) are (submits.agrees [] [] agrees))
       (submits.port ∙ (jp ∙ n));
+  end = ap (λ (x : EventTable). x.asks) kept ∙ ap (λ (x : Sending PollAsk (Unit {0})). record x { sent = v.events.asks.sent }) ea;
+  pool = names_submitted told v.jobs effects submits ∙ ap (λ (x : Lanes). end_names x) jl;
   asks = starts.asks [] none
       ∙ (ap (λ x. x.sent ++ flat_map (arm_asks events.port) (selected_by effects [])) ea
       ∙ (ap (λ x. ends.asks.sent ++ flat_map (arm_asks x) (selected_by effects [])) (ep ∙ n)

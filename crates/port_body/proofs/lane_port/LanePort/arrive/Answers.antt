@@ -1,13 +1,15 @@
-use Rattle.std.proofs.Common.{◌≡◌, [], ◌∷◌, ◌++◌, is_some, sym, ap, ◌∙◌, subst}
+use Rattle.std.proofs.Common.{◌≡◌, ◌+◌, [], ◌∷◌, ◌++◌, length, arith, is_some, sym, ap, ◌∙◌, subst}
 use Rattle.std.specs.Prelude.{not, reverse}
 use Rattle.std.proofs.lemmas.List.{append_assoc}
 use Rattle.port_history.specs.State.{state, is_open}
 use Rattle.recorded_port.specs.View.{state_of}
-use Rattle.recorded_port.specs.Taking.{IsSameRecorded}
+use Rattle.recorded_port.specs.Taking.{IsSameRecorded, UsesRoom}
 use Rattle.recorded_port.specs.Resuming.{Resumes}
 use Rattle.port_body.specs.LanePort.{LanePortView, Holds, OwnItems}
 use Rattle.port_body.proofs.Holding.{resumed, last-moved, same-tasks}
 use Rattle.port_body.proofs.Settling.{added, after-look, on-one}
+use Rattle.port_body.proofs.Room.{resumed_room}
+use Rattle.port_body.proofs.Same.{lane_port_trans, same_lane}
 use Rattle.port_body.proofs.Waits.{alone, waits-body, waits-arrives, settles-arrives}
 use Rattle.port_body.proofs.lane_port.LanePort.arrive.Goals as goal
 
@@ -73,3 +75,24 @@ returns-clause-arrives g c =
     let rest = ap (λ (v : LanePortView). record v { port = c.resume.new.self }) (c.self.view_is ∙ lists.rest) in
     let rows = more.rows ∙ (ap (λ r. r ++ more.more) lists.rows ∙ append_assoc old.port.rows lists.more more.more) in
     on-one c.settle.result (λ s. settles-arrives old _ c.settle.new.self x (lists.more ++ more.more) rest rows s) c.settle.ensures.settles
+
+pub settle-requires-clause-room : goal.settle-requires-clause-room
+settle-requires-clause-room g c =
+    let old = c.args.self.now in
+    let mid = c.list_sender.new.self in
+    let uses = subst (λ (v : LanePortView). UsesRoom v.port c.resume.new.self) c.self.view_is c.resume.ensures.room in
+    let resumes = subst (λ (v : LanePortView). Resumes v.port c.resume.new.self) c.self.view_is c.in_ok-resume.ensures.resumes in
+    let lists = c.in_ok-list_sender.ensures.lists in
+    let before = c.requires.room in
+    let listed = lists.room (5 + length old.waiting.items) (omega (arith, before)) in
+    let enough = resumed_room mid.port c.resume.new.self c.in_ok-list_sender.ensures.holds.settled c.in_ok-resume.ensures.settled uses resumes (5 + length old.waiting.items) listed in
+    let left = ap (λ (v : LanePortView). length v.waiting.items) (c.self.view_is ∙ lists.rest) in
+    omega (arith, left, enough)
+
+pub returns-clause-same : goal.returns-clause-same
+returns-clause-same g c =
+    let mid = c.list_sender.new.self in
+    let same = subst (λ (v : LanePortView). IsSameRecorded v.port c.resume.new.self) c.self.view_is c.resume.ensures.same in
+    lane_port_trans c.args.self.now mid c.settle.new.self c.list_sender.ensures.same (lane_port_trans mid _ c.settle.new.self
+    (same_lane mid _ same (ap (λ (v : LanePortView). v.lane) c.self.view_is) (ap (λ (v : LanePortView). v.processes) c.self.view_is) (ap (λ (v : LanePortView). v.workers) c.self.view_is))
+    c.settle.ensures.same)

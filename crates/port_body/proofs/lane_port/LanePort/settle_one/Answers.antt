@@ -1,9 +1,10 @@
-use Rattle.std.proofs.Common.{sym, ap, subst}
+use Rattle.std.proofs.Common.{sym, ap, subst, arith}
 use Rattle.port_lanes.specs.Keys.{sender_at}
-use Rattle.recorded_port.specs.Taking.{MayTake, Takes, IsSameRecorded}
+use Rattle.recorded_port.specs.Taking.{MayTake, Takes, IsSameRecorded, UsesRoom}
 use Rattle.port_body.specs.LanePort.{LanePortView, Holds}
 use Rattle.port_body.proofs.Holding.{took, resumed}
-use Rattle.port_body.proofs.Settling.{on-both, on-one, may-take, settles-one}
+use Rattle.port_body.proofs.Room.{took_room}
+use Rattle.port_body.proofs.Settling.{on-both, may-take, settles-one}
 use Rattle.port_body.proofs.lane_port.LanePort.settle_one.Goals as goal
 
 pub take-requires-clause-may : goal.take-requires-clause-may
@@ -32,5 +33,17 @@ returns-clause-settles g c =
     let takes = subst (λ (v : LanePortView). Takes v.port c.take.new.self (sender_at old.lane.key x.sender) x.seq x.value.task) c.self.view_is
     (subst (λ s. Takes c.self.inside.port c.take.new.self s x.seq x.value.task) c.sender_at-from.ensures c.in_ok-take.ensures.takes) in
     let same = subst (λ (v : LanePortView). IsSameRecorded v.port c.take.new.self) c.self.view_is c.take.ensures.same in
-    on-one c.resume.result (λ resumes. settles-one old _ c.take.new.self x takes same c.resume.ensures.same resumes
-    (ap (λ (v : LanePortView). record v { port = c.resume.new.self }) c.self.view_is)) c.resume.ensures.resumes
+    let room = subst (λ (v : LanePortView). UsesRoom v.port c.take.new.self) c.self.view_is c.take.ensures.room in
+    on-both c.resume.result (λ settled resumes. settles-one old _ c.take.new.self x takes same c.resume.ensures.same resumes
+    (ap (λ (v : LanePortView). record v { port = c.resume.new.self }) c.self.view_is) c.requires.holds.settled c.in_ok-take.ensures.settled settled room c.resume.ensures.room)
+    c.resume.ensures.settled c.resume.ensures.resumes
+
+pub resume-requires-clause-room : goal.resume-requires-clause-room
+resume-requires-clause-room g c =
+    let old = c.args.self.now in
+    let x = c.args.item in
+    let takes = subst (λ (v : LanePortView). Takes v.port c.take.new.self (sender_at old.lane.key x.sender) x.seq x.value.task) c.self.view_is
+    (subst (λ s. Takes c.self.inside.port c.take.new.self s x.seq x.value.task) c.sender_at-from.ensures c.in_ok-take.ensures.takes) in
+    let room = subst (λ (v : LanePortView). UsesRoom v.port c.take.new.self) c.self.view_is c.take.ensures.room in
+    let enough = took_room old.port c.take.new.self (sender_at old.lane.key x.sender) x.seq x.value.task c.requires.holds.settled c.in_ok-take.ensures.settled room takes 0 c.requires.room in
+    omega (arith, enough)

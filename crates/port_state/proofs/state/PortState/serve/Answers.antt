@@ -12,7 +12,7 @@ use Rattle.port_service.specs.Service.{ServiceView}
 use Rattle.port_service.specs.Serves.{Served, Watches}
 use Rattle.port_state.specs.View.{StateView}
 use Rattle.port_state.specs.Served.{untied_for}
-use Rattle.port_state.proofs.Rows.{served-state, has-effects, runs-of, served-as, flagged, stands-with}
+use Rattle.port_state.proofs.Rows.{served-state, has-effects, not-fresh, runs-of, served-as, flagged, stands-with}
 use Rattle.port_state.proofs.state.PortState.serve.Goals as goal
 
 pub returns-clause-same : goal.returns-clause-same
@@ -28,6 +28,10 @@ pub returns-clause-faults : goal.returns-clause-faults
 returns-clause-faults g c = rw (← c.self.view_is) (
     let n = c.note_row.ensures.state c.self.inside.links.ties in
     subst (λ x. c.self.inside.service.faults ≤ x) (sym (ap (λ (x : StateView). x.service.faults) n)) c.handle.ensures.faults)
+
+pub returns-clause-life : goal.returns-clause-life
+returns-clause-life g c =
+    not-fresh c.in_ok-made.made.stops _ (ap (λ (x : StateView). x.service.stage) (c.note_row.ensures.state c.self.inside.links.ties) ∙ c.in_ok-made.ensures.stage)
 
 pub returns-clause-serves : goal.returns-clause-serves
 returns-clause-serves g c = rw (← c.self.view_is, c.note_row.ensures.row) (λ port s task e told none same.

@@ -14,10 +14,10 @@ returns-clause-settled g c =
     let old = c.args.self.now in
     let settled = c.requires.settled in
     let listed = subst (λ (v : RecordedView). AgreesListed v.suspended (state_of old).listed) (sym c.self.view_is) settled.recorded.listed in
-    on-ok c.write.result (λ e. subst IsSettled (sym e) (settled-more old _ (Listed (Process c.args.process) c.args.seq)
+    subst IsSettled (sym c.write.ensures.written) (settled-more old _ (Listed (Process c.args.process) c.args.seq)
     (ap (λ (v : RecordedView). v.opening) c.self.view_is) (ap (λ (v : RecordedView). v.rows ++ Listed (Process c.args.process) c.args.seq ∷ []) c.self.view_is)
     (listed-row old.opening (reverse old.rows) old _ c.args.process c.args.seq settled.recorded settled.none_due c.requires.may.new c.requires.may.later
     (not-false-of _ (sym c.if-not-list.false ∙ c.list.ensures.value (state_of old).listed listed))
     (c.list.ensures.listed c.if-not-list.false (state_of old).listed listed) (c.list.ensures.places ∙ ap (λ (v : RecordedView). v.suspended.places) c.self.view_is)
     (ap (λ (v : RecordedView). v.port) c.self.view_is) (ap (λ (v : RecordedView). v.ends) c.self.view_is) (ap (λ (v : RecordedView). v.seat) c.self.view_is))
-    settled.none_due)) c.write.ensures.ok
+    settled.none_due)

@@ -50,7 +50,11 @@ returns-clause-opened g c =
       kind_is = start.at.state.kind;
       config_is = refl;
       owner = refl;
+      read = c.program_events-read.ensures.read;
+      write = c.program_events-read.ensures.write;
       rows = c.new-2.ensures.items;
       ends = refl;
       seat = refl;
+      asks = start.end;
+      pool = start.pool;
     }

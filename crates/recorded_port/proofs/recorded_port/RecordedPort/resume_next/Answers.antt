@@ -21,11 +21,12 @@ returns-clause-settled g c =
     (record {
       opening = ap (λ (v : RecordedView). v.opening) c.self.view_is;
       rows = ap (λ (v : RecordedView). v.rows) c.self.view_is;
+      room = ap (λ (v : RecordedView). v.room) c.self.view_is;
       port = ap (λ (v : RecordedView). v.port) c.self.view_is;
       ends = ap (λ (v : RecordedView). v.ends) c.self.view_is;
       seat = ap (λ (v : RecordedView). v.seat) c.self.view_is;
       places = c.resume_first.ensures.places ∙ ap (λ (v : RecordedView). v.suspended.places) c.self.view_is;
-    }) c.in_ok-write_resumed.ensures.rows (c.in_ok-write_resumed.ensures.mail s told)).settled
+    }) c.write_resumed.ensures.rows (c.in_ok-write_resumed.ensures.mail s told)).settled
 
 pub returns-clause-next : goal.returns-clause-next
 returns-clause-next g c =
@@ -41,8 +42,9 @@ returns-clause-next g c =
     (record {
       opening = ap (λ (v : RecordedView). v.opening) c.self.view_is;
       rows = ap (λ (v : RecordedView). v.rows) c.self.view_is;
+      room = ap (λ (v : RecordedView). v.room) c.self.view_is;
       port = ap (λ (v : RecordedView). v.port) c.self.view_is;
       ends = ap (λ (v : RecordedView). v.ends) c.self.view_is;
       seat = ap (λ (v : RecordedView). v.seat) c.self.view_is;
       places = c.resume_first.ensures.places ∙ ap (λ (v : RecordedView). v.suspended.places) c.self.view_is;
-    }) c.in_ok-write_resumed.ensures.rows (c.in_ok-write_resumed.ensures.mail s told)).resumes
+    }) c.write_resumed.ensures.rows (c.in_ok-write_resumed.ensures.mail s told)).resumes

@@ -1,23 +1,14 @@
 use Rattle.std.proofs.Common.{sym, subst}
 use Rattle.port_history.specs.Opening.{taken_of}
 use Rattle.port_mail.specs.Rows.{IsRowOf}
-use Rattle.recorded_port.proofs.Same.{same-written, puts-count}
+use Rattle.recorded_port.proofs.Same.{same-written, put-names}
 use Rattle.recorded_port.proofs.recorded_port.RecordedPort.write_handled.Goals as goal
-
-pub returns-in_err-write-clause-same : goal.returns-in_err-write-clause-same
-returns-in_err-write-clause-same g c =
-    let made = c.args.served in
-    let t = taken_of c.args.from c.args.seq c.args.task made.outside made.effects in
-    let o = c.args.self.now.opening in
-    let row = subst (λ x. IsRowOf made.handling x c.signal.result.now made.closing o c.requires.0 t) (sym c.as_slice.ensures.items)
-    (subst (λ x. IsRowOf made.handling made.effects x made.closing o c.requires.0 t) (sym c.signal.ensures) c.requires.1) in
-    rw (← c.self.view_is) (same-written _ _ _ _ c.in_err-write.ensures.err (puts-count c.post_row-posted.result _ _ _ _ (c.post_row-posted.ensures o c.requires.0 t row)))
 
 pub returns-clause-same : goal.returns-clause-same
 returns-clause-same g c =
     let made = c.args.served in
     let t = taken_of c.args.from c.args.seq c.args.task made.outside made.effects in
     let o = c.args.self.now.opening in
-    let row = subst (λ x. IsRowOf made.handling x c.signal.result.now made.closing o c.requires.0 t) (sym c.as_slice.ensures.items)
-    (subst (λ x. IsRowOf made.handling made.effects x made.closing o c.requires.0 t) (sym c.signal.ensures) c.requires.1) in
-    rw (← c.self.view_is) (same-written _ _ _ _ c.in_ok-write.ensures.ok (puts-count c.post_row-posted.result _ _ _ _ (c.post_row-posted.ensures o c.requires.0 t row)))
+    let row = subst (λ x. IsRowOf made.handling x c.signal.result.now made.closing o c.requires.served.0 t) (sym c.as_slice.ensures.items)
+    (subst (λ x. IsRowOf made.handling made.effects x made.closing o c.requires.served.0 t) (sym c.signal.ensures) c.requires.served.1) in
+    rw (← c.self.view_is) (same-written _ _ _ _ _ c.write.ensures.written (put-names c.post_row-posted.result _ _ _ _ (c.post_row-posted.ensures o c.requires.served.0 t row)))

@@ -7,11 +7,11 @@ use Rattle.recorded_port.proofs.Settled.{can-mark}
 use Rattle.recorded_port.proofs.TaskRows.{marked-row}
 use Rattle.recorded_port.proofs.recorded_port.RecordedPort.write_next_mark.Goals as goal
 
-pub write_mark-requires : goal.write_mark-requires
-write_mark-requires g c =
+pub write_mark-requires-clause-mark : goal.write_mark-requires-clause-mark
+write_mark-requires-clause-mark g c =
     let old = c.args.self.now in
-    let at = subst (λ (v : RecordedView). IsAt v.port old.opening (state_of old)) (sym c.self.view_is) c.requires.1.at in
-    can-mark old _ c.in-Some.kind c.requires.0 c.requires.1 (c.in-Some.ensures.marks old.opening (state_of old) at).0 (ap (λ (v : RecordedView). v.seat) c.self.view_is)
+    let at = subst (λ (v : RecordedView). IsAt v.port old.opening (state_of old)) (sym c.self.view_is) c.requires.recorded.1.at in
+    can-mark old _ c.in-Some.kind c.requires.recorded.0 c.requires.recorded.1 (c.in-Some.ensures.marks old.opening (state_of old) at).0 (ap (λ (v : RecordedView). v.seat) c.self.view_is)
     (ap (λ (v : RecordedView). v.rows) c.self.view_is)
 
 pub returns-clause-next : goal.returns-clause-next
@@ -38,8 +38,9 @@ returns-clause-next g c = λ left recorded.
     (record {
       opening = opening;
       rows = ap (λ (v : RecordedView). v.rows) c.self.view_is;
+      room = ap (λ (v : RecordedView). v.room) c.self.view_is;
       port_is = refl;
       ends = ap (λ (v : RecordedView). v.ends) c.self.view_is;
       seat = ap (λ (v : RecordedView). v.seat) c.self.view_is;
       suspended = ap (λ (v : RecordedView). v.suspended) c.self.view_is;
-    }) c.in_ok-write_mark.ensures.ok
+    }) c.write_mark.ensures.written

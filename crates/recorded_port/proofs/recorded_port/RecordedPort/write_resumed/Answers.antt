@@ -1,23 +1,18 @@
 use Rattle.std.proofs.Common.{is_some, sym, ap, ◌∙◌}
 use Rattle.std.specs.Prelude.{not}
 use Rattle.recorded_port.specs.View.{RecordedView}
-use Rattle.recorded_port.proofs.Same.{same-written, puts-count, puts-each, state-with, state-with-open}
+use Rattle.recorded_port.proofs.Same.{same-written, put-names, puts-each, state-with, state-with-open}
 use Rattle.recorded_port.proofs.recorded_port.RecordedPort.write_resumed.Goals as goal
 
-pub returns-in_err-write-clause-same : goal.returns-in_err-write-clause-same
-returns-in_err-write-clause-same g c = rw (← c.self.view_is) (same-written _ _ _ _ c.in_err-write.ensures.err
-    (puts-count c.post_resume-posted.result _ _ _ _ (c.post_resume-posted.ensures c.args.self.now.opening (state-with c.args.self.now.opening (not c.is_open.result))
-    (ap (λ (v : RecordedView). v.opening.number) (sym c.self.view_is)) (state-with-open c.args.self.now.opening (not c.is_open.result)))))
-
 pub returns-clause-same : goal.returns-clause-same
-returns-clause-same g c = rw (← c.self.view_is) (same-written _ _ _ _ c.in_ok-write.ensures.ok
-    (puts-count c.post_resume-posted.result _ _ _ _ (c.post_resume-posted.ensures c.args.self.now.opening (state-with c.args.self.now.opening (not c.is_open.result))
+returns-clause-same g c = rw (← c.self.view_is) (same-written _ _ _ _ _ c.write.ensures.written
+    (put-names c.post_resume-posted.result _ _ _ _ (c.post_resume-posted.ensures c.args.self.now.opening (state-with c.args.self.now.opening (not c.is_open.result))
     (ap (λ (v : RecordedView). v.opening.number) (sym c.self.view_is)) (state-with-open c.args.self.now.opening (not c.is_open.result)))))
 
 pub returns-clause-mail : goal.returns-clause-mail
 returns-clause-mail g c =
     let links = ap (λ (v : RecordedView). v.port.state.links) c.self.view_is in
     let reason = ap (λ (v : RecordedView). v.port.state.reason) c.self.view_is in
-    rw (← (c.links.ensures ∙ links), ← ap (λ (v : RecordedView). v.ends) c.self.view_is, c.in_ok-write.ensures.ok)
+    rw (← (c.links.ensures ∙ links), ← ap (λ (v : RecordedView). v.ends) c.self.view_is, c.write.ensures.written)
     (puts-each c.post_resume-posted.result _ _ _ _ (λ s told. c.post_resume-posted.ensures c.args.self.now.opening s (ap (λ (v : RecordedView). v.opening.number) (sym c.self.view_is))
     (ap not (c.is_open.ensures ∙ (ap (λ x. not (is_some x)) reason ∙ sym told)))))

@@ -4,12 +4,12 @@ use Rattle.port_mail.specs.Rows.{IsRowOf}
 use Rattle.served_port.specs.Outcomes.{IsOutcome}
 use Rattle.served_port.specs.View.{IsAt}
 use Rattle.recorded_port.specs.View.{RecordedView, state_of}
-use Rattle.recorded_port.proofs.Same.{on-both, same-opening}
+use Rattle.recorded_port.proofs.Same.{on-ok, same-opening}
 use Rattle.recorded_port.proofs.TaskRows.{handled-task, late-task}
 use Rattle.recorded_port.proofs.recorded_port.RecordedPort.write_task.Goals as goal
 
-pub write_handled-requires : goal.write_handled-requires
-write_handled-requires g c =
+pub write_handled-requires-clause-served : goal.write_handled-requires-clause-served
+write_handled-requires-clause-served g c =
     let old = c.args.self.now in
     let s = state_of old in
     let made = c.in-Handled.served in
@@ -48,15 +48,16 @@ returns-in-Handled-clause-writes g c =
     } in
     let same = same-opening o _ _ c.take.ensures.same.state.processes c.take.ensures.same.state.kind ∙ ap (λ (v : RecordedView). v.opening) c.self.view_is in
     let mailed = subst (λ x. IsRowOf made.handling made.effects c.args.task.signal made.closing x s (taken_of c.args.from c.args.seq c.args.task made.outside made.effects)) (sym same) handled.mail in
-    on-both c.write_handled.result (λ rows mail. handled-task old _ c.write_handled.new.self c.take.new.self c.args.from c.args.seq c.args.task made
+    on-ok c.write_handled.result (λ mail. handled-task old _ c.write_handled.new.self c.take.new.self c.args.from c.args.seq c.args.task made
     c.requires.settled c.requires.may handled (record {
       opening = same;
       rows = ap (λ (v : RecordedView). v.rows) c.self.view_is;
+      room = ap (λ (v : RecordedView). v.room) c.self.view_is;
       port_is = refl;
       ends = ap (λ (v : RecordedView). v.ends) c.self.view_is;
       seat = ap (λ (v : RecordedView). v.seat) c.self.view_is;
       suspended = ap (λ (v : RecordedView). v.suspended) c.self.view_is;
-    }) rows (mail s mailed)) c.write_handled.ensures.rows c.write_handled.ensures.mail
+    }) c.write_handled.ensures.rows (mail s mailed)) c.write_handled.ensures.mail
 
 pub returns-in-Late-clause-writes : goal.returns-in-Late-clause-writes
 returns-in-Late-clause-writes g c =
@@ -76,12 +77,13 @@ returns-in-Late-clause-writes g c =
       write = c.self.inside.fixed.write;
     } in
     let same = same-opening o _ _ c.take.ensures.same.state.processes c.take.ensures.same.state.kind ∙ ap (λ (v : RecordedView). v.opening) c.self.view_is in
-    on-both c.write_late.result (λ rows mail. late-task old _ c.write_late.new.self c.take.new.self c.args.from c.args.seq c.args.task
+    on-ok c.write_late.result (λ mail. late-task old _ c.write_late.new.self c.take.new.self c.args.from c.args.seq c.args.task
     c.requires.settled c.requires.may late (record {
       opening = same;
       rows = ap (λ (v : RecordedView). v.rows) c.self.view_is;
+      room = ap (λ (v : RecordedView). v.room) c.self.view_is;
       port_is = refl;
       ends = ap (λ (v : RecordedView). v.ends) c.self.view_is;
       seat = ap (λ (v : RecordedView). v.seat) c.self.view_is;
       suspended = ap (λ (v : RecordedView). v.suspended) c.self.view_is;
-    }) rows (mail s)) c.write_late.ensures.rows c.write_late.ensures.mail
+    }) c.write_late.ensures.rows (mail s)) c.write_late.ensures.mail

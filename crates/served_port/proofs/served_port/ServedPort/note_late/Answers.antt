@@ -1,4 +1,4 @@
-use Rattle.std.proofs.Common.{true, refl, sym, ap, subst, arith}
+use Rattle.std.proofs.Common.{true, refl, sym, ap, ◌∙◌, subst, arith}
 use Rattle.port_history.specs.Events.{told_of}
 use Rattle.port_history.specs.Jobs.{done_by}
 use Rattle.port_history.specs.Opening.{late_of}
@@ -7,6 +7,7 @@ use Rattle.port_events.specs.Table.{EventTable}
 use Rattle.port_jobs.specs.Jobs as jobs
 use Rattle.port_jobs.specs.Jobs.{JobsView}
 use Rattle.port_state.specs.View.{StateView}
+use Rattle.served_port.specs.View.{end_names}
 use Rattle.served_port.proofs.Rows.{late-at}
 use Rattle.served_port.proofs.Same.{on-ok, keeps-end}
 use Rattle.served_port.proofs.served_port.ServedPort.note_late.Goals as goal
@@ -19,8 +20,10 @@ returns-clause-same g c = rw (← c.self.view_is) (record {
     kind = ap (λ (x : StateView). x.service.kind) c.note_late.ensures.same;
   };
   faults = let e = ap (λ (x : StateView). x.service.faults) c.note_late.ensures.same in omega (arith);
+  life = λ fresh. sym (ap (λ (x : StateView). x.service.stage) c.note_late.ensures.same) ∙ fresh;
   events = keeps-end c.self.inside.events c.note_late-2.new.self c.note_late-2.ensures.same;
   jobs = ap (λ (x : JobsView). x.port) c.note_done.ensures.same;
+  pool = ap (λ (x : JobsView). end_names x.lanes) c.note_done.ensures.same;
 })
 
 pub returns-clause-lates : goal.returns-clause-lates
