@@ -1,2 +1,4 @@
 pub mod Counts
 pub mod Ranks
+pub mod Returning
+pub mod Openings

@@ -1,2 +1,5 @@
 pub mod Hosts
 pub mod Finding
+pub mod Opening
+pub mod Returning
+pub mod Back
