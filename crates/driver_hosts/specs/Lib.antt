@@ -3,3 +3,4 @@ pub mod Finding
 pub mod Opening
 pub mod Returning
 pub mod Back
+pub mod Laws

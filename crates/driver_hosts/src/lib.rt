@@ -4,12 +4,14 @@
 mod ending;
 mod finding;
 mod hosted;
+mod laws;
 mod opening;
 mod room;
 
 pub use ending::{EndedPort, take_back};
 pub use finding::{Lacking, find_drivers};
 pub use hosted::Hosted;
+pub use laws::all_drivers_come_back;
 pub use no_memory::NoMemory;
 pub use opening::{Unopened, open_ports};
 pub use port_body::Body;
