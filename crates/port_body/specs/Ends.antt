@@ -1,6 +1,9 @@
 -- What a body is once it ended, and what it gives back.
-use Rattle.std.specs.Prelude.{◌≡◌, ◌<◌, ◌≤◌, ℕ, List, [], ◌++◌, length, slice_index_or, reverse, true, false}
+use Rattle.std.specs.Prelude.{◌≡◌, ◌<◌, ◌≤◌, ℕ, List, [], ◌++◌, length, slice_index_or, reverse, Bool, true, false, Option, IfSome}
 use Rattle.task_queue.specs.Ends.{Taking}
+use Rattle.driver_model.specs.Calls.{Own}
+use Rattle.driver_model.specs.Drivers.{holds}
+use Rattle.driver_model.specs.Programs.{Tells, ToldProgram}
 use Rattle.port_config.specs.declared.config.Config.{Config}
 use Rattle.port_driver.specs.declared.life.Life.TheVariants.{Stopped}
 use Rattle.port_history.specs.Lawful.{IsFinished}
@@ -31,6 +34,12 @@ pub record HasEnded (old new : BodyView) : Type 0 where
   pub finished : new.finished ≡ old.finished
   pub broken : old.broken ≡ false → (state_of old.lane_port.port).stopped ≡ false → new.broken ≡ true
   pub unchanged : old.broken ≡ false → (state_of old.lane_port.port).stopped ≡ true → new ≡ old
+  pub over : old.broken ≡ false → old.finished ≡ true → new ≡ old
+
+-- A driver stands as the calls of a history leave it: it keeps what they leave, and its program, where this is told, is as they tell
+pub record IsLeftByCalls (port : Opening) (history : List Row) (own : Own) (program : Option ToldProgram) : Type 0 where
+  pub keeps : own ≡ (holds port.kind port.config (state port history).calls).own
+  pub told : IfSome program (Tells port.config (state port history).calls)
 
 -- the rows, the options, the ends and the words are those of the body
 pub record IsEndOf (v : BodyView) (rows : List Row) (config : Config) (outlets : PortOutlets) (lane : Taking ParcelView Key) : Type 0 where

@@ -1,0 +1,11 @@
+use recorded_port::{Parcel, PortOutlets};
+use task_queue::TakeEnd;
+
+/// Where a port of a run with so many processes and workers takes its tasks from, and where it puts what it sends and what it marks.
+#[derive(Drop)]
+pub struct PortRoom {
+    pub lane: TakeEnd<Parcel>,
+    pub outlets: PortOutlets,
+    pub processes: u32,
+    pub workers: u32,
+}
