@@ -1,0 +1,5 @@
+pub mod Keys
+pub mod Sets
+pub mod ListSteps
+pub mod Rising
+pub mod EventSteps
