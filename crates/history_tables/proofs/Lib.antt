@@ -3,3 +3,4 @@ pub mod Sets
 pub mod ListSteps
 pub mod Rising
 pub mod EventSteps
+pub mod JobSteps

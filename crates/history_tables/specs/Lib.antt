@@ -4,3 +4,4 @@ pub mod Listed
 pub mod Tied
 pub mod Marked
 pub mod EventsKept
+pub mod JobsKept

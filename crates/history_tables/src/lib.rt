@@ -8,6 +8,7 @@
 
 mod counts;
 mod events;
+mod jobs;
 mod key;
 mod listed;
 mod marks;
@@ -16,6 +17,7 @@ mod watched;
 
 pub use counts::SenderCounts;
 pub use events::EventTable;
+pub use jobs::JobTable;
 pub use listed::ListedTasks;
 pub use marks::PortMarks;
 pub use no_memory::NoMemory;
