@@ -100,7 +100,12 @@ fn a_busy_port_handles_forced_commands_alone(rt: HostRuntime) -> Result<(), Fail
     assert!(rt; state.keeps_marks(&Row::Mark(MarkKind::Busy)));
     state.note_mark(MarkKind::Busy);
     let plain = handled(alloc, Sender::Process(0), 0, Task::new(command(alloc)?));
-    let forced = handled(alloc, Sender::Process(0), 0, Task::forced(Signal::Command(IoVec::new(alloc))));
+    let forced = handled(
+        alloc,
+        Sender::Process(0),
+        0,
+        Task::forced(Signal::Command(IoVec::new(alloc))),
+    );
     assert!(rt; !state.keeps_busy(&plain));
     assert!(rt; state.keeps_busy(&forced));
     Ok(())
@@ -123,7 +128,12 @@ fn a_suspended_sender_is_resumed_once_the_port_is_free(rt: HostRuntime) -> Resul
         from: Sender::Process(0),
         seq: 0,
     };
-    let suspends = handled(alloc, Sender::Process(0), 0, Task::suspending(Signal::Command(IoVec::new(alloc))));
+    let suspends = handled(
+        alloc,
+        Sender::Process(0),
+        0,
+        Task::suspending(Signal::Command(IoVec::new(alloc))),
+    );
     note(&mut state, 1, &control, &[Effect::Busy(true)])?;
     state.note_mark(MarkKind::Busy);
     assert!(rt; !state.keeps_resumed(&resume));
@@ -158,7 +168,15 @@ fn a_ready_task_is_handled_where_its_event_is_armed(rt: HostRuntime) -> Result<(
     }];
     let mut state = HistoryState::new(alloc, 1, 0, &selects)?;
     let input = |event: u32| {
-        handled(alloc, Sender::Poller, 0, Task::new(Signal::Ready { event, dir: Dir::Read }))
+        handled(
+            alloc,
+            Sender::Poller,
+            0,
+            Task::new(Signal::Ready {
+                event,
+                dir: Dir::Read,
+            }),
+        )
     };
     assert!(rt; state.keeps_ready(&input(7)));
     assert!(rt; !state.keeps_ready(&input(8)));
@@ -199,7 +217,12 @@ fn a_result_is_told_once_and_is_the_work_of_its_job(rt: HostRuntime) -> Result<(
         output: Piece::of_slice(alloc, &[1, 2])?,
     };
     assert!(rt; !state.keeps_end());
-    assert!(rt; !state.keeps_jobs(alloc, &handled(alloc, Sender::Worker(0), 0, Task::new(wrong)))?);
+    assert!(rt;
+        !state.keeps_jobs(
+            alloc,
+            &handled(alloc, Sender::Worker(0), 0, Task::new(wrong))
+        )?
+    );
     let message = [Effect::Message {
         flag: Flag::Plain,
         bytes: Piece::of_slice(alloc, &[2, 1])?,
