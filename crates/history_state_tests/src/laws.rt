@@ -2,7 +2,7 @@
 use history_state::{
     Closing, Effect, HistoryState, MarkKind, NoMemory, Reason, Row, Sender, Signal, Task,
 };
-use port_model::{Dir, Flag, IoVec, Items, Piece};
+use port_model::{Dir, IoVec, Items, Piece};
 use std::alloc::Global;
 use std::test::Fail;
 
@@ -197,42 +197,40 @@ fn a_ready_task_is_handled_where_its_event_is_armed(rt: HostRuntime) -> Result<(
     Ok(())
 }
 
-#[test]
-fn a_result_is_told_once_and_is_the_work_of_its_job(rt: HostRuntime) -> Result<(), Fail> {
-    let alloc = rt.alloc();
-    let mut state = opened(alloc)?;
-    let jobs = [Effect::Async {
+/// A job of key 3 whose work is the two bytes reversed.
+fn job(alloc: Global) -> Result<[Effect; 1], NoMemory> {
+    Ok([Effect::Async {
         number: 0,
         key: 3,
         code: 1,
         input: Piece::of_slice(alloc, &[1, 2])?,
-    }];
-    note(&mut state, 0, &command(alloc)?, &jobs)?;
+    }])
+}
+
+/// The row of a result of job 0, by the number of the worker's task.
+fn result(alloc: Global, seq: u64, output: &[u8]) -> Result<Row, NoMemory> {
     let done = Signal::AsyncDone {
         number: 0,
-        output: Piece::of_slice(alloc, &[2, 1])?,
+        output: Piece::of_slice(alloc, output)?,
     };
-    let wrong = Signal::AsyncDone {
-        number: 0,
-        output: Piece::of_slice(alloc, &[1, 2])?,
-    };
+    Ok(handled(alloc, Sender::Worker(0), seq, Task::new(done)))
+}
+
+#[test]
+fn a_result_is_told_once_and_is_the_work_of_its_job(rt: HostRuntime) -> Result<(), Fail> {
+    let alloc = rt.alloc();
+    let mut state = opened(alloc)?;
+    let right = result(alloc, 0, &[2, 1])?;
+    assert!(rt; !state.keeps_jobs(alloc, &right)?);
+    note(&mut state, 0, &Signal::Link, &job(alloc)?)?;
     assert!(rt; !state.keeps_end());
-    assert!(rt;
-        !state.keeps_jobs(
-            alloc,
-            &handled(alloc, Sender::Worker(0), 0, Task::new(wrong))
-        )?
-    );
-    let message = [Effect::Message {
-        flag: Flag::Plain,
-        bytes: Piece::of_slice(alloc, &[2, 1])?,
-    }];
-    let closing = Closing {
-        reason: None,
-        stops: false,
+    assert!(rt; state.keeps_jobs(alloc, &right)?);
+    assert!(rt; !state.keeps_jobs(alloc, &result(alloc, 0, &[1, 2])?)?);
+    let done = Signal::AsyncDone {
+        number: 0,
+        output: Piece::empty(),
     };
-    state.note_handled(Sender::Worker(0), &done, &message, closing)?;
-    let twice = handled(alloc, Sender::Worker(0), 1, Task::new(done));
-    assert!(rt; !state.keeps_jobs(alloc, &twice)?);
+    note(&mut state, 0, &done, &[])?;
+    assert!(rt; !state.keeps_jobs(alloc, &right)?);
     Ok(())
 }
