@@ -27,18 +27,18 @@ pub record PollsSo (old new : Poller) (lanes lanes' : List LaneEnd) : Type 0 whe
   pub rounds : List FoundRound
   pub ran : RoundsTo old rounds new
   pub waited : All WasRound rounds
-  pub answered_lem : IsAnswered old.answered new.answered (all_found rounds)
+  pub each_answered : IsAnswered old.answered new.answered (all_found rounds)
   pub sends : Sends (tasks_of (all_found rounds)) lanes lanes'
 
 pub polls_none : (p : Poller) (lanes : List LaneEnd) → PollsSo p p lanes lanes
-polls_none p lanes = record { rounds = []; ran = refl; waited = All-nil WasRound; answered_lem = answered-rounds p.answered [] tt; sends = sends_none lanes }
+polls_none p lanes = record { rounds = []; ran = refl; waited = All-nil WasRound; each_answered = answered-rounds p.answered [] tt; sends = sends_none lanes }
 
 -- one round more
 record OneMore (old new : Poller) (lanes lanes' : List LaneEnd) (earlier : List FoundRound) (last : Polled) (left : List PortTask) : Type 0 where
   found : List PollAsk
   told : List PortTask
   ran : RoundsTo old (record { polled = last; found = found } ∷ earlier) new
-  answered_lem : IsAnswered old.answered new.answered (all_found earlier ++ found)
+  each_answered : IsAnswered old.answered new.answered (all_found earlier ++ found)
   whole : tasks_of (all_found earlier ++ found) ≡ told ++ left
   sends : Sends told lanes lanes'
 
@@ -46,8 +46,8 @@ one_more : (how : RoundEnd) (old mid new : Poller) (lanes lanes' lanes'' : List 
 one_more how old mid new lanes lanes' lanes'' so r = record {
   found = r.found;
   told = tasks_of (all_found so.rounds) ++ r.told;
-  ran = (mid, so.ran, r.round_lem);
-  answered_lem = answered_then old.answered mid.answered new.answered (all_found so.rounds) r.found so.answered_lem r.answered_lem;
+  ran = (mid, so.ran, r.is_round);
+  each_answered = answered_then old.answered mid.answered new.answered (all_found so.rounds) r.found so.each_answered r.each_answered;
   whole = flat_map-append told_of (all_found so.rounds) r.found ∙ ap (λ l. tasks_of (all_found so.rounds) ++ l) r.whole ∙ sym (append_assoc (tasks_of (all_found so.rounds)) r.told r.left);
   sends = sends_then (tasks_of (all_found so.rounds)) r.told lanes lanes' lanes'' so.sends r.sends;
 }
@@ -59,7 +59,7 @@ polls_more how old mid new lanes lanes' lanes'' so r waited none =
       rounds = record { polled = r.polled; found = more.found } ∷ so.rounds;
       ran = more.ran;
       waited = All-cons WasRound (record { polled = r.polled; found = more.found }) so.rounds waited so.waited;
-      answered_lem = more.answered_lem;
+      each_answered = more.each_answered;
       sends = subst (λ l. Sends l lanes lanes'') (sym (more.whole ∙ ap (λ l. more.told ++ l) none ∙ append-nil more.told)) more.sends;
     }
 
@@ -69,7 +69,7 @@ polls_stopped old new lanes lanes' so = record {
   told = tasks_of (all_found so.rounds);
   left = [];
   ran = so.ran;
-  answered_lem = so.answered_lem;
+  each_answered = so.each_answered;
   whole = sym (append-nil (tasks_of (all_found so.rounds)));
   sends = so.sends;
   ends = (so.waited, refl);
@@ -83,7 +83,7 @@ polls_finished old mid new lanes lanes' lanes'' so r =
       told = more.told;
       left = r.left;
       ran = more.ran;
-      answered_lem = more.answered_lem;
+      each_answered = more.each_answered;
       whole = more.whole;
       sends = more.sends;
       ends = ((r.ends.0, so.waited), r.ends.1);
@@ -97,7 +97,7 @@ polls_faulted old mid new lanes lanes' lanes'' so r =
       told = more.told;
       left = r.left;
       ran = more.ran;
-      answered_lem = more.answered_lem;
+      each_answered = more.each_answered;
       whole = more.whole;
       sends = more.sends;
       ends = ((r.ends.0, so.waited), r.ends.1);
@@ -111,7 +111,7 @@ polls_failed old mid new lanes lanes' lanes'' so r =
       told = more.told;
       left = r.left;
       ran = more.ran;
-      answered_lem = more.answered_lem;
+      each_answered = more.each_answered;
       whole = more.whole;
       sends = more.sends;
       ends = so.waited;

@@ -80,7 +80,7 @@ pub record PollsTo (how : PollerEnd) (old new : Poller) (lanes lanes' : List Lan
   pub told : List PortTask
   pub left : List PortTask
   pub ran : RoundsTo old rounds new
-  pub answered_lem : IsAnswered old.answered new.answered (all_found rounds)
+  pub each_answered : IsAnswered old.answered new.answered (all_found rounds)
   pub whole : tasks_of (all_found rounds) ≡ told ++ left
   pub sends : Sends told lanes lanes'
   pub ends : PollerEnds how rounds left
@@ -98,8 +98,8 @@ pub record RoundOf (how : RoundEnd) (old new : Poller) (lanes lanes' : List Lane
   pub found : List PollAsk
   pub told : List PortTask
   pub left : List PortTask
-  pub round_lem : IsRound old (record new { found = found }) polled
-  pub answered_lem : IsAnswered old.answered new.answered found
+  pub is_round : IsRound old (record new { found = found }) polled
+  pub each_answered : IsAnswered old.answered new.answered found
   pub whole : tasks_of found ≡ told ++ left
   pub sends : Sends told lanes lanes'
   pub ends : EndsRound how polled left
