@@ -59,9 +59,10 @@ or-none false b e = (refl, e)
 still-apart : (from : Sender) (seq : ℕ) (listed : List Entry) → has_sender from listed ≡ false → AreApart listed → AreApart (listed ++ entry from seq ∷ [])
 still-apart from seq [] free apart = (refl, tt)
 still-apart from seq (e ∷ listed) free apart =
-    let none = or-none (same_sender from e.from) (has_sender from listed) free in
-    (sender-more from e.from seq listed ∙ (ap (λ b. b || has_sender e.from listed) (sym (same-turned from e.from) ∙ none.0) ∙ apart.0),
-    still-apart from seq listed none.1 apart.1)
+    let none = or-none (same_sender from e.from) (has_sender from listed) free in (
+      sender-more from e.from seq listed ∙ (ap (λ b. b || has_sender e.from listed) (sym (same-turned from e.from) ∙ none.0) ∙ apart.0),
+      still-apart from seq listed none.1 apart.1,
+    )
 
 pub lists-more : (from : Sender) (seq : ℕ) (old new : ListedTasks) (task : TaskKey) (sender : SenderKey) (listed entries : List Entry)
     → task ≡ task_key from seq → sender ≡ key_of from

@@ -134,4 +134,3 @@ rising-map how keeps events up = subst (λ ns. Up ns) (sym (same events)) up whe
   same : (es : List Event) → numbers (map how es) ≡ numbers es
   same [] = refl
   same (e ∷ es) = rw (keeps e, same es) refl
-

@@ -68,12 +68,7 @@ impl JobTable {
     }
 
     /// Whether these bytes are the work of the job of this number, if it was submitted.
-    pub fn is_work(
-        &self,
-        alloc: Global,
-        number: u64,
-        output: &Piece,
-    ) -> Result<bool, NoMemory>
+    pub fn is_work(&self, alloc: Global, number: u64, output: &Piece) -> Result<bool, NoMemory>
         ensures { IfOk result (λ is. (jobs : List Submitted) (done : List ℕ) → Keeps self.now jobs done → is ≡ each_of number (is_work output.now) jobs) }
     {
         let place = number as usize;

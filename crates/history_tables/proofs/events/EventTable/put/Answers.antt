@@ -1,6 +1,5 @@
 use Rattle.std.proofs.Common.{map, sym, ap, ◌∙◌}
 use Rattle.port_history.specs.Events.{event_of}
-
 use Rattle.history_tables.specs.EventsKept.{event_in}
 use Rattle.history_tables.proofs.EventSteps.{puts, replaced-at, pushed-at, unkept-at}
 use Rattle.history_tables.proofs.events.EventTable.put.Goals as goal

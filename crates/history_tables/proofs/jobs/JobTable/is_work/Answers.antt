@@ -25,8 +25,8 @@ returns-then-place-len c = λ jobs done is.
 pub returns : goal.returns
 returns c =
     tells c.is_work_of.result c.args.self.now c.args.number c.args.output.now _ c.is_work_of.ensures (λ jobs done is.
-        ap (λ bytes. same_bytes bytes (work_of c.index-job.result.now.code c.as_slice.result.now)) c.as_slice-2.ensures
-        ∙ (ap (λ bytes. same_bytes c.args.output.now (work_of c.index-job.result.now.code bytes)) c.as_slice.ensures
-        ∙ (ap (λ (j : KeptJob). same_bytes c.args.output.now (work_of j.code j.input)) c.index-job.ensures
-        ∙ sym (ap (each_of c.args.number (is_work c.args.output.now)) is.submitted
-        ∙ each-kept c.args.number c.args.self.now.jobs.items (is_work c.args.output.now) c.index-job.result.now (omega (arith, c.args.self.now.jobs.ok.0))))))
+    ap (λ bytes. same_bytes bytes (work_of c.index-job.result.now.code c.as_slice.result.now)) c.as_slice-2.ensures
+    ∙ (ap (λ bytes. same_bytes c.args.output.now (work_of c.index-job.result.now.code bytes)) c.as_slice.ensures
+    ∙ (ap (λ (j : KeptJob). same_bytes c.args.output.now (work_of j.code j.input)) c.index-job.ensures
+    ∙ sym (ap (each_of c.args.number (is_work c.args.output.now)) is.submitted
+    ∙ each-kept c.args.number c.args.self.now.jobs.items (is_work c.args.output.now) c.index-job.result.now (omega (arith, c.args.self.now.jobs.ok.0))))))
