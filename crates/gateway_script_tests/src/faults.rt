@@ -67,7 +67,7 @@ const BAD: [(&str, &str); 56] = [
 
 #[test]
 fn tells_a_bad_line_before_every_other_fault(rt: HostRuntime) -> Result<(), Fail> {
-    let wrong = first_wrong(rt.alloc(), [HEAD, ""], BAD.as_slice())?;
+    let wrong = first_wrong(rt.alloc(), HEAD, "", BAD.as_slice())?;
     assert_eq!(rt; wrong.as_str(), "");
     Ok(())
 }
@@ -111,11 +111,12 @@ const OTHERS: [(&str, &str); 27] = [
 
 #[test]
 fn tells_the_least_fault_of_the_first_faulty_line(rt: HostRuntime) -> Result<(), Fail> {
-    let wrong = first_wrong(rt.alloc(), [HEAD, ""], OTHERS.as_slice())?;
+    let wrong = first_wrong(rt.alloc(), HEAD, "", OTHERS.as_slice())?;
     assert_eq!(rt; wrong.as_str(), "");
     let wrong = first_wrong(
         rt.alloc(),
-        ["", ""],
+        "",
+        "",
         [("a close p", "UnknownName { line: 1 }")].as_slice(),
     )?;
     assert_eq!(rt; wrong.as_str(), "");
@@ -131,7 +132,8 @@ fn a_script_has_32_processes_and_32_ports(rt: HostRuntime) -> Result<(), Fail> {
     }
     let wrong = first_wrong(
         alloc,
-        [text.as_str(), ""],
+        text.as_str(),
+        "",
         [
             ("process b", "Limit { line: 33, which: 1 }"),
             ("process a0", "Repeated { line: 33 }"),
@@ -144,7 +146,8 @@ fn a_script_has_32_processes_and_32_ports(rt: HostRuntime) -> Result<(), Fail> {
     }
     let wrong = first_wrong(
         alloc,
-        [text.as_str(), ""],
+        text.as_str(),
+        "",
         [
             ("port q a0 echo", "Limit { line: 65, which: 2 }"),
             ("port p7 a0 echo", "Repeated { line: 65 }"),

@@ -48,7 +48,7 @@ const DECLARED: [(&str, &str); 14] = [
 
 #[test]
 fn reads_declarations_and_options(rt: HostRuntime) -> Result<(), Fail> {
-    let wrong = first_wrong(rt.alloc(), ["", ""], DECLARED.as_slice())?;
+    let wrong = first_wrong(rt.alloc(), "", "", DECLARED.as_slice())?;
     assert_eq!(rt; wrong.as_str(), "");
     Ok(())
 }
@@ -120,7 +120,7 @@ const STEPS: [(&str, &str); 25] = [
 
 #[test]
 fn reads_each_step(rt: HostRuntime) -> Result<(), Fail> {
-    let wrong = first_wrong(rt.alloc(), [HEAD, DECLARATIONS], STEPS.as_slice())?;
+    let wrong = first_wrong(rt.alloc(), HEAD, DECLARATIONS, STEPS.as_slice())?;
     assert_eq!(rt; wrong.as_str(), "");
     Ok(())
 }

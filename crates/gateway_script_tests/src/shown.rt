@@ -130,13 +130,13 @@ fn outcome(alloc: Global, text: &str) -> Result<String, AllocError> {
     }
 }
 
-/// The first text that reads as something else than what is wanted, both behind what the head has of each, with what it reads as.
+/// The first text that reads as something else than what is wanted, with what it reads as. `before` stands before each text, and `read_before` before what is wanted.
 pub fn first_wrong(
     alloc: Global,
-    head: [&str; 2],
+    before: &str,
+    read_before: &str,
     rows: &[(&str, &str)],
 ) -> Result<String, AllocError> {
-    let [before, read_before] = head;
     for (text, wanted) in rows {
         let text = format!(in alloc; "{before}{text}")?;
         let wanted = format!(in alloc; "{read_before}{wanted}")?;
