@@ -21,6 +21,3 @@ pub use no_memory::NoMemory;
 pub use pool::Pool;
 pub use task_queue::{SendEnd, TakeEnd};
 pub use worker::Worked;
-
-#[cfg(test)]
-mod tests;

@@ -19,6 +19,3 @@ pub use driver::Driver;
 pub use kinds::{Echo, Refuse, Refused, Store, Tally, Valve, ValveSoft};
 pub use life::{Life, StartRefusal};
 pub use reply::ReplyTo;
-
-#[cfg(test)]
-mod tests;

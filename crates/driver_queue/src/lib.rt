@@ -9,8 +9,6 @@
 mod fault;
 mod pieces;
 mod queue;
-#[cfg(test)]
-mod tests;
 
 pub use fault::{DeqPast, EnqFault};
 pub use no_memory::NoMemory;

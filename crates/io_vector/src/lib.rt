@@ -9,8 +9,6 @@
 mod fault;
 mod flag;
 mod piece;
-#[cfg(test)]
-mod tests;
 mod vector;
 
 pub use fault::{Past, PrefixFault};

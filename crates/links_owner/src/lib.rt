@@ -6,8 +6,6 @@
 
 mod links;
 mod posts;
-#[cfg(test)]
-mod tests;
 
 pub use links::Links;
 pub use no_memory::NoMemory;

@@ -13,8 +13,6 @@ mod mode;
 mod packets;
 mod reading;
 mod sent;
-#[cfg(test)]
-mod tests;
 mod unframer;
 
 pub use fault::{FrameFault, UnframeFault};

@@ -13,10 +13,3 @@ mod watching;
 
 pub use body::{Body, BodyEnd, BodyParts};
 pub use turn::Turn;
-
-#[cfg(test)]
-mod busy_tests;
-#[cfg(test)]
-mod owner_tests;
-#[cfg(test)]
-mod tests;

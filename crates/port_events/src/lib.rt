@@ -22,6 +22,3 @@ pub use port_model::{Dir, Effect, Signal};
 pub use ready_select::PollAsk;
 pub use rows::Ending;
 pub use task_queue::SendEnd;
-
-#[cfg(test)]
-mod tests;

@@ -5,8 +5,6 @@ mod ending;
 mod finding;
 mod hosted;
 mod opening;
-#[cfg(test)]
-mod tests;
 mod wanted;
 
 pub use driver_entry::{Config, Driver, StartRefusal};

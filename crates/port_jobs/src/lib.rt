@@ -17,6 +17,3 @@ pub use fault::SubmitFault;
 pub use jobs::PortJobs;
 pub use no_memory::NoMemory;
 pub use port_model::{Effect, Signal};
-
-#[cfg(test)]
-mod tests;

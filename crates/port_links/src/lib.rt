@@ -18,6 +18,3 @@ mod signals;
 pub use links::Links;
 pub use port_model::{Mail, Monitor, NoMemory, Reason, Sender, Signal};
 pub use post::Post;
-
-#[cfg(test)]
-mod tests;

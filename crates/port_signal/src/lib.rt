@@ -23,6 +23,3 @@ pub use no_memory::NoMemory;
 pub use row::{Effect, Journal, MarkKind, Outside, Row, Rows};
 pub use signal::{Sender, Signal, Task};
 pub use spelling::reason;
-
-#[cfg(test)]
-mod tests;

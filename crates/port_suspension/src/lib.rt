@@ -14,6 +14,3 @@ pub use no_memory::NoMemory;
 pub use resuming::may_resume;
 pub use suspend_list::Entry;
 pub use suspension::Suspension;
-
-#[cfg(test)]
-mod tests;

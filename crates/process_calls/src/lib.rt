@@ -8,6 +8,3 @@ mod taking;
 pub use calls::make_call;
 pub use one_port::run_until_idle;
 pub use taking::take_mail;
-
-#[cfg(test)]
-mod tests;

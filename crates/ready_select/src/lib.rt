@@ -22,6 +22,3 @@ pub use ask::{PollAsk, Polled};
 pub use laws::told_no_more_than_answered;
 pub use rounds::poll_round;
 pub use selector::{Delivered, NotUsed, Selector, Unused};
-
-#[cfg(test)]
-mod tests;

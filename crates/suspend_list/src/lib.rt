@@ -7,8 +7,6 @@
 
 mod list;
 mod note;
-#[cfg(test)]
-mod tests;
 
 pub use list::{Entry, SuspendList};
 pub use no_memory::NoMemory;

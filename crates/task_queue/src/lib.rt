@@ -22,6 +22,3 @@ pub use no_memory::NoMemory;
 pub use protocol::{Ended, Hand, Rule};
 pub use send_end::SendEnd;
 pub use take_end::TakeEnd;
-
-#[cfg(test)]
-mod tests;

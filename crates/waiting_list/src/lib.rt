@@ -9,8 +9,6 @@
 mod arrival;
 mod list;
 mod queues;
-#[cfg(test)]
-mod tests;
 
 pub use list::WaitingList;
 pub use no_memory::NoMemory;

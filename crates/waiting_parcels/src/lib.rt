@@ -11,8 +11,6 @@
 mod arrival;
 mod list;
 mod queues;
-#[cfg(test)]
-mod tests;
 
 pub use list::WaitingList;
 pub use no_memory::NoMemory;

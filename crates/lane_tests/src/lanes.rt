@@ -1,0 +1,404 @@
+ghost use Rattle.std.specs.Prelude.{◌≡◌, ℕ, ◌+◌, ◌<◌, true, [], Contains, IfSome, IsSomeAnd, OnOk, length, vec_len, slice_index_or};
+ghost use Rattle.task_queue.specs.Items.{of, IsNumbered};
+ghost use Rattle.task_queue.specs.Ends.{ended_of, TookAll};
+
+use std::alloc::{AllocError, Global};
+use std::snapshot::Snapshot;
+use std::sync::Wait;
+use std::sync::atomic::{AtomicU64, Ordering};
+use std::test::Fail;
+use std::thread;
+use std::thread::{Threads, join};
+use task_queue::{Fits, Item, SendEnd, TakeEnd, lane};
+
+// Every number fits, in a lane with no key.
+#[derive(Clone, Copy, Debug, Drop, PartialEq)]
+struct Number(u64);
+
+impl Fits for Number {
+    type Key = ();
+
+    ghost fits = { λ key number value. Unit {0} };
+}
+
+// A place in a list whose length is the lane's key.
+#[derive(Debug, Drop)]
+struct Place(usize);
+
+impl Fits for Place {
+    type Key = usize;
+
+    ghost fits = { λ len number place. place.0 < len };
+}
+
+// What one thread puts.
+#[derive(Drop)]
+struct Job {
+    end: SendEnd<Number>,
+    values: Vec<Number>,
+    ghost fresh: { end.sent ≡ [] },
+}
+
+// Puts all values, and says that it is done.
+fn put_all<R: Wait>(rt: &R, job: Job, done: &AtomicU64) -> Option<SendEnd<Number>>
+    ensures { IfSome result (λ end. end ≡ record job.end { sent = job.values.items }) }
+{
+    let Job { mut end, values } = job;
+    let put = put_each(rt, &mut end, &values);
+    done.fetch_add(1, Ordering::SeqCst);
+    put.then_some(end)
+}
+
+fn put_each<R: Wait>(rt: &R, end: &mut SendEnd<Number>, values: &[Number]) -> bool
+    requires { end.old.sent ≡ [] }
+    ensures { result ≡ true → end.new ≡ record end.old { sent = values.now } }
+{
+    for value in values {
+        if end.put(rt, *value).is_err() {
+            return false;
+        }
+    }
+    true
+}
+
+// Takes until so many senders are done and the lane is empty.
+fn gather<R: Wait>(
+    rt: &R,
+    end: &mut TakeEnd<Number>,
+    items: &mut Vec<Item<Number>>,
+    done: &AtomicU64,
+    senders: u64,
+) -> Result<(), AllocError>
+    requires { items.old.items ≡ end.old.taken }
+    ensures same { end.new ≡ record end.old { taken = end.new.taken } }
+    ensures kept { OnOk result (items.new.items ≡ end.new.taken) }
+    ensures all { OnOk result (TookAll end.new) }
+    ensures numbered { OnOk result (IsNumbered end.new.taken) }
+{
+    for _ in rt.forever() {
+        let over = done.load(Ordering::SeqCst) >= senders;
+        items.reserve(1)?;
+        match end.take(rt) {
+            Some(item) => items.push_reserved(item),
+            None if over => return Ok(()),
+            None => thread::yield_now(),
+        }
+    }
+    unreachable!()
+}
+
+// What was taken, beside the end that took it.
+#[derive(Drop)]
+struct Gathered {
+    end: TakeEnd<Number>,
+    items: Vec<Item<Number>>,
+    ghost kept: { items.items ≡ end.taken },
+}
+
+fn take_until<R: Wait>(
+    rt: &R,
+    gathered: Gathered,
+    done: &AtomicU64,
+    senders: u64,
+) -> Option<Gathered>
+    ensures same { IfSome result (λ r. r.end ≡ record gathered.end { taken = r.end.taken }) }
+    ensures all { IfSome result (λ r. TookAll r.end) }
+    ensures numbered { IfSome result (λ r. IsNumbered r.end.taken) }
+{
+    let Gathered { mut end, mut items } = gathered;
+    let Ok(()) = gather(rt, &mut end, &mut items, done, senders) else {
+        return None;
+    };
+    Some(Gathered { end, items })
+}
+
+// Two threads put, and a third takes.
+fn exchange<R: Threads + Wait + Sync>(
+    rt: &R,
+    done: &AtomicU64,
+    first: Job,
+    second: Job,
+    gathered: Gathered,
+) -> (Option<(SendEnd<Number>, SendEnd<Number>)>, Option<Gathered>)
+    ensures first { IfSome result.0 (λ ends. ends.0 ≡ record first.end { sent = first.values.items }) }
+    ensures second { IfSome result.0 (λ ends. ends.1 ≡ record second.end { sent = second.values.items }) }
+    ensures same { IfSome result.1 (λ r. r.end ≡ record gathered.end { taken = r.end.taken }) }
+{
+    join(
+        rt,
+        || put_both(rt, done, first, second),
+        || take_until(rt, gathered, done, 2),
+    )
+}
+
+fn put_both<R: Threads + Wait + Sync>(
+    rt: &R,
+    done: &AtomicU64,
+    first: Job,
+    second: Job,
+) -> Option<(SendEnd<Number>, SendEnd<Number>)>
+    ensures first { IfSome result (λ ends. ends.0 ≡ record first.end { sent = first.values.items }) }
+    ensures second { IfSome result (λ ends. ends.1 ≡ record second.end { sent = second.values.items }) }
+{
+    let (one, two) = join(
+        rt,
+        || put_all(rt, first, done),
+        || put_all(rt, second, done),
+    );
+    Some((one?, two?))
+}
+
+// Takes in both senders, and takes what is left of them.
+fn finish<R: Wait>(
+    rt: &R,
+    gathered: Gathered,
+    one: SendEnd<Number>,
+    two: SendEnd<Number>,
+    done: &AtomicU64,
+) -> Option<Vec<Item<Number>>>
+    requires lanes { (one.lane ≡ gathered.end.lane) × (two.lane ≡ gathered.end.lane) }
+    requires fresh { gathered.end.ended ≡ [] }
+    ensures one { IfSome result (λ items. of one.number items.items ≡ one.sent) }
+    ensures two { IfSome result (λ items. of two.number items.items ≡ two.sent) }
+    ensures numbered { IfSome result (λ items. IsNumbered items.items) }
+{
+    let Gathered { mut end, items } = gathered;
+    end.take_in(one);
+    end.take_in(two);
+    let left = Gathered { end, items };
+    let Some(all) = take_until(rt, left, done, 0) else {
+        return None;
+    };
+    Some(all.items)
+}
+
+// Two threads put a list each, and a third takes: each sender's values come whole, and in its order.
+fn deliver<R: Threads + Wait + Sync>(
+    rt: &R,
+    alloc: Global,
+    first: Vec<Number>,
+    second: Vec<Number>,
+) -> Option<Vec<Item<Number>>>
+    ensures first { IfSome result (λ items. of 0 items.items ≡ first.items) }
+    ensures second { IfSome result (λ items. of 1 items.items ≡ second.items) }
+    ensures numbered { IfSome result (λ items. IsNumbered items.items) }
+{
+    let Ok((mut one, end)) = lane::<Number>(alloc, Snapshot::of(&())) else {
+        return None;
+    };
+    let Ok(two) = one.split() else {
+        return None;
+    };
+    let done = AtomicU64::new(0);
+    let start = Gathered {
+        end,
+        items: Vec::new(alloc),
+    };
+    let one = Job {
+        end: one,
+        values: first,
+    };
+    let two = Job {
+        end: two,
+        values: second,
+    };
+    let (ends, gathered) = exchange(rt, &done, one, two, start);
+    let (Some((one, two)), Some(gathered)) = (ends, gathered) else {
+        return None;
+    };
+    finish(rt, gathered, one, two, &done)
+}
+
+#[test]
+fn two_threads_put_and_a_third_takes(rt: HostRuntime) -> Result<(), Fail> {
+    let alloc = rt.alloc();
+    let first: Vec<Number> = (0..1000).map(Number).collect(alloc)?;
+    let second: Vec<Number> = (5000..6000).map(Number).collect(alloc)?;
+    let items = deliver(&rt, alloc, first, second).ok_or("memory")?;
+    assert_eq!(rt; items.len(), 2000);
+    for item in items.iter().take(2000) {
+        let start = if item.sender == 0 { 0 } else { 5000 };
+        assert_eq!(rt; item.value.0, start + item.seq.min(1000));
+    }
+    Ok(())
+}
+
+// A job for each list: ends 1, 2 and so on put them.
+fn jobs_of(alloc: Global, maker: &mut SendEnd<Number>, lists: Vec<Vec<Number>>) -> Option<Vec<Job>>
+    requires number { maker.old.number ≡ 0 }
+    requires made { maker.old.made ≡ 1 }
+    ensures len { IfSome result (λ jobs. vec_len jobs ≡ vec_len lists) }
+    ensures ends { IfSome result (λ jobs. (n : ℕ) (j : _) → n < vec_len lists → (slice_index_or jobs.items n j).end ≡ record maker.old { number = n + 1; made = 0; sent = [] }) }
+    ensures values { IfSome result (λ jobs. (n : ℕ) (j : _) (v : _) → n < vec_len lists → (slice_index_or jobs.items n j).values ≡ slice_index_or lists.items n v) }
+{
+    let mut jobs = Vec::new(alloc);
+    for values in lists {
+        let Ok(end) = maker.split() else {
+            return None;
+        };
+        if jobs.push(Job { end, values }).is_err() {
+            return None;
+        }
+    }
+    Some(jobs)
+}
+
+// A thread for each job.
+fn put_lists<R: Threads + Wait + Sync>(
+    rt: &R,
+    done: &AtomicU64,
+    jobs: Vec<Job>,
+) -> Option<Vec<Option<SendEnd<Number>>>>
+    ensures len { IfSome result (λ ends. vec_len ends ≡ vec_len jobs) }
+    ensures sent { IfSome result (λ ends. (n : ℕ) (e : _) (j : _) → n < vec_len jobs → IfSome (slice_index_or ends.items n e) (λ end. end ≡ record (slice_index_or jobs.items n j).end { sent = (slice_index_or jobs.items n j).values.items })) }
+{
+    thread::map_vec(rt, jobs, &|job| put_all(rt, job, done)).ok()
+}
+
+// A thread for each job puts, and another takes.
+fn exchange_all<R: Threads + Wait + Sync>(
+    rt: &R,
+    done: &AtomicU64,
+    jobs: Vec<Job>,
+    gathered: Gathered,
+) -> (Option<Vec<Option<SendEnd<Number>>>>, Option<Gathered>)
+    ensures len { IfSome result.0 (λ ends. vec_len ends ≡ vec_len jobs) }
+    ensures sent { IfSome result.0 (λ ends. (n : ℕ) (e : _) (j : _) → n < vec_len jobs → IfSome (slice_index_or ends.items n e) (λ end. end ≡ record (slice_index_or jobs.items n j).end { sent = (slice_index_or jobs.items n j).values.items })) }
+    ensures same { IfSome result.1 (λ r. r.end ≡ record gathered.end { taken = r.end.taken }) }
+{
+    let senders = jobs.len() as u64;
+    join(
+        rt,
+        || put_lists(rt, done, jobs),
+        || take_until(rt, gathered, done, senders),
+    )
+}
+
+// Takes in all ends, if each is there.
+fn take_in_all(end: &mut TakeEnd<Number>, ends: Vec<Option<SendEnd<Number>>>) -> bool
+    requires { (n : ℕ) (e : _) → n < vec_len ends → IfSome (slice_index_or ends.items n e) (λ s. s.lane ≡ end.old.lane) }
+    ensures same { end.new ≡ record end.old { ended = end.new.ended } }
+    ensures ended { result ≡ true → (n : ℕ) (e : _) → n < vec_len ends → IsSomeAnd (slice_index_or ends.items n e) (λ s. Contains end.new.ended (ended_of s)) }
+{
+    for sender in ends {
+        let Some(sender) = sender else {
+            return false;
+        };
+        end.take_in(sender);
+    }
+    true
+}
+
+// Takes in all senders, and takes what is left of them.
+fn finish_all<R: Wait>(
+    rt: &R,
+    gathered: Gathered,
+    ends: Vec<Option<SendEnd<Number>>>,
+    done: &AtomicU64,
+) -> Option<Vec<Item<Number>>>
+    requires { (n : ℕ) (e : _) → n < vec_len ends → IfSome (slice_index_or ends.items n e) (λ s. s.lane ≡ gathered.end.lane) }
+    ensures { IfSome result (λ items. (n : ℕ) (e : _) → n < vec_len ends → IsSomeAnd (slice_index_or ends.items n e) (λ s. of s.number items.items ≡ s.sent)) }
+{
+    let Gathered { mut end, items } = gathered;
+    if !take_in_all(&mut end, ends) {
+        return None;
+    }
+    let left = Gathered { end, items };
+    let Some(all) = take_until(rt, left, done, 0) else {
+        return None;
+    };
+    Some(all.items)
+}
+
+// A thread for each list puts it, and another takes: each list comes whole, and in its order.
+fn fan_in<R: Threads + Wait + Sync>(
+    rt: &R,
+    alloc: Global,
+    lists: Vec<Vec<Number>>,
+) -> Option<Vec<Item<Number>>>
+    ensures { IfSome result (λ items. (n : ℕ) (v : _) → n < vec_len lists → of (n + 1) items.items ≡ (slice_index_or lists.items n v).items) }
+{
+    let Ok((mut maker, end)) = lane::<Number>(alloc, Snapshot::of(&())) else {
+        return None;
+    };
+    let Some(jobs) = jobs_of(alloc, &mut maker, lists) else {
+        return None;
+    };
+    let start = Gathered {
+        end,
+        items: Vec::new(alloc),
+    };
+    let done = AtomicU64::new(0);
+    let (ends, gathered) = exchange_all(rt, &done, jobs, start);
+    let (Some(ends), Some(gathered)) = (ends, gathered) else {
+        return None;
+    };
+    finish_all(rt, gathered, ends, &done)
+}
+
+#[test]
+fn each_of_many_lists_comes_in_its_order(rt: HostRuntime) -> Result<(), Fail> {
+    let alloc = rt.alloc();
+    let mut lists = Vec::new(alloc);
+    for start in 0..8u64 {
+        lists.push((100 * start..100 * start + 50).map(Number).collect(alloc)?)?;
+    }
+    let items = fan_in(&rt, alloc, lists).ok_or("memory")?;
+    assert_eq!(rt; items.len(), 400);
+    for item in items {
+        assert_eq!(rt;
+            item.value.0,
+            100 * u64::from(item.sender.clamp(1, 8) - 1) + item.seq.min(50)
+        );
+    }
+    Ok(())
+}
+
+#[test]
+fn items_come_in_the_order_of_each_sender(rt: HostRuntime) -> Result<(), Fail> {
+    let (mut first, mut taker) = lane::<Number>(rt.alloc(), Snapshot::of(&()))?;
+    assert_eq!(rt; first.number(), 0);
+    assert_eq!(rt; first.put(&rt, Number(10))?, 0);
+    let mut second = first.split()?;
+    assert_eq!(rt; second.number(), 1);
+    assert_eq!(rt; second.put(&rt, Number(20))?, 0);
+    assert_eq!(rt; first.put(&rt, Number(30))?, 1);
+    let wanted = [(0, 0, 10), (1, 0, 20), (0, 1, 30)];
+    for (sender, seq, number) in wanted {
+        let value = Number(number);
+        assert_eq!(rt; taker.take(&rt), Some(Item { sender, seq, value }));
+    }
+    assert_eq!(rt; taker.take(&rt), None);
+    Ok(())
+}
+
+#[test]
+fn ends_are_taken_in_with_what_they_sent(rt: HostRuntime) -> Result<(), Fail> {
+    let (mut first, mut taker) = lane::<Number>(rt.alloc(), Snapshot::of(&()))?;
+    let second = first.split()?;
+    first.put(&rt, Number(10))?;
+    taker.take_in(second);
+    taker.take_in(first);
+    assert_eq!(rt; taker.take(&rt).map(|item| item.value.0), Some(10));
+    assert_eq!(rt; taker.take(&rt), None);
+    Ok(())
+}
+
+// What is taken is used as a place with no test, since it fits the lane's key.
+fn named<'a, R: Wait>(rt: &R, names: &[&'a str], places: &mut TakeEnd<Place>) -> Option<&'a str>
+    requires { places.old.key ≡ length names.now }
+    ensures { places.new.key ≡ places.old.key }
+{
+    let item = places.take(rt)?;
+    Some(names[item.value.0])
+}
+
+#[test]
+fn what_is_taken_fits_the_key(rt: HostRuntime) -> Result<(), Fail> {
+    let names = ["a", "b", "c"];
+    let (mut sender, mut taker) = lane::<Place>(rt.alloc(), Snapshot::of(&names.len()))?;
+    sender.put(&rt, Place(2)).ok().ok_or("memory")?;
+    assert_eq!(rt; named(&rt, &names, &mut taker), Some("c"));
+    assert_eq!(rt; named(&rt, &names, &mut taker), None);
+    Ok(())
+}
