@@ -5,6 +5,11 @@
 #
 # where n counts parts (tuples, segments, bytes or commands), and growth is in percent of the row before, which has half as many parts.
 # `bench/run.sh NAME [N]` makes one work alone; the names are those that `bench/run.sh` prints. Nothing checks a figure.
+#
+# Of the rows of `body_echo`, `body_waits` and `body_freed` the second has eight times as many parts as the first.
+#
+# The rows of `bench/run.sh schedulers` are of 1, 2 and 4 schedulers, each of as many commands, and have more words at their end. The row of
+# `bench/run.sh schedulers_idle` has its own form. crates/port_bench/src/main.rt tells both.
 set -u
 here=$(cd "$(dirname "$0")/.." && pwd)
 
@@ -82,6 +87,7 @@ built() {
 case "${1:-all}" in
 gateway_run) time_program "${2:-2000}" ;;
 program_cat) built program_bench "${2:-8388608}" && time_cat "${2:-8388608}" ;;
-all) built bench all && built program_bench 8388608 && time_cat 8388608 && time_program 2000 ;;
+body_echo | body_waits | body_freed | schedulers | schedulers_idle) built port_bench "$@" ;;
+all) built bench all && built port_bench all && built program_bench 8388608 && time_cat 8388608 && time_program 2000 ;;
 *) built bench "$@" ;;
 esac

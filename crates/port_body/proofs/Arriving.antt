@@ -20,7 +20,7 @@ use Rattle.recorded_port.specs.View.{RecordedView, IsSettled, state_of}
 use Rattle.recorded_port.specs.Taking.{IsSameRecorded}
 use Rattle.recorded_port.specs.Resuming.{MayList}
 use Rattle.recorded_port.proofs.Append.{rows-more}
-use Rattle.port_body.specs.LanePort.{LanePortView, Holds, Accounts, IsDue, WasTaken, AreNumbered, rows_from, tasks_of}
+use Rattle.port_body.specs.LanePort.{LanePortView, HasEnd, Holds, Accounts, IsDue, WasTaken, AreNumbered, rows_from, tasks_of}
 use Rattle.port_body.specs.Steps.{Came}
 use Rattle.port_body.proofs.Holding.{all-append, all-map, within-lane, among}
 use Rattle.port_body.proofs.Items.{items-append}
@@ -152,6 +152,7 @@ plain-behind v x came plain =
         tt,
       );
       entries = s.entries;
+      from_ends = h.from_ends;
     }
 
 -- and one that does, once its sender is listed
@@ -233,6 +234,7 @@ listed-behind v x port process came suspends at settled same rows =
         record { number = x.sender; within = s.within; from = sym at; taken = s.taken },
         all-map (WasTaken v) (WasTaken (record v { port = port })) (state_of v.port).entries (λ e t. record { number = t.number; within = t.within; from = t.from; taken = t.taken }) s.entries,
       );
+      from_ends = subst (AllByRecursion (HasEnd key)) (sym (ap (λ o. (state o (reverse port.rows)).senders) same.opening ∙ ap (λ r. (state v.port.opening r).senders) history)) h.from_ends;
     }
   where
     both-map : {X : Type 0} (P Q R : X → Type 0) (xs : List X) → ((x : X) → P x → Q x → R x) → AllByRecursion P xs → AllByRecursion Q xs → AllByRecursion R xs

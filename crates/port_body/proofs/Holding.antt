@@ -21,7 +21,7 @@ use Rattle.waiting_parcels.specs.Waiting.{Waiting, GoesFirst, has_sender}
 use Rattle.recorded_port.specs.View.{RecordedView, IsSettled, state_of}
 use Rattle.recorded_port.specs.Taking.{Takes, IsSameRecorded}
 use Rattle.recorded_port.specs.Resuming.{Resumes, may_go}
-use Rattle.port_body.specs.LanePort.{LanePortView, Holds, IsBody, OwnItems, IsDue, WasTaken, AreNumbered, rows_from, tasks_of}
+use Rattle.port_body.specs.LanePort.{LanePortView, HasEnd, Holds, IsBody, OwnItems, IsDue, WasTaken, AreNumbered, rows_from, tasks_of}
 use Rattle.port_body.proofs.Items.{items-moved}
 use Rattle.port_body.proofs.Places.{apart, not-lt}
 use Rattle.port_body.proofs.Rows.{OneTask, SameTasks, after-task, after-resumes}
@@ -61,6 +61,7 @@ first-moved v busy items x rest h goes =
           };
       due = (parts.1.0, subst (AllByRecursion (IsDue v)) (sym goes.left) (all-append (IsDue v) goes.before goes.after parts.0 parts.1.1));
       entries = h.entries;
+      from_ends = h.from_ends;
     }
   where
     first-of : (a b : Bool) → (not a && b) ≡ true → a ≡ false
@@ -117,6 +118,7 @@ took old port x rest h settled same takes =
     subst (λ r. OneTask old.port.opening (reverse old.port.rows) (reverse r) from x.value.task) (sym takes.rows)
     (after-task old.port.opening old.port.rows takes.row takes.marks from x.seq x.value.task takes.tells) in
     let entries : (state_of port).entries ≡ (state_of old.port).entries = ap (λ o. (state o (reverse port.rows)).entries) same.opening ∙ one.entries in
+    let senders : (state_of port).senders ≡ from ∷ (state_of old.port).senders = ap (λ o. (state o (reverse port.rows)).senders) same.opening ∙ one.senders in
     let inside = within-lane key x h.due.0.fits in
     record {
       settled = settled;
@@ -142,6 +144,7 @@ took old port x rest h settled same takes =
       }) h.due.1;
       entries = all-map (WasTaken old) (WasTaken (record old { port = port })) (state_of port).entries (λ e t. record { number = t.number; within = t.within; from = t.from; taken = t.taken })
           (subst (AllByRecursion (WasTaken old)) (sym entries) h.entries);
+      from_ends = subst (AllByRecursion (HasEnd key)) (sym senders) (record { number = x.sender; within = inside; is = refl }, h.from_ends);
     }
 
 -- Those who waited for a resume were resumed
@@ -179,6 +182,7 @@ resumed old port items h settled same resumes =
       }) h.due;
       entries = all-map (WasTaken old) (WasTaken (record old { port = port })) (state_of port).entries (λ e t. record { number = t.number; within = t.within; from = t.from; taken = t.taken })
           (subst (AllByRecursion (WasTaken old)) (sym entries) h.entries);
+      from_ends = subst (AllByRecursion (HasEnd key)) (sym (ap (λ o. (state o (reverse port.rows)).senders) same.opening ∙ tasks.senders)) h.from_ends;
     }
 
 -- what holds says nothing of the list of those that wait but how many senders it knows
@@ -194,6 +198,7 @@ waits v waiting items h senders = record {
   due = all-map (IsDue v) (IsDue (record v { waiting = waiting })) items (λ y d. record { fits = d.fits; listed = d.listed; taken = d.taken }) h.due;
   entries = all-map (WasTaken v) (WasTaken (record v { waiting = waiting })) (state_of v.port).entries (λ e t. record { number = t.number; within = t.within; from = t.from; taken = t.taken })
       h.entries;
+  from_ends = h.from_ends;
 }
 
 -- who has an end is one of those that there are
@@ -226,6 +231,7 @@ rearranged v items others h same due = record {
       };
   due = due;
   entries = h.entries;
+  from_ends = h.from_ends;
 }
 
 -- the last item may stand in front, where none of its sender stands before it
@@ -252,6 +258,7 @@ opened-body v settled rows items taken table processes workers opening senders =
     };
     due = tt;
     entries = subst (AllByRecursion (WasTaken v)) (sym (ap (λ r. (state v.port.opening (reverse r)).entries) rows)) tt;
+    from_ends = subst (AllByRecursion (HasEnd v.lane.key)) (sym (ap (λ r. (state v.port.opening (reverse r)).senders) rows)) tt;
   });
   owners = subst (OwnItems v.processes) (sym items) tt;
   closed = λ shut. items;

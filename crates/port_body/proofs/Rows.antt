@@ -71,11 +71,12 @@ after-resumes port rows word listed =
 pub record OneTask (port : Opening) (before after : List Row) (from : Sender) (task : TaskView) : Type 0 where
   pub rows : (other : Sender) → rows_from other after ≡ rows_from other before ++ task_from other from task
   pub entries : (state port after).entries ≡ (state port before).entries
+  pub senders : (state port after).senders ≡ from ∷ (state port before).senders
 
 told : (port : Opening) (before : List Row) (row : Row) (from : Sender) (seq : ℕ) (task : TaskView) → TellsOf row from seq task → OneTask port before (row ∷ before) from task
-told port before row from seq task (inl late) = subst (λ x. OneTask port before (x ∷ before) from task) (sym late) (record { rows = λ other. refl; entries = refl })
+told port before row from seq task (inl late) = subst (λ x. OneTask port before (x ∷ before) from task) (sym late) (record { rows = λ other. refl; entries = refl; senders = refl })
 told port before row from seq task (inr (outside, effects, handled)) =
-    subst (λ x. OneTask port before (x ∷ before) from task) (sym handled) (record { rows = λ other. refl; entries = refl })
+    subst (λ x. OneTask port before (x ∷ before) from task) (sym handled) (record { rows = λ other. refl; entries = refl; senders = refl })
 
 pub task-reverse : (rows : List Row) (row : Row) (kinds : List MarkKind) → reverse (rows ++ row ∷ map Mark kinds) ≡ reverse (map Mark kinds) ++ row ∷ reverse rows
 task-reverse rows row kinds =
@@ -90,6 +91,7 @@ after-task port rows row kinds from seq task tells =
     subst (λ x. OneTask port (reverse rows) x from task) (sym (task-reverse rows row kinds)) (record {
       rows = λ other. quiet.rows other ∙ one.rows other;
       entries = quiet.entries ∙ one.entries;
+      senders = quiet.senders ∙ one.senders;
     })
 
 -- the count of a sender's tasks is that of its rows

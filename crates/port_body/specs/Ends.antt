@@ -1,5 +1,6 @@
 -- What a body is once it ended, and what it gives back.
 use Rattle.std.specs.Prelude.{◌≡◌, ◌<◌, ◌≤◌, ℕ, List, [], ◌++◌, length, slice_index_or, reverse, Bool, true, false, Option, IfSome}
+use Rattle.std.specs.List.{AllByRecursion}
 use Rattle.task_queue.specs.Ends.{Taking}
 use Rattle.driver_model.specs.Calls.{Own}
 use Rattle.driver_model.specs.Drivers.{holds}
@@ -20,7 +21,7 @@ use Rattle.recorded_port.specs.Laws.{IsLawful}
 use Rattle.recorded_port.specs.View.{removed_sizes, stat_marks, state_of}
 use Rattle.recorded_port.specs.declared.parts.PortOutlets.{PortOutlets}
 use Rattle.port_body.specs.Body.{BodyView, name_of}
-use Rattle.port_body.specs.LanePort.{rows_from, tasks_of}
+use Rattle.port_body.specs.LanePort.{HasEnd, rows_from, tasks_of}
 
 -- Its driver is stopped, and its faults didn't fall; rows, ends and words are as they were. It is broken from then on, unless its port had stopped the driver, and
 -- then nothing changed
@@ -61,11 +62,12 @@ pub record IsSentBy (port : Opening) (history : List Row) (outlets : PortOutlets
   pub removed : removed_sizes outlets.seat ≡ removals history
 
 -- What an unbroken body ends with: its history is lawful, and what it sent and marked is what that says. Of each end of its lane the tasks that have a row, and then
--- those that wait, are what was taken of it. Nothing waits where the port isn't open, and so of a body that has finished
+-- those that wait, are what was taken of it, and no other sender has a row. Nothing waits where the port isn't open, and so of a body that has finished
 pub record IsWholeEnd (v : BodyView) (rows : List Row) (outlets : PortOutlets) (lane : Taking ParcelView Key) : Type 0 where
   pub sent : IsSentBy v.lane_port.port.opening (reverse rows) outlets
   pub taken : (number : ℕ) → number < end_of lane.key Timer
       → rows_from (sender_at lane.key number) (reverse rows) ++ tasks_of number v.lane_port.waiting.items ≡ tasks_of number lane.taken
+  pub from_ends : AllByRecursion (HasEnd lane.key) (state v.lane_port.port.opening (reverse rows)).senders
   pub closed : is_open (state v.lane_port.port.opening (reverse rows)) ≡ false → v.lane_port.waiting.items ≡ []
   pub finished : v.finished ≡ true → IsFinished v.lane_port.port.opening (reverse rows)
   pub none_waits : v.finished ≡ true → v.lane_port.waiting.items ≡ []

@@ -64,6 +64,12 @@ pub record WasTaken (v : LanePortView) (e : Entry) : Type 0 where
   pub from : e.from ≡ sender_at v.lane.key number
   pub taken : e.seq < length (items_of number v.lane.taken)
 
+-- the sender has an end of the lane
+pub record HasEnd (key : Key) (from : Sender) : Type 0 where
+  pub number : ℕ
+  pub within : number < end_of key Timer
+  pub is : from ≡ sender_at key number
+
 -- these are the items that have no row yet, of a port that is settled
 pub record Holds (v : LanePortView) (items : List (Item ParcelView)) : Type 0 where
   pub settled : IsSettled v.port
@@ -75,6 +81,7 @@ pub record Holds (v : LanePortView) (items : List (Item ParcelView)) : Type 0 wh
   pub accounts : (number : ℕ) → number < end_of v.lane.key Timer → Accounts v items number
   pub due : AllByRecursion (IsDue v) items
   pub entries : AllByRecursion (WasTaken v) (state_of v.port).entries
+  pub from_ends : AllByRecursion (HasEnd v.lane.key) (state_of v.port).senders
 
 -- there is room for so many rows, beside one for each sender who is listed
 abbrev pub HasRoom : ℕ → LanePortView → Type 0

@@ -1,1 +1,6 @@
 pub mod Shown
+pub mod Rests
+pub mod Merges
+pub mod Tells
+pub mod Rows
+pub mod TakingRests

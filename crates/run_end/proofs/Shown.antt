@@ -1,27 +1,22 @@
 -- The words that receipts show, by those that the joined seats found or left.
-use Rattle.std.proofs.Common.{◌≡◌, ℕ, zero, suc, ◌+◌, ◌*◌, ◌%◌, ◌<◌, ◌≤◌, ◌==◌, Bool, true, false, List, [], ◌∷◌, ◌++◌, map, length, refl, sym, ap, ◌∙◌, subst, inl, inr, arith}
-use Rattle.std.specs.Prelude.{nat_le}
+use Rattle.std.proofs.Common.{◌≡◌, ℕ, zero, suc, ◌+◌, ◌%◌, ◌<◌, ◌≤◌, Bool, true, false, List, [], ◌∷◌, ◌++◌, map, length, refl, sym, ap, ◌∙◌, subst, arith}
 use Rattle.std.specs.List.{All, sum_by}
-use Rattle.std.proofs.lemmas.Bool.{cases_order}
-use Rattle.std.proofs.lemmas.List.Elements.{All-nil, All-cons, All-head, All-tail, All-same}
+use Rattle.std.proofs.lemmas.List.Elements.{All-nil, All-cons, All-head, All-tail}
 use Rattle.std.proofs.lemmas.List.Sums.{sum_by-cons}
-use Rattle.port_words.specs.declared.busy.view.QueueLimits.{QueueLimits}
-use Rattle.port_words.specs.declared.busy.view.StatMark.{StatMark}
 use Rattle.port_words.specs.declared.busy.view.QueueAdd.{QueueAdd}
 use Rattle.port_words.specs.declared.busy.view.SenderView.{SenderView}
 use Rattle.port_words.specs.declared.busy.view.BusyView.{BusyView}
-use Rattle.port_words.specs.busy.Known.{PortKnown, SendKnown}
+use Rattle.port_words.specs.busy.Known.{SendKnown}
 use Rattle.port_words.specs.busy.Queue.{period_of, bytes_of, Climbs, filled_in, add_size}
 use Rattle.port_words.specs.busy.Stat.{Rises, EachRises}
-use Rattle.port_words.specs.busy.Steps.{TellsQueue, port_heard}
-use Rattle.port_words.specs.busy.Views.{adds_by, WordsIn}
-use Rattle.process_end.specs.Bounds.{queue_bound, adds_joined, AllJoined}
+use Rattle.port_words.specs.busy.Steps.{TellsQueue}
+use Rattle.port_words.specs.busy.Views.{adds_by}
+use Rattle.process_end.specs.Bounds.{queue_bound, adds_joined}
 use Rattle.process_end.proofs.Bounds.{kept-all, words-kept}
 use Rattle.process_end.proofs.Stats.{shown-rise}
-use Rattle.process_receipts.specs.Ledgers.{kept_adds, shown_add, OncePlain}
+use Rattle.process_receipts.specs.Ledgers.{shown_add, OncePlain}
 use Rattle.process_receipts.specs.Receipts.{ShownAdd, adds_shown, stats_shown, words_shown, picked, IsSublist}
-use Rattle.run_end.specs.Words.{HasJoined, with_senders}
-use Rattle.run_end.specs.Shown.{Calls, SeatShown, AreShown, adds_of, filled_by, times_filled, bytes_added, HasCause, WordsHold, AllSeatsJoined, ShownWordsHold}
+use Rattle.run_end.specs.Shown.{Calls, SeatShown, AreShown, adds_of, filled_by, times_filled, bytes_added, HasCause, WordsHold, ShownWordsHold}
 
 picked-all : (P : ℕ → Type 0) (picks : List Bool) (ws : List ℕ) → All P ws → All P (picked picks ws)
 picked-all P [] ws all = All-nil P

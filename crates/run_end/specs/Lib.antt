@@ -1,2 +1,9 @@
 pub mod Words
 pub mod Shown
+pub mod Rest
+pub mod Ran
+pub mod Merge
+pub mod Tell
+pub mod Rows
+pub mod Whole
+pub mod Mailboxes

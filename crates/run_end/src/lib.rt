@@ -2,7 +2,15 @@
 #![tactic(auto)]
 
 mod laws;
+mod mailboxes;
+mod rest;
 mod words;
 
-pub use laws::shown_words_hold;
-pub use words::join_seats;
+pub use laws::{
+    all_mail_is_merge, calls_tell, mail_is_merge, rows_stay, run_words_hold, seats_show,
+    shown_words_hold,
+};
+pub use mailboxes::take_all_rest;
+pub use no_memory::NoMemory;
+pub use rest::take_rest;
+pub use words::{join_all_seats, join_columns, join_seats};

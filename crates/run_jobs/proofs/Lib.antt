@@ -2,4 +2,5 @@ pub mod Wakes
 pub mod Tells
 pub mod Works
 pub mod Polls
+pub mod Finishes
 pub mod Sent

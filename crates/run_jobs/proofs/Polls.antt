@@ -1,6 +1,6 @@
 -- The rounds of the poller, one after another.
-use Rattle.std.proofs.Common.{◌≡◌, ◌<◌, ◌≤◌, ◌+◌, ℕ, List, [], ◌∷◌, ◌++◌, length, take, drop, get_or, sym, refl, ap, ◌∙◌, subst, arith, append_assoc}
-use Rattle.std.specs.List.{All, flat_map}
+use Rattle.std.proofs.Common.{◌≡◌, ◌<◌, ◌+◌, ℕ, List, [], ◌∷◌, ◌++◌, length, take, drop, get_or, sym, refl, ap, ◌∙◌, subst, arith, append_assoc, length-append}
+use Rattle.std.specs.List.{All}
 use Rattle.std.proofs.lemmas.List.{append-nil, drop_more, take_more, take-append-drop}
 use Rattle.std.proofs.lemmas.List.Elements.{All-nil, All-cons}
 use Rattle.std.proofs.lemmas.List.Concat.{flat_map-append}
@@ -8,8 +8,8 @@ use Rattle.process_end.specs.Views.{LaneEnd}
 use Rattle.ready_select.specs.declared.ask.PollAsk.{PollAsk}
 use Rattle.ready_select.specs.declared.ask.Polled.{Polled}
 use Rattle.ready_select.specs.declared.ask.Polled.TheVariants as polled
-use Rattle.ready_select.specs.Answered.{IsAnswered, ToldRound}
-use Rattle.ready_select.specs.Polling.{Poller, IsRound}
+use Rattle.ready_select.specs.Answered.{IsAnswered}
+use Rattle.ready_select.specs.Polling.{Poller}
 use Rattle.ready_select.proofs.Counting.{answered-rounds}
 use Rattle.run_jobs.specs.declared.poller.PollerEnd.TheVariants as end
 use Rattle.run_jobs.specs.declared.poller.RoundEnd.{RoundEnd}
@@ -104,6 +104,7 @@ polls_faulted old mid new lanes lanes' lanes'' so r =
     }
 
 pub polls_failed : (old mid new : Poller) (lanes lanes' lanes'' : List LaneEnd) → PollsSo old mid lanes lanes' → RoundOf round.NoMemory mid new lanes' lanes'' → PollsTo end.NoMemory old new lanes lanes''
+unfolding one_more
 polls_failed old mid new lanes lanes' lanes'' so r =
     let more = one_more round.NoMemory old mid new lanes lanes' lanes'' so r in
     record {
@@ -114,7 +115,7 @@ polls_failed old mid new lanes lanes' lanes'' so r =
       each_answered = more.each_answered;
       whole = more.whole;
       sends = more.sends;
-      ends = so.waited;
+      ends = (so.waited, (r.told, r.whole), r.ends);
     }
 
 -- what is told of one more
@@ -130,3 +131,11 @@ told_in_part found i ask told left within is whole =
     ∙ flat_map-append told_of (take i found) (ask ∷ drop (i + 1) found) ∙ ap (λ l. tasks_of (take i found) ++ (l ++ tasks_of (drop (i + 1) found))) whole
     ∙ ap (λ l. tasks_of (take i found) ++ l) (append_assoc told left (tasks_of (drop (i + 1) found)))
     ∙ sym (append_assoc (tasks_of (take i found)) told (left ++ tasks_of (drop (i + 1) found)))
+
+-- there was something to tell of all where there was of one
+pub told_some : (found : List PollAsk) (i : ℕ) (ask : PollAsk) → i < length found → ask ≡ get_or found i ask → 0 < length (told_of ask) → 0 < length (tasks_of found)
+told_some found i ask within is some =
+    let whole = ap length (told_in_part found i ask (told_of ask) [] within is (sym (append-nil (told_of ask)))) in
+    let first = length-append (tasks_of (take i found) ++ told_of ask) (tasks_of (drop (i + 1) found)) in
+    let second = length-append (tasks_of (take i found)) (told_of ask) in
+    omega arith

@@ -1,4 +1,4 @@
--- Workers and the poller may cross threads, where the bodies of ports and the poll set may.
+-- Workers and the poller may cross threads, where the bodies of ports and the poll set may, and so may the job that tells of the end.
 use denote.RattleType.{RattleType}
 use denote.Param.Send.{IsSend, sendable}
 use denote.Struct.Field.{row_field}
@@ -11,6 +11,7 @@ use Rattle.port_words.proofs.over.word.OverSeat.TheSendSync as over_sent
 use Rattle.port_sched.specs.declared.body.PortBody.{Ghosts}
 use Rattle.port_sched.specs.contracts.waking.JobSeats as seats
 use Rattle.port_sched.proofs.waking.JobSeats.TheSendSync as seats_sent
+use Rattle.run_jobs.specs.contracts.finish.FinishJob as finish
 use Rattle.run_jobs.specs.contracts.watch.Watch as watch
 use Rattle.run_jobs.specs.contracts.worker.WorkerJob as worker
 use Rattle.run_jobs.specs.contracts.poller.PollerJob as poller
@@ -55,4 +56,10 @@ poller_send B S F t u = declared_send (poller.the_type B S F) (
       ),
     ),
   ),
+)
+
+pub finish_send : IsSend finish.the_row
+finish_send = declared_send finish.the_type (
+  over_sent.the_send,
+  (search ends_cross depth 20, (search (jobs_cross, ends_cross, crosses) depth 20, (search (sendable, crosses) depth 20, tt))),
 )

@@ -5,7 +5,7 @@ use Rattle.std.proofs.lemmas.Bool.{cases_eq}
 use Rattle.std.proofs.lemmas.Bool.Decides.{nat_tests}
 use Rattle.std.proofs.lemmas.List.{append-nil, get_or_default}
 use Rattle.port_model.specs.declared.signal.Sender.{Sender}
-use Rattle.port_lanes.specs.Keys.{Key, sender_at}
+use Rattle.port_lanes.specs.Keys.{sender_at}
 use Rattle.port_lanes.specs.Parcels.{ParcelView}
 use Rattle.process_end.specs.Views.{LaneEnd}
 use Rattle.run_jobs.specs.Telling.{PortTask, plain_parcel, parcels_for, Sends, AreEndsOf, LeftBy, TellsOf}
@@ -77,16 +77,12 @@ ends_keep sender told lanes lanes' sends are = λ port d below.
     let within : port < length lanes = (let m = sends.many in omega arith) in
     ap (λ (e : LaneEnd). sender_at e.key e.number) (sends.each port d within) ∙ are port d within
 
-pub left_none : {A E : Type 0} (r : Result A E) → LeftBy r []
-left_none (Ok x) = refl
-left_none (Err e) = tt
-
-pub left_err : {A E : Type 0} (r : Result A E) → IsErr r → (left : List PortTask) → LeftBy r left
-left_err (Ok x) is left = absurd (true≢false (sym is))
-left_err (Err e) is left = tt
+pub left_err : {A E : Type 0} (r : Result A E) → IsErr r → (all left : List PortTask) → 0 < length all → LeftBy r all left
+left_err (Ok x) is all left some = absurd (true≢false (sym is))
+left_err (Err e) is all left some = some
 
 -- all were told where memory was found
 pub tells_ok : {A E : Type 0} (r : Result A E) (x : A) (all : List PortTask) (lanes lanes' : List LaneEnd) → r ≡ Ok x → TellsOf r all lanes lanes' → Sends all lanes lanes'
 tells_ok r x all lanes lanes' ok tells =
-    let none : tells.left ≡ [] = subst (λ s. LeftBy s tells.left) ok tells.left_by in
+    let none : tells.left ≡ [] = subst (λ s. LeftBy s all tells.left) ok tells.left_by in
     subst (λ l. Sends l lanes lanes') (sym (tells.whole ∙ ap (λ l. tells.told ++ l) none ∙ append-nil tells.told)) tells.sends

@@ -1,5 +1,5 @@
 -- The ports that a job woke by one call after another.
-use Rattle.std.proofs.Common.{◌≡◌, ◌≤◌, List, [], length, Result, Ok, Err, true≢false, ◌∙◌, refl, subst, sym}
+use Rattle.std.proofs.Common.{◌≡◌, List, [], length, Result, Ok, Err, true≢false, ◌∙◌, refl, subst, sym}
 use Rattle.port_words.specs.declared.home.homes.Ticket.{Ticket}
 use Rattle.port_sched.specs.declared.body.PortBody.{Ghosts}
 use Rattle.port_sched.specs.declared.waking.JobSeats.{JobSeats}

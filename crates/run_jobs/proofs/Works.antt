@@ -1,6 +1,6 @@
 -- The turns of a worker, one after another.
-use Rattle.std.proofs.Common.{◌≡◌, ◌≤◌, ℕ, List, [], ◌∷◌, ◌++◌, length, map, sym, refl, ap, ◌∙◌, subst, arith, append_assoc, length-append}
-use Rattle.std.proofs.lemmas.List.{append-nil, map-append, map_push}
+use Rattle.std.proofs.Common.{◌≡◌, List, [], ◌∷◌, ◌++◌, length, map, sym, refl, ap, ◌∙◌, subst, arith, append_assoc, length-append}
+use Rattle.std.proofs.lemmas.List.{append-nil, map_push}
 use Rattle.task_queue.specs.declared.item.Item.{Item}
 use Rattle.async_jobs.specs.declared.job.Job.{Job}
 use Rattle.async_jobs.specs.declared.job.Done.{Done}

@@ -2,3 +2,4 @@ pub mod Stops
 pub mod Telling
 pub mod Working
 pub mod Rounds
+pub mod Finishing

@@ -1,5 +1,5 @@
 -- What the poller of a run does.
-use Rattle.std.specs.Prelude.{◌≡◌, ◌≤◌, ℕ, false, Option, Some, List, [], ◌∷◌, ◌++◌, length, All}
+use Rattle.std.specs.Prelude.{◌≡◌, ◌<◌, ◌≤◌, ◌⊎◌, ℕ, false, Some, List, [], ◌∷◌, ◌++◌, length, All}
 use Rattle.std.specs.List.{flat_map}
 use Rattle.port_words.specs.declared.home.homes.Ticket.{Ticket}
 use Rattle.port_words.specs.over.Over.{OverKnown, HasNotStopped}
@@ -65,13 +65,22 @@ abbrev pub EndsWith : Polled → List FoundRound → Type 0
 EndsWith how [] = ⊥
 EndsWith how (r ∷ earlier) = (r.polled ≡ how) × All WasRound earlier
 
--- what the newest round has to do with how the poller ended, and what it left untold: nothing, but where memory was wanting
+-- of the tasks for what was found, these are the last
+abbrev pub IsRestOf : List PollAsk → List PortTask → Type 0
+IsRestOf found left = (told : List PortTask) × (tasks_of found ≡ told ++ left)
+
+-- a round found no memory: it told all that it had found before it ran short, or there was something to tell, and it broke off on the way
+abbrev pub RanShort : Polled → List PollAsk → List PortTask → Type 0
+RanShort how found left = ((how ≡ polled.NoMemory) × (left ≡ [])) ⊎ (0 < length (tasks_of found))
+
+-- What the newest round has to do with how the poller ended, and what it left untold: nothing. Where memory was wanting it left the last of what the newest round
+-- found, or nothing: all that the earlier ones found was told
 abbrev pub PollerEnds : PollerEnd → List FoundRound → List PortTask → Type 0
 PollerEnds end.Finished rounds left = EndsWith polled.Finished rounds × (left ≡ [])
 PollerEnds end.Stopped rounds left = All WasRound rounds × (left ≡ [])
 PollerEnds end.PollFault rounds left = EndsWith polled.Failed rounds × (left ≡ [])
 PollerEnds end.NoMemory [] left = ⊥
-PollerEnds end.NoMemory (r ∷ earlier) left = All WasRound earlier
+PollerEnds end.NoMemory (r ∷ earlier) left = All WasRound earlier × IsRestOf r.found left × RanShort r.polled r.found left
 
 -- The poller made these rounds. It told all that they found, in order, but for what was left for want of memory, and no port was told of an event and a direction more
 -- often than the poll set answered the event meanwhile
@@ -85,13 +94,13 @@ pub record PollsTo (how : PollerEnd) (old new : Poller) (lanes lanes' : List Lan
   pub sends : Sends told lanes lanes'
   pub ends : PollerEnds how rounds left
 
--- one round, and what was told after it
-abbrev pub EndsRound : RoundEnd → Polled → List PortTask → Type 0
-EndsRound round.Told how left = (how ≡ polled.Round) × (left ≡ [])
-EndsRound round.Quiet how left = (how ≡ polled.Round) × (left ≡ [])
-EndsRound round.Finished how left = (how ≡ polled.Finished) × (left ≡ [])
-EndsRound round.Failed how left = (how ≡ polled.Failed) × (left ≡ [])
-EndsRound round.NoMemory how left = Unit {0}
+-- one round, what it found, and what was left untold of that
+abbrev pub EndsRound : RoundEnd → Polled → List PollAsk → List PortTask → Type 0
+EndsRound round.Told how found left = (how ≡ polled.Round) × (left ≡ [])
+EndsRound round.Quiet how found left = (how ≡ polled.Round) × (left ≡ [])
+EndsRound round.Finished how found left = (how ≡ polled.Finished) × (left ≡ [])
+EndsRound round.Failed how found left = (how ≡ polled.Failed) × (left ≡ [])
+EndsRound round.NoMemory how found left = RanShort how found left
 
 pub record RoundOf (how : RoundEnd) (old new : Poller) (lanes lanes' : List LaneEnd) : Type 0 where
   pub polled : Polled
@@ -102,7 +111,7 @@ pub record RoundOf (how : RoundEnd) (old new : Poller) (lanes lanes' : List Lane
   pub each_answered : IsAnswered old.answered new.answered found
   pub whole : tasks_of found ≡ told ++ left
   pub sends : Sends told lanes lanes'
-  pub ends : EndsRound how polled left
+  pub ends : EndsRound how polled found left
 
 abbrev pub KeptIn : RoundEnd → List Ticket → Type 0
 KeptIn round.NoMemory kept = length kept ≤ 1

@@ -1,5 +1,5 @@
 -- The tasks that a job puts into the lanes of ports.
-use Rattle.std.specs.Prelude.{◌≡◌, ◌<◌, ◌==◌, ℕ, if◌then◌else◌, Option, None, List, [], ◌∷◌, ◌++◌, length, Result, Ok, Err, slice_index_or}
+use Rattle.std.specs.Prelude.{◌≡◌, ◌<◌, ◌==◌, ℕ, if◌then◌else◌, None, List, [], ◌∷◌, ◌++◌, length, Result, Ok, Err, slice_index_or}
 use Rattle.port_words.specs.declared.home.homes.Ticket.{Ticket}
 use Rattle.port_model.specs.declared.signal.Sender.{Sender}
 use Rattle.port_model.specs.Tasks.{TaskView}
@@ -35,17 +35,17 @@ pub record Sends (told : List PortTask) (old new : List LaneEnd) : Type 0 where
 abbrev pub AreEndsOf : Sender → List LaneEnd → Type 0
 AreEndsOf sender lanes = (port : ℕ) (d : LaneEnd) → port < length lanes → sender_at (slice_index_or lanes port d).key (slice_index_or lanes port d).number ≡ sender
 
--- what a call leaves untold: nothing, or anything where it found no memory
-abbrev pub LeftBy : {A E : Type 0} → Result A E → List PortTask → Type 0
-LeftBy (Ok answer) left = left ≡ []
-LeftBy (Err error) left = Unit {0}
+-- what a call leaves untold of these: nothing. Where it found no memory there was something to tell, of which it may leave anything
+abbrev pub LeftBy : {A E : Type 0} → Result A E → List PortTask → List PortTask → Type 0
+LeftBy (Ok answer) all left = left ≡ []
+LeftBy (Err error) all left = 0 < length all
 
 -- the first of these were told, and the others were left
 pub record TellsOf {A E : Type 0} (result : Result A E) (all : List PortTask) (old new : List LaneEnd) : Type 0 where
   pub told : List PortTask
   pub left : List PortTask
   pub whole : all ≡ told ++ left
-  pub left_by : LeftBy result left
+  pub left_by : LeftBy result all left
   pub sends : Sends told old new
 
 -- a call woke ports, and keeps a ticket only where it found no memory

@@ -1,5 +1,5 @@
 -- What a worker of a run does.
-use Rattle.std.specs.Prelude.{◌≡◌, ◌≤◌, ℕ, false, Option, Some, List, [], ◌∷◌, ◌++◌, length, map}
+use Rattle.std.specs.Prelude.{◌≡◌, ◌≤◌, ℕ, false, Some, List, [], ◌∷◌, ◌++◌, length, map}
 use Rattle.port_words.specs.declared.home.homes.Ticket.{Ticket}
 use Rattle.port_words.specs.over.Over.{OverKnown, HasNotStopped}
 use Rattle.task_queue.specs.declared.item.Item.{Item}
@@ -13,7 +13,6 @@ use Rattle.port_model.specs.declared.signal.Signal.TheVariants.{AsyncDone}
 use Rattle.port_model.specs.Tasks.{TaskView}
 use Rattle.process_end.specs.Views.{LaneEnd}
 use Rattle.port_sched.specs.declared.body.PortBody.{Ghosts}
-use Rattle.port_sched.specs.declared.waking.JobSeats.{JobSeats}
 use Rattle.port_sched.specs.Homes.{AreHomes}
 use Rattle.port_sched.specs.Running.{Looked, Stopped}
 use Rattle.port_sched.specs.Waking.{Woke}

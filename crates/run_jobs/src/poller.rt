@@ -142,7 +142,7 @@ fn round<B: PortBody, S: PollSet, R: Wait>(
 
 // What a round did that told all that it found.
 fn round_of(polled: Polled, is_quiet: bool) -> RoundEnd
-    ensures ends { EndsRound result polled [] }
+    ensures ends { (found : List Ask) → EndsRound result polled found [] }
     ensures kept { KeptIn result [] }
 {
     match polled {

@@ -1,11 +1,11 @@
 -- The ends of lanes, as they are made.
-use Rattle.std.proofs.Common.{◌≡◌, ◌<◌, ◌≤◌, ◌+◌, ℕ, zero, suc, List, [], ◌∷◌, ◌++◌, length, map, get_or, sym, refl, ap, ◌∙◌, subst, arith, append_assoc, length-append, ⊎_elim}
+use Rattle.std.proofs.Common.{◌≡◌, ◌<◌, ◌≤◌, ◌+◌, ℕ, List, [], ◌∷◌, ◌++◌, length, map, get_or, sym, refl, ap, ◌∙◌, subst, arith, append_assoc, length-append, ⊎_elim}
 use Rattle.std.proofs.lemmas.Bool.{cases_lt}
 use Rattle.std.proofs.lemmas.List.{get_or_append_left, get_or_push, get_or-append-add, get_or-map, length-map, length_push}
 use Rattle.task_queue.specs.Items.{of}
 use Rattle.task_queue.specs.Ends.{Sending, Taking, ended_of}
 use Rattle.run_lanes.specs.Rows.{AreRows, AreColumns}
-use Rattle.run_lanes.specs.Ends.{AreAllEnds, AreAllRows, AreEndsOf, AreEndColumns, AllOfEachIsTaken}
+use Rattle.run_lanes.specs.Ends.{AreAllEnds, AreAllRows, AreEndColumns, AllOfEachIsTaken}
 
 module _ {T K : Type 0} where
   -- so many ends were split off the first, and stand by their numbers from 1

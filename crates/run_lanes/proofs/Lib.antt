@@ -5,3 +5,5 @@ pub mod KeyedLanes
 pub mod Places
 pub mod Openings
 pub mod TakingIn
+pub mod Changes
+pub mod EmptiedLanes

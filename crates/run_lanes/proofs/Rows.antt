@@ -1,5 +1,5 @@
 -- Rows, of which the last places are taken off one after another.
-use Rattle.std.proofs.Common.{◌≡◌, ◌≢◌, ◌<◌, ◌≤◌, ◌+◌, ◌-◌, ℕ, zero, suc, Some, List, [], ◌∷◌, ◌++◌, length, map, take, set, get_or, reverse, sym, refl, ap, ◌∙◌, subst, arith, length-set, length-append, get_or-set_same, get_or-set_other, ⊎_elim}
+use Rattle.std.proofs.Common.{◌≡◌, ◌≢◌, ◌<◌, ◌≤◌, ◌+◌, ◌-◌, ℕ, List, [], ◌∷◌, ◌++◌, length, map, take, set, get_or, reverse, sym, refl, ap, ◌∙◌, arith, length-set, get_or-set_same, get_or-set_other, ⊎_elim}
 use Rattle.std.proofs.lemmas.Bool.{cases_lt}
 use Rattle.std.proofs.lemmas.List.{map-set, get_or-map, get_or-take, get_or_default, get_or_push, get_or_append_left, get_or-reverse, length-take-le, length-reverse, take-take, length_push, take_all, map_push, reverse-append}
 use Rattle.run_lanes.specs.Rows.{AreColumns, AreRows, TakesColumn}

@@ -1,9 +1,9 @@
 -- One end of each lane is taken in after another.
-use Rattle.std.proofs.Common.{◌≡◌, ◌≢◌, ◌<◌, ◌≤◌, ◌+◌, ℕ, List, [], ◌∷◌, length, get_or, set, drop, sym, refl, ap, ◌∙◌, subst, arith, length-set, get_or-set_same, get_or-set_other, ⊎_elim}
+use Rattle.std.proofs.Common.{◌≡◌, ◌≢◌, ◌<◌, ◌≤◌, ◌+◌, ℕ, List, [], ◌∷◌, length, get_or, set, sym, refl, ap, ◌∙◌, arith, length-set, get_or-set_same, get_or-set_other, ⊎_elim}
 use Rattle.std.proofs.lemmas.Bool.{cases_lt}
 use Rattle.std.proofs.lemmas.List.{get_or_default}
 use Rattle.task_queue.specs.Ends.{Sending, Taking}
-use Rattle.run_lanes.specs.Ends.{taken_in, AreOfLanes, TakesEachIn}
+use Rattle.run_lanes.specs.Ends.{taken_in, TakesEachIn}
 
 module _ {T K : Type 0} where
   -- the ends of the lanes below this place were taken in, and the other lanes are as they were

@@ -1,14 +1,14 @@
 -- The words of ports, as they are made and dealt.
-use Rattle.std.proofs.Common.{◌≡◌, ◌<◌, ◌≤◌, ◌+◌, ℕ, zero, suc, false, List, [], ◌∷◌, ◌++◌, length, map, get_or, sym, refl, ap, ◌∙◌, subst, arith, ⊎_elim}
+use Rattle.std.proofs.Common.{◌≡◌, ◌<◌, ◌≤◌, ◌+◌, ℕ, zero, suc, false, List, [], ◌∷◌, ◌++◌, length, get_or, sym, refl, ap, ◌∙◌, subst, arith, ⊎_elim}
 use Rattle.std.proofs.lemmas.Bool.{cases_lt}
 use Rattle.std.proofs.lemmas.List.{get_or_append_left, get_or_push, length_push}
 use Rattle.atomic_table.specs.Seated.{TableId}
 use Rattle.port_words.specs.declared.busy.view.QueueLimits.{QueueLimits}
 use Rattle.port_words.specs.declared.busy.view.BusySetup.{BusySetup}
 use Rattle.port_words.specs.busy.Views.{fresh_sender}
-use Rattle.port_words.specs.busy.Known.{PortKnown, SendKnown, send_known, fresh_port, fresh_seats, setup_of, AreSeatsOf}
+use Rattle.port_words.specs.busy.Known.{PortKnown, SendKnown, send_known, fresh_seats, setup_of, AreSeatsOf}
 use Rattle.run_lanes.specs.Rows.{AreRows, AreColumns}
-use Rattle.run_lanes.specs.Words.{IsPortSeat, AreSeatsWith, AreTables, AreWords}
+use Rattle.run_lanes.specs.Words.{AreTables, AreWords}
 
 seats_many : (table : TableId) (setup : BusySetup) (n count : ℕ) → length (fresh_seats table setup n count) ≡ count
 seats_many table setup n zero = refl

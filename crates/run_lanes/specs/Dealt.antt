@@ -1,7 +1,6 @@
 -- What each has of what was made, by place.
 use Rattle.std.specs.Prelude.{◌≡◌, ◌<◌, ℕ, List, length, slice_index_or}
 use Rattle.task_queue.specs.Ends.{Sending, Taking}
-use Rattle.async_jobs.specs.declared.job.WorkItem.{WorkItem}
 use Rattle.async_jobs.specs.Pool.{PoolEnd}
 use Rattle.async_jobs.specs.Turns.{Worker}
 use Rattle.port_lanes.specs.Keys.{Key}

@@ -1,4 +1,5 @@
 pub mod Rows
+pub mod Places
 pub mod Ends
 pub mod Words
 pub mod Keyed

@@ -1,5 +1,5 @@
 -- The lanes and words of a run, by place.
-use Rattle.std.specs.Prelude.{◌≡◌, ◌<◌, ◌+◌, ℕ, Bool, List, [], length, All, slice_index_or}
+use Rattle.std.specs.Prelude.{◌≡◌, ◌+◌, ℕ, Bool, List, [], length, All, slice_index_or}
 use Rattle.async_jobs.specs.Pool.{PoolEnd}
 use Rattle.port_mail.specs.Ends.{MailEnd}
 use Rattle.port_words.specs.declared.busy.view.QueueLimits.{QueueLimits}

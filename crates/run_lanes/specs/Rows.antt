@@ -9,6 +9,11 @@ module _ {X : Type 0} where
     pub at : (c r : ℕ) (d e : List X) (x y : X) → c < width → r < length rows
         → slice_index_or (slice_index_or columns c d) r x ≡ slice_index_or (slice_index_or rows r e) c y
 
+  -- what the rows have at this place, in the order of the rows
+  pub record IsColumn (place : ℕ) (rows : List (List X)) (column : List X) : Type 0 where
+    pub many : length column ≡ length rows
+    pub at : (r : ℕ) (row : List X) (x y : X) → r < length rows → slice_index_or column r x ≡ slice_index_or (slice_index_or rows r row) place y
+
   -- each row has so many
   pub record AreRows (width : ℕ) (rows : List (List X)) : Type 0 where
     pub long : (r : ℕ) (d : List X) → r < length rows → length (slice_index_or rows r d) ≡ width

@@ -2,7 +2,7 @@
 use Rattle.std.specs.Prelude.{◌≡◌, ◌<◌, ℕ, List, [], length, slice_index_or}
 use Rattle.port_words.specs.declared.busy.view.QueueLimits.{QueueLimits}
 use Rattle.port_words.specs.busy.Views.{fresh_sender}
-use Rattle.port_words.specs.busy.Known.{PortKnown, SendKnown, port_known, send_known, fresh_port, setup_of, AreSeatsOf}
+use Rattle.port_words.specs.busy.Known.{PortKnown, SendKnown, send_known, fresh_port, setup_of, AreSeatsOf}
 
 -- the port's seat of new words with these limits and so many senders: it made no mark, and has taken in no sender's seat
 pub record IsPortSeat (limits : QueueLimits) (senders : ℕ) (seat : PortKnown) : Type 0 where

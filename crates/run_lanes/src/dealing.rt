@@ -16,7 +16,7 @@ use std::vec::IntoIter;
 use task_queue::{SendEnd, TakeEnd};
 
 /// The next of a list that has one.
-pub(crate) fn next_of<X: Drop>(items: &mut IntoIter<X>) -> X
+pub fn next_of<X: Drop>(items: &mut IntoIter<X>) -> X
     requires { 0 < into_iter_len items.old }
     ensures items { into_iter_items items.old ≡ result ∷ into_iter_items items.new }
     ensures len { into_iter_len items.new + 1 ≡ into_iter_len items.old }

@@ -3,6 +3,7 @@
 
 mod columns;
 mod dealing;
+mod emptying;
 mod keyed;
 mod laws;
 mod making;
@@ -13,10 +14,12 @@ mod taking_in;
 mod words;
 
 pub use columns::transposed;
+pub use dealing::next_of;
+pub use emptying::empty_lanes;
 pub use laws::all_of_each_end_is_taken;
 pub use making::{lane_ends, lanes};
 pub use no_memory::NoMemory;
 pub use opening::open_lanes;
 pub use parts::{FinishEnds, PollerLanes, PortLanes, ProcessLanes, RunLanes, WorkerLanes};
 pub use size::LaneSize;
-pub use taking_in::{take_all_in, take_each_in};
+pub use taking_in::{empty_lane, take_all_in, take_each_in};

@@ -1,8 +1,9 @@
 // The ends of lanes that are given back.
 ghost use Rattle.std.specs.Prelude.{◌≡◌, ◌+◌, ◌<◌, ℕ, [], ◌∷◌, length, All, slice_index_or, slice_set};
 ghost use Rattle.task_queue.specs.Ends.{Taking};
-ghost use Rattle.run_lanes.specs.Ends.{taken_in, AreOfLanes, TakesEachIn};
+ghost use Rattle.run_lanes.specs.Ends.{taken_in, AreOfLanes, Emptied, TakesEachIn};
 
+use std::sync::Wait;
 use task_queue::{Fits, SendEnd, TakeEnd};
 
 /// Takes in these ends of one lane, in their order.
@@ -13,6 +14,26 @@ pub fn take_all_in<T: Fits + Drop>(taker: &mut TakeEnd<T>, ends: Vec<SendEnd<T>>
     'ends: for end in ends {
         taker.take_in(end);
     }
+}
+
+// Takes what is in the lane, and drops it.
+fn take_rest<T: Fits + Drop, R: Wait>(rt: &R, lane: &mut TakeEnd<T>)
+    ensures { Emptied T.fits lane.old lane.new }
+{
+    'takes: for _ in rt.forever() {
+        let Some(_) = lane.take(rt) else {
+            return;
+        };
+    }
+}
+
+/// Takes in these ends of one lane, in their order, and drops what is left in it. It takes no memory, and may spin while another thread is in a call.
+pub fn empty_lane<T: Fits + Drop, R: Wait>(rt: &R, lane: &mut TakeEnd<T>, ends: Vec<SendEnd<T>>)
+    requires { All (λ e. e.lane ≡ lane.old.lane) ends.items }
+    ensures { Emptied T.fits (taken_in lane.old ends.items) lane.new }
+{
+    take_all_in(lane, ends);
+    take_rest(rt, lane);
 }
 
 // Takes in an end of the lane at a place.

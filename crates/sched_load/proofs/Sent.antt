@@ -16,6 +16,6 @@ seats_send : IsSend (seats.the_row till.the_row bodies.ghosts)
 seats_send = seats_sent.the_send till.the_row bodies.ghosts till_send
 
 pub putter_send : IsSend putter.the_row
-putter_send = declared_send putter.the_type (search (sendable, seats_send) depth 20, (search ends_cross depth 20, (search (ends_cross, over_sent.the_send) depth 20, (search sendable depth 20, tt))))
+putter_send = declared_send putter.the_type (search (sendable, seats_send) depth 20, (search ends_cross depth 20, (search (ends_cross, over_sent.the_send) depth 20, (search sendable depth 20, (search sendable depth 20, tt)))))
 
 pub ruleset load_crosses = (ends_cross, till_send, putter_send)

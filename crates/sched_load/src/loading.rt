@@ -12,13 +12,14 @@ use std::alloc::Global;
 use std::snapshot::Snapshot;
 use task_queue::{SendEnd, TakeEnd, lane};
 
-/// How many schedulers, ports and jobs a run has, and how many numbers each job puts for each port.
+/// How many schedulers, ports and jobs a run has, how many numbers each job puts for each port, and for how many milliseconds it waits before.
 #[derive(Clone, Copy, Debug)]
 pub struct LoadSize {
     pub schedulers: u32,
     pub ports: u32,
     pub jobs: u32,
     pub numbers: u64,
+    pub pause: u64,
 }
 
 type Lanes = Vec<SendEnd<Number>>;
@@ -141,12 +142,12 @@ pub fn putters(
         let Some(over) = places.pop() else {
             return Err(NoMemory);
         };
-        let numbers = size.numbers;
         all.push(Putter {
             seats,
             lanes,
             over,
-            numbers,
+            numbers: size.numbers,
+            pause: size.pause,
         })?;
     }
     Ok(all)

@@ -7,15 +7,25 @@ use crate::till::{Number, Till};
 use port_sched::{Job, JobSeats, NoMemory};
 use port_words::over::OverSeat;
 use std::sync::Wait;
+use std::thread::Parker;
+use std::time::Duration;
 use task_queue::SendEnd;
 
-/// A job that puts so many numbers for each port. Where it finds no memory it stops the run.
+/// A job that waits for so many milliseconds, and then puts so many numbers for each port. Where it finds no memory it stops the run.
 #[derive(Drop)]
 pub struct Putter {
     pub seats: JobSeats<Till>,
     pub lanes: Vec<SendEnd<Number>>,
     pub over: OverSeat,
     pub numbers: u64,
+    pub pause: u64,
+}
+
+// Waits, though it may end early.
+fn rest<R: Wait>(rt: &R, millis: u64) {
+    if millis > 0 {
+        Parker::new().park_timeout(rt, Duration::from_millis(millis));
+    }
 }
 
 // Puts a number for one port, and wakes it.
@@ -80,6 +90,7 @@ impl Job for Putter {
     ghost went = { HasGoneOn };
 
     fn run<R: Wait>(&mut self, rt: &R) {
+        rest(rt, self.pause);
         if put_all(rt, &mut self.seats, &mut self.lanes, self.numbers).is_err() {
             self.over.stop();
         }

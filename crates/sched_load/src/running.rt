@@ -1,5 +1,6 @@
 // A run under a load.
-ghost use Rattle.std.specs.Prelude.{◌≡◌, ◌+◌, ◌<◌, ◌≤◌, length, map, All, IfOk};
+ghost use Rattle.std.specs.Prelude.{◌≡◌, ◌+◌, ◌<◌, ◌≤◌, length, map, sum_by, All, IfOk};
+ghost use Rattle.run_queue.specs.Seats.{counted, stolen_by};
 ghost use Rattle.port_sched.specs.Closing.{IsWhole};
 ghost use Rattle.port_sched.specs.Jobs.{WentEach};
 ghost use Rattle.port_sched.specs.Schedulers.{CanBegin, Ended};
@@ -17,11 +18,23 @@ use std::sync::Wait;
 use std::thread::Threads;
 use ticket_account::{RunSize, gather, open_run};
 
-/// How a run ended: whether each scheduler saw its end, and the ports that came back.
+/// How a run ended: whether each scheduler saw its end, the ports that came back, and how many turns were made.
 #[derive(Drop)]
 pub struct Outcome {
     pub all_done: bool,
     pub tills: Vec<Lodger<Till>>,
+    pub turns: Turns,
+}
+
+/// The turns of all schedulers of a run together. A number goes no further than 2^64 - 1.
+#[derive(Clone, Copy, Debug, PartialEq, Eq)]
+pub struct Turns {
+    /// The turns that began with a ticket.
+    pub queued: u64,
+    /// The tickets that were stolen, each of another scheduler's deque.
+    pub stolen: u64,
+    /// The turns of ports that were found idle.
+    pub idle: u64,
 }
 
 // Runs schedulers beside jobs, and gives them back.
@@ -69,6 +82,25 @@ fn all_done(schedulers: &[Scheduler<Till>]) -> bool {
         .all(|scheduler| scheduler.end == Some(SchedEnd::Done))
 }
 
+// The turns of all schedulers.
+fn turns_of(schedulers: &[Scheduler<Till>]) -> Turns
+    ensures queued { result.queued ≡ counted (sum_by (λ s. s.counts.queued) schedulers.now) }
+    ensures stolen { result.stolen ≡ counted (sum_by (λ s. stolen_by s.seats.run) schedulers.now) }
+    ensures idle { result.idle ≡ counted (sum_by (λ s. s.counts.idle) schedulers.now) }
+{
+    let mut turns = Turns {
+        queued: 0,
+        stolen: 0,
+        idle: 0,
+    };
+    'schedulers: for scheduler in schedulers {
+        turns.queued = turns.queued.saturating_add(scheduler.counts.queued);
+        turns.stolen = turns.stolen.saturating_add(scheduler.seats.run.stolen());
+        turns.idle = turns.idle.saturating_add(scheduler.counts.idle);
+    }
+    turns
+}
+
 /// Runs so many schedulers and jobs on so many ports, to the end. Where no memory is found before it or after it, the ports are dropped.
 pub fn run_load<G: Gate + Sync, R: Threads + Wait + Sync>(
     rt: &R,
@@ -91,7 +123,12 @@ pub fn run_load<G: Gate + Sync, R: Threads + Wait + Sync>(
     let jobs = putters(alloc, opened.jobs, lists, opened.others, size)?;
     let (schedulers, jobs) = run_owned(rt, gate, opened.schedulers, jobs);
     let all_done = all_done(&schedulers);
+    let turns = turns_of(&schedulers);
     let jobs = seats_of(alloc, jobs)?;
     let tills = come_out(alloc, gather(rt, schedulers, jobs))?;
-    Ok(Outcome { all_done, tills })
+    Ok(Outcome {
+        all_done,
+        tills,
+        turns,
+    })
 }

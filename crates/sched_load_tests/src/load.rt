@@ -60,6 +60,7 @@ fn each_of_many_ports_comes_back_and_takes_each_number_once(rt: HostRuntime) -> 
         ports: 32,
         jobs: 4,
         numbers: 1_000,
+        pause: 0,
     };
     let outcome = run_load(&rt, rt.alloc(), &OpenGate, size)?;
     assert!(rt; is_whole(&outcome, size));
@@ -73,10 +74,27 @@ fn a_second_scheduler_makes_turns_while_the_first_is_held(rt: HostRuntime) -> Re
         ports: 2,
         jobs: 1,
         numbers: 100,
+        pause: 0,
     };
     let gate = Held::new();
     let outcome = run_load(&rt, rt.alloc(), &gate, size)?;
     assert!(rt; is_whole(&outcome, size));
     assert_eq!(rt; gate.missed.load(Ordering::SeqCst), 0);
+    Ok(())
+}
+
+#[test]
+fn one_scheduler_makes_a_turn_of_each_port_and_steals_nothing(rt: HostRuntime) -> Result<(), Fail> {
+    let size = LoadSize {
+        schedulers: 1,
+        ports: 32,
+        jobs: 1,
+        numbers: 10,
+        pause: 1,
+    };
+    let outcome = run_load(&rt, rt.alloc(), &OpenGate, size)?;
+    assert!(rt; is_whole(&outcome, size));
+    assert!(rt; outcome.turns.queued.saturating_add(outcome.turns.idle) >= 32);
+    assert_eq!(rt; outcome.turns.stolen, 0);
     Ok(())
 }

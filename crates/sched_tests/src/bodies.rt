@@ -3,9 +3,9 @@ ghost use Rattle.std.specs.Prelude.{◌≡◌, ℕ, nat_eq, false, true, [], ◌
 ghost use Rattle.port_words.specs.over.Over.{HasNotStopped};
 ghost use Rattle.port_sched.specs.Homes.{AreHomes};
 ghost use Rattle.port_sched.specs.Lodging.{is_counted, has_finished};
-ghost use Rattle.sched_tests.specs.Seats.{IsSeatOfTwo};
+ghost use Rattle.sched_tests.specs.Seats.{IsSeatOfTwo, IsSeatBack};
 
-use port_sched::{Lodger, NoMemory, PortBody, Turn};
+use port_sched::{Job, Lodger, NoMemory, PortBody, Turn};
 use port_words::home::{HomeSeat, home};
 use port_words::over::{OverSeat, over_word};
 use run_queue::{RunSeat, run_queue};
@@ -45,6 +45,18 @@ impl PortBody for Errand {
     fn is_finished(&self) -> bool {
         self.left == 0
     }
+}
+
+/// No other job.
+#[derive(Drop)]
+pub struct Nothing;
+
+impl Job for Nothing {
+    ghost can_run = { λ _. Unit {0} };
+
+    ghost went = { λ _ _. Unit {0} };
+
+    fn run<R: Wait>(&mut self, _rt: &R) {}
 }
 
 pub type Home = HomeSeat<Lodger<Errand>>;
@@ -99,4 +111,16 @@ pub fn one_home(alloc: Global, home: Home) -> Result<Vec<Home>, NoMemory>
     let mut homes = Vec::new(alloc);
     homes.push(home)?;
     Ok(homes)
+}
+
+/// Queues the next turn in the deque of this seat.
+pub fn queue(home: Home, run: RunSeat) -> Option<(Home, RunSeat)>
+    requires { IsSeatOfTwo 0 home }
+    ensures { IfSome result (λ r. IsSeatBack home r.0) }
+{
+    let mut home = home;
+    let mut run = run;
+    let ticket = home.schedule().ok()?;
+    run.push(ticket).ok()?;
+    Some((home, run))
 }

@@ -4,6 +4,10 @@
 #[cfg(test)]
 mod bodies;
 #[cfg(test)]
+mod counting;
+#[cfg(test)]
 mod one_scheduler;
 #[cfg(test)]
 mod two_schedulers;
+#[cfg(test)]
+mod waiting;

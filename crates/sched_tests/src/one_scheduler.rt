@@ -2,7 +2,7 @@ ghost use Rattle.std.specs.Prelude.{◌≡◌, None, IfSome};
 ghost use Rattle.port_words.specs.over.Over.{HasNotStopped};
 ghost use Rattle.sched_tests.specs.Seats.{IsSeatOfTwo, IsSeatBack};
 
-use crate::bodies::{Home, one_home, places, three_turns, two_queues, two_seats};
+use crate::bodies::{Home, one_home, places, queue, three_turns, two_queues, two_seats};
 use outside::OpenGate;
 use port_sched::{SchedEnd, SchedSeats, scheduler};
 use port_words::over::OverSeat;
@@ -30,18 +30,6 @@ fn serve_one<R: Wait>(
     let end = scheduler(rt, &mut seats, &OpenGate);
     let home = seats.homes.pop()?;
     Some((home, end))
-}
-
-// Queues the next turn in the deque of this seat.
-fn queue(home: Home, run: RunSeat) -> Option<(Home, RunSeat)>
-    requires { IsSeatOfTwo 0 home }
-    ensures { IfSome result (λ r. IsSeatBack home r.0) }
-{
-    let mut home = home;
-    let mut run = run;
-    let ticket = home.schedule().ok()?;
-    run.push(ticket).ok()?;
-    Some((home, run))
 }
 
 // Closes the home, and tells how many turns are left.

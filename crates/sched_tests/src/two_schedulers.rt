@@ -4,9 +4,9 @@ ghost use Rattle.port_sched.specs.Homes.{AreHomes};
 ghost use Rattle.port_sched.specs.Schedulers.{CanBegin};
 ghost use Rattle.sched_tests.specs.Seats.{IsSeatOfTwo, AreFour};
 
-use crate::bodies::{Errand, Home, one_home, three_turns, two_queues, two_seats};
+use crate::bodies::{Errand, Home, Nothing, one_home, three_turns, two_queues, two_seats};
 use outside::Gate;
-use port_sched::{Job, NoMemory, SchedEnd, SchedSeats, Scheduler, run};
+use port_sched::{NoMemory, SchedEnd, SchedSeats, Scheduler, run};
 use port_words::over::{OverSeat, over_word};
 use run_queue::RunSeat;
 use std::alloc::Global;
@@ -58,18 +58,6 @@ impl Gate for Meeting {
     }
 
     fn leave(&self, _port: u32) {}
-}
-
-// No other job.
-#[derive(Drop)]
-struct Nothing;
-
-impl Job for Nothing {
-    ghost can_run = { λ _. Unit {0} };
-
-    ghost went = { λ _ _. Unit {0} };
-
-    fn run<R: Wait>(&mut self, _rt: &R) {}
 }
 
 // The seats of the two ports of a run.

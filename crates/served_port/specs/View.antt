@@ -37,13 +37,14 @@ pub record IsSomewhere (v : ServedView) : Type 0 where
   pub s : State
   pub at : IsAt v port s
 
--- which sending end it is: of which lane, and with which number
+-- which sending end it is: of which lane, with which number, and how many ends it made
 pub record EndName : Type 0 where
   pub lane : LaneId
   pub number : ℕ
+  pub made : ℕ
 
 abbrev pub end_name : {T K : Type 0} → Sending T K → EndName
-end_name end = record { lane = end.lane; number = end.number }
+end_name end = record { lane = end.lane; number = end.number; made = end.made }
 
 abbrev pub end_names : {T K : Type 0} → List (Sending T K) → List EndName
 end_names ends = map end_name ends

@@ -1,7 +1,7 @@
 -- Rows that tell jobs done keep the law of jobs.
-use Rattle.std.proofs.Common.{◌≡◌, ℕ, ◌+◌, ◌<◌, ◌≤◌, ◌%◌, ◌==◌, cond, Bool, true, false, ◌&&◌, ◌||◌, not, List, [], ◌∷◌, ◌++◌, length, map, refl, sym, ap, ◌∙◌, subst, inl, inr, arith, ◌⊎◌, eqb-true, eq-eqb}
-use Rattle.std.specs.Prelude.{if◌then◌else◌, nat_lt, reverse}
-use Rattle.std.specs.List.{filter, list_any, list_all}
+use Rattle.std.proofs.Common.{◌≡◌, ℕ, ◌+◌, ◌<◌, ◌≤◌, ◌%◌, ◌==◌, Bool, true, false, ◌&&◌, ◌||◌, not, List, [], ◌∷◌, ◌++◌, map, refl, sym, ap, ◌∙◌, subst, inl, inr, arith, eqb-true, eq-eqb}
+use Rattle.std.specs.Prelude.{nat_lt}
+use Rattle.std.specs.List.{list_all}
 use Rattle.std.proofs.lemmas.Bool.{cases_order, ltb-true}
 use Rattle.std.proofs.lemmas.List.{append_assoc}
 use Rattle.async_jobs.specs.Work.{work_of}
@@ -13,16 +13,16 @@ use Rattle.port_model.specs.declared.signal.Sender.TheVariants.{Process, Poller,
 use Rattle.port_model.specs.declared.signal.Signal.{Signal}
 use Rattle.port_model.specs.declared.signal.Signal.TheVariants.{AsyncDone}
 use Rattle.port_model.specs.Tasks.{TaskView}
-use Rattle.port_history.specs.Jobs.{Submitted, is_done, is_submitted, each_of, is_next_of_key, done_by, submitted_by}
-use Rattle.port_history.specs.Laws.{may_send, is_next, is_told_right, is_told_in_time, is_work, keeps_jobs, keeps_order}
-use Rattle.port_history.specs.Lawful.{Lawful, KeepsLaws}
-use Rattle.port_history.specs.Opening.{Opening, same_sender}
+use Rattle.port_history.specs.Jobs.{Submitted, is_done, each_of, is_next_of_key, done_by, submitted_by}
+use Rattle.port_history.specs.Laws.{may_send, is_next, is_told_right, is_told_in_time, is_work, keeps_jobs}
+use Rattle.port_history.specs.Lawful.{Lawful}
+use Rattle.port_history.specs.Opening.{Opening}
 use Rattle.port_history.specs.State.{State, state}
-use Rattle.recorded_port.specs.Laws.{IsLawful, KeepsPortLaws}
-use Rattle.served_port.specs.Outcomes.{keeps_times, is_told_in}
+use Rattle.recorded_port.specs.Laws.{IsLawful}
+use Rattle.served_port.specs.Outcomes.{is_told_in}
 use Rattle.port_body.specs.LanePort.{rows_from, task_from}
-use Rattle.told_jobs.specs.Told.{told_task, jobs_of_worker, TellsFirst, WorkersTell, JobsToldInOrder}
-use Rattle.told_jobs.proofs.Rising.{In, Rising, in-front, in-behind, in-parts, same-job, less-in-front, rising-filter, in-filter, in-filtered, rising-numbered}
+use Rattle.told_jobs.specs.Told.{told_task, jobs_of_worker, TellsFirst, JobsToldInOrder}
+use Rattle.told_jobs.proofs.Rising.{In, Rising, in-front, in-behind, same-job, less-in-front, rising-filter, in-filter, rising-numbered}
 
 and-first : (a b : Bool) → (a && b) ≡ true → a ≡ true
 and-first true b e = refl
@@ -33,14 +33,14 @@ and-last true b e = e
 and-last false b e = absurd cc
 
 -- a list of tasks that are told, cut in two
-record Cut (jobs : List Submitted) (front behind : List TaskView) : Type 0 where
+pub record Cut (jobs : List Submitted) (front behind : List TaskView) : Type 0 where
   pub first : List Submitted
   pub rest : List Submitted
   pub are : jobs ≡ first ++ rest
   pub tells_front : map told_task first ≡ front
   pub tells_behind : map told_task rest ≡ behind
 
-cut : (jobs : List Submitted) (front behind : List TaskView) → map told_task jobs ≡ front ++ behind → Cut jobs front behind
+pub cut : (jobs : List Submitted) (front behind : List TaskView) → map told_task jobs ≡ front ++ behind → Cut jobs front behind
 cut jobs [] behind e = record { first = []; rest = jobs; are = refl; tells_front = refl; tells_behind = e }
 cut [] (t ∷ front) behind e = absurd cc
 cut (job ∷ jobs) (t ∷ front) behind e =

@@ -5,7 +5,7 @@ use Rattle.run_jobs.specs.Telling.{Sends}
 use Rattle.run_jobs.specs.Rounds.{tasks_of}
 use Rattle.run_jobs.proofs.Tells.{left_err, sends_then, tells_ok}
 use Rattle.run_jobs.proofs.Wakes.{woken_ok, woken_then}
-use Rattle.run_jobs.proofs.Polls.{told_next, told_in_part}
+use Rattle.run_jobs.proofs.Polls.{told_next, told_in_part, told_some}
 use Rattle.run_jobs.proofs.poller.tell_found.Goals as goal
 
 pub returns-in_err-tell_one-clause-told : goal.returns-in_err-tell_one-clause-told
@@ -17,7 +17,8 @@ returns-in_err-tell_one-clause-told g c =
       told = tasks_of (take i found) ++ t.told;
       left = t.left ++ tasks_of (drop (i + 1) found);
       whole = told_in_part found i _ t.told t.left c.found-test.true (get_or_default found i _ _ c.found-test.true) t.whole;
-      left_by = left_err c.from_residual.result c.from_residual.ensures.0 _;
+      left_by = left_err c.from_residual.result c.from_residual.ensures.0 _ _
+          (told_some found i _ c.found-test.true (get_or_default found i _ _ c.found-test.true) t.left_by);
       sends = sends_then (tasks_of (take i found)) t.told c.args.lanes.now.items c.found.lanes.items c.tell_one.new.lanes.items c.found.invariant.0 t.sends;
     }
 

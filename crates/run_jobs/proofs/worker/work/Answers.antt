@@ -1,4 +1,4 @@
-use Rattle.std.proofs.Common.{◌≡◌, [], refl, sym, ◌∙◌, subst}
+use Rattle.std.proofs.Common.{[], refl, sym, subst}
 use Rattle.port_sched.proofs.Looks.{looked_none, looked_then}
 use Rattle.run_jobs.proofs.Wakes.{nothing_woken, woken_ok, woken_then}
 use Rattle.run_jobs.proofs.Works.{WorksSo, works_none, works_more, works_failed}

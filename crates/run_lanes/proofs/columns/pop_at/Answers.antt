@@ -1,5 +1,4 @@
-use Rattle.std.proofs.Common.{◌≡◌, ◌<◌, ◌∙◌, ap, take, ◌-◌, length, arith, get_or, map, sym, subst}
-use Rattle.std.proofs.lemmas.List.{get_or-map}
+use Rattle.std.proofs.Common.{◌∙◌, ap, take, ◌-◌}
 use Rattle.run_lanes.proofs.Rows.{set_row}
 use Rattle.run_lanes.proofs.columns.pop_at.Goals as goal
 

@@ -1,4 +1,4 @@
-use Rattle.std.proofs.Common.{◌+◌, map, length, sym, ap, ◌∙◌, subst, arith}
+use Rattle.std.proofs.Common.{◌+◌, map, sym, subst, arith}
 use Rattle.std.proofs.lemmas.List.{length-map}
 use Rattle.run_lanes.proofs.Rows.{TakesBelow, takes_more, takes_all, has_last}
 use Rattle.run_lanes.proofs.columns.pop_column.Goals as goal

@@ -1,5 +1,5 @@
 use Rattle.std.proofs.Common.{◌≡◌, ◌++◌, ◌∷◌, [], ◌+◌, map, take, sym, ap, ◌∙◌, subst}
-use Rattle.std.proofs.lemmas.List.{take_all, take_more}
+use Rattle.std.proofs.lemmas.List.{take_more}
 use Rattle.run_lanes.specs.Ends.{IsUntaken}
 use Rattle.run_lanes.specs.Keyed.{ends_in, key_of, ArePortLanes}
 use Rattle.run_lanes.proofs.Ends.{rows_are, columns_are}

@@ -1,7 +1,6 @@
-use Rattle.std.proofs.Common.{◌≡◌, ◌<◌, ◌++◌, ◌∷◌, [], ◌+◌, length, get_or, map, ap, ◌∙◌, subst, sym, arith}
+use Rattle.std.proofs.Common.{◌<◌, ◌++◌, ◌∷◌, [], get_or, map, ap, ◌∙◌, subst, sym}
 use Rattle.std.proofs.lemmas.List.{length-map, map-append, map_push}
 use Rattle.run_lanes.specs.declared.parts.RunLanes.{RunLanes}
-use Rattle.run_lanes.specs.Ends.{AreEndColumns, AreAllEnds}
 use Rattle.run_lanes.specs.Keyed.{ArePortLanes}
 use Rattle.run_lanes.proofs.Openings.{IsMade, counts, port_of, process_of, worker_of, poller_of, finish_of, can_open, can_begin, some_workers}
 use Rattle.run_lanes.proofs.opening.open_lanes.Goals as goal

@@ -1,4 +1,4 @@
-use Rattle.std.proofs.Common.{◌≡◌, ◌+◌, ◌∙◌, length, sym, ap, arith}
+use Rattle.std.proofs.Common.{◌≡◌, ◌∙◌, length, sym, ap, arith}
 use Rattle.std.proofs.lemmas.List.Elements.{All-tail, All-same}
 use Rattle.run_lanes.specs.Ends.{taken_in}
 use Rattle.run_lanes.proofs.Ends.{ended_next}

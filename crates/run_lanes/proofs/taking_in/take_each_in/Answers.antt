@@ -1,4 +1,4 @@
-use Rattle.std.proofs.Common.{◌≡◌, ◌<◌, length, sym, ap, ◌∙◌, arith}
+use Rattle.std.proofs.Common.{◌<◌, length, sym, ap, ◌∙◌, arith}
 use Rattle.run_lanes.proofs.Places.{rest_more, rest_first, rest_within}
 use Rattle.run_lanes.proofs.TakingIn.{takes_more}
 use Rattle.run_lanes.proofs.taking_in.take_each_in.Goals as goal

@@ -1,4 +1,4 @@
-use Rattle.std.proofs.Common.{map, take, subst, arith}
+use Rattle.std.proofs.Common.{map, take, subst}
 use Rattle.std.proofs.lemmas.List.{take_all}
 use Rattle.run_lanes.specs.Words.{AreTables}
 use Rattle.run_lanes.proofs.WordsDealt.{tables_rows, words_are}

@@ -12,7 +12,7 @@ jobs-preserved c =
     let inv = c.jobs.invariant in
     let steps = c.in-Some.ensures.steps in
     let rest = c.next.new.self.rest.items in
-    let job : Putter = record { seats = c.in-Some.seats; lanes = c.in-Some-pop.lanes; over = c.in-Some-pop-2.over; numbers = c.args.size.numbers } in
+    let job : Putter = record { seats = c.in-Some.seats; lanes = c.in-Some-pop.lanes; over = c.in-Some-pop-2.over; numbers = c.args.size.numbers; pause = c.args.size.pause } in
     let ready = All-same (IsReadyJob c.args.size.ports) _ _ (sym steps.0) inv.2 in
     let mine = All-head (IsReadyJob c.args.size.ports) c.in-Some.seats rest ready in
     let lists = All-pop (λ m. length m.items ≡ c.args.size.ports) c.jobs.lists.items c.pop.new.self.items (Some c.in-Some-pop.lanes) c.in-Some-pop.ensures.items inv.3 in

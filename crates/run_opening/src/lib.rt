@@ -1,0 +1,10 @@
+//! How a run begins: its ports are opened, each with its driver and in its place among the lanes and words of the run.
+#![tactic(auto)]
+
+mod opening;
+mod rooms;
+
+pub use driver_hosts::{Driver, Hosted, StartRefusal};
+pub use opening::{JobLanes, OpenFault, OpenPorts, open_ports_of};
+pub use run_lanes::LaneSize;
+pub use script_plan::PortDecl;

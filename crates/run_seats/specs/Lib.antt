@@ -1,0 +1,5 @@
+pub mod Plans
+pub mod Dealt
+pub mod Homing
+pub mod Seated
+pub mod Ran

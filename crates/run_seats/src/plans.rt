@@ -1,0 +1,78 @@
+//! What each process of a run is made of.
+ghost use Rattle.std.specs.Prelude.{◌≡◌, ◌<◌, ◌≤◌, length, IfOk};
+ghost use Rattle.run_seats.specs.Plans.{ArePlansOf, IsPlanOf};
+
+use no_memory::NoMemory;
+use process_job::ProcParts;
+use run_lanes::{ProcessLanes, next_of};
+use script_plan::{Piece, Step};
+use std::alloc::Global;
+use std::collections::VecDeque;
+
+/// What a process does: its steps in order, and the contents of the files that its `file` steps send, one for each such step, in their order.
+#[derive(Drop)]
+pub struct Program {
+    pub steps: VecDeque<Step>,
+    pub files: VecDeque<Piece>,
+}
+
+/// What a process is made of but for its seats.
+#[derive(Drop)]
+pub struct ProcessPlan {
+    pub parts: ProcParts,
+    pub program: Program,
+}
+
+fn copy_of(alloc: Global, soft: &[bool]) -> Result<Vec<bool>, NoMemory>
+    ensures { IfOk result (λ copy. copy.items ≡ soft.now) }
+{
+    let mut copy = Vec::new(alloc);
+    copy.extend_from_slice(soft)?;
+    Ok(copy)
+}
+
+// The process of this number.
+fn plan_of(
+    alloc: Global,
+    number: usize,
+    soft: &[bool],
+    lanes: ProcessLanes,
+    program: Program,
+) -> Result<ProcessPlan, NoMemory>
+    requires { number < 32 }
+    ensures { IfOk result (IsPlanOf soft.now number lanes program) }
+{
+    let soft = copy_of(alloc, soft)?;
+    let parts = ProcParts {
+        number: number as u32,
+        mailbox: lanes.mailbox,
+        lanes: lanes.lanes,
+        seats: lanes.seats,
+        soft,
+    };
+    Ok(ProcessPlan { parts, program })
+}
+
+/// The processes of a run, by their numbers. `soft` says of each port whether its driver takes forced commands while the port is busy.
+pub fn process_plans(
+    alloc: Global,
+    soft: &[bool],
+    processes: Vec<ProcessLanes>,
+    programs: Vec<Program>,
+) -> Result<Vec<ProcessPlan>, NoMemory>
+    requires many { length programs.items ≡ length processes.items }
+    requires few { length processes.items ≤ 32 }
+    ensures { IfOk result (λ plans. ArePlansOf soft.now processes.items programs.items plans.items) }
+{
+    let many = processes.len();
+    let mut processes = processes.into_iter();
+    let mut programs = programs.into_iter();
+    let mut plans = Vec::new(alloc);
+    'processes: for number in 0..many {
+        let lanes = next_of(&mut processes);
+        let program = next_of(&mut programs);
+        let plan = plan_of(alloc, number, soft, lanes, program)?;
+        plans.push(plan)?;
+    }
+    Ok(plans)
+}

@@ -1,0 +1,4 @@
+pub mod Ends
+pub mod Settling
+pub mod Laws
+pub mod Senders

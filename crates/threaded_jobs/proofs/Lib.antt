@@ -1,0 +1,6 @@
+pub mod Going
+pub mod Moves
+pub mod Apart
+pub mod Joined
+pub mod Sent
+pub mod Halts

@@ -1,0 +1,4 @@
+pub mod Kinds
+pub mod Jobs
+pub mod Parts
+pub mod Ended
