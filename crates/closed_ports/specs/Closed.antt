@@ -27,6 +27,8 @@ pub record IsClosed (name : BodyName) (ends : List LaneEnd) (port : EndedPort) :
   pub asks : end_name port.outlets.ends.asks ≡ name.asks
   pub pool : end_names port.outlets.ends.pool ≡ name.pool
   pub table : port.outlets.seat.table ≡ name.table
+  pub setup : port.outlets.seat.known.setup ≡ name.setup
+  pub joined : port.outlets.seat.known.senders ≡ name.joined
   pub sent : IsSentBy name.opening (reverse port.journal.rows) port.outlets
   pub finished : IsFinished name.opening (reverse port.journal.rows)
   pub rows : RowsAreSent name.key ends (reverse port.journal.rows)

@@ -1,5 +1,5 @@
 -- All drivers come back, with every outcome.
-use Rattle.std.proofs.Common.{inl, inr, arith, ◌≡◌, ◌≢◌, ℕ, zero, suc, ◌<◌, ◌≤◌, ◌⊎◌, List, [], ◌∷◌, length, Option, Some, None, refl, subst, sym, ap, ◌∙◌}
+use Rattle.std.proofs.Common.{inl, inr, arith, ◌≡◌, ◌≢◌, ℕ, zero, suc, ◌<◌, ◌⊎◌, List, [], ◌∷◌, length, Option, Some, None, refl, subst, sym, ap, ◌∙◌}
 use Rattle.std.specs.Prelude.{All, IsSomeAnd, slice_index, slice_index_or}
 use Rattle.std.proofs.lemmas.Bool.{cases_lt, cases_eq}
 use Rattle.driver_model.specs.Calls.{Kind, Own}
@@ -11,11 +11,11 @@ use Rattle.script_plan.specs.declared.decl.PortDecl.{PortDecl}
 use Rattle.port_body.specs.Body.{BodyView, name_of}
 use Rattle.driver_hosts.specs.declared.hosted.Hosted.{Hosted}
 use Rattle.driver_hosts.specs.declared.room.PortRoom.{PortRoom}
-use Rattle.driver_hosts.specs.Back.{AllCameBack, CameBack, HasNotStarted, HasServed, HaveServed, ServedBefore}
+use Rattle.driver_hosts.specs.Back.{AllCameBack, CameBack, HasNotStarted, HasServed, HaveServed}
 use Rattle.driver_hosts.specs.Hosts.{IsUnused}
-use Rattle.driver_hosts.specs.Laws.{KeepNames, RefusedComeBack, ServedComeBack}
-use Rattle.driver_hosts.specs.Opening.{AreOpened, HasOpened}
-use Rattle.driver_hosts.specs.Returning.{AreReturned, HasReturned}
+use Rattle.driver_hosts.specs.Laws.{RefusedComeBack, ServedComeBack}
+use Rattle.driver_hosts.specs.Opening.{HasOpened}
+use Rattle.driver_hosts.specs.Returning.{HasReturned}
 
 -- a port of this place, or none
 place-or-none : (places : List ℕ) (n at : ℕ) → ((port : ℕ) × (port < n) × (slice_index places port ≡ at)) ⊎ ((port : ℕ) → port < n → slice_index places port ≢ at)

@@ -19,6 +19,8 @@ pub record IsLeftBy (v : BodyView) (port : EndedPort) : Type 0 where
   pub asks : end_name port.outlets.ends.asks ≡ (name_of v).asks
   pub pool : end_names port.outlets.ends.pool ≡ (name_of v).pool
   pub table : port.outlets.seat.table ≡ (name_of v).table
+  pub setup : port.outlets.seat.known.setup ≡ (name_of v).setup
+  pub joined : port.outlets.seat.known.senders ≡ (name_of v).joined
 
 -- What a body leaves. Where it had finished and isn't broken, the ends and the words are as it had them, and they, its lawful history and what was taken from its lane
 -- say the same

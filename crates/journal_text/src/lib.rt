@@ -27,5 +27,5 @@ pub use fault::JournalFault;
 pub use laws::each_book_has_one_text;
 pub use port_config::{Config, Mode};
 pub use port_model::{Journal, Reason};
-pub use printing_ports::print_journal;
+pub use printing_ports::{print_histories, print_journal};
 pub use reader::read_journal;

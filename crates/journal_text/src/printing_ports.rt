@@ -173,6 +173,19 @@ fn put_book(out: &mut Vec<u8>, names: &[Reason], ports: &[PortReport]) -> Result
     Ok(())
 }
 
+/// The text of the journal of these names and ports, in version 1 of journals. It is read again where all of them lie in the ranges of the grammar, as they do in a book.
+pub fn print_histories(
+    alloc: Global,
+    names: &[Reason],
+    ports: &[PortReport],
+) -> Result<Vec<u8>, NoMemory>
+    ensures { IfOk result (λ text. text.items ≡ journal_text 1 (record { names = names.now; ports = ports.now })) }
+{
+    let mut out = Vec::new(alloc);
+    put_book(&mut out, names, ports)?;
+    Ok(out)
+}
+
 /// The text of a book, in version 1 of journals.
 pub fn print_journal(alloc: Global, book: &Book) -> Result<Vec<u8>, NoMemory>
     ensures text { IfOk result (λ text. text.items ≡ journal_text 1 book.now) }
@@ -181,7 +194,5 @@ pub fn print_journal(alloc: Global, book: &Book) -> Result<Vec<u8>, NoMemory>
 {
     let names = book.names();
     let ports = book.ports();
-    let mut out = Vec::new(alloc);
-    put_book(&mut out, names, ports)?;
-    Ok(out)
+    print_histories(alloc, names, ports)
 }

@@ -200,7 +200,7 @@ listed-behind v x port process came suspends at settled same rows =
     ap (same_sender (sender_at key x.sender)) (sym at) ∙ (apart key x.sender x.sender s.within s.within ∙ eq-eqb x.sender x.sender refl) in
     record {
       settled = settled;
-      table = h.table ∙ sym same.table;
+      table = h.table ∙ sym same.seat.table;
       processes = h.processes;
       workers = h.workers;
       port_processes = ap (λ o. o.processes) same.opening ∙ h.port_processes;

@@ -17,6 +17,7 @@ use Rattle.port_model.specs.Tasks.{TaskView}
 use Rattle.port_history.specs.Events.{Event, change, disarm, event_of, is_selected, told_of, unused}
 use Rattle.port_history.specs.Jobs.{Submitted, done_by, is_done, is_submitted}
 use Rattle.port_history.specs.Laws.{all_resumed, is_given_back, is_ready, keeps_end}
+use Rattle.port_history.specs.Lawful.{IsFinished}
 use Rattle.port_history.specs.Marks.{none_due}
 use Rattle.port_history.specs.Opening.{Opening}
 use Rattle.port_history.specs.State.{State, after, is_open, state}
@@ -264,6 +265,15 @@ over_at v at finished =
       given_back = and-last (s.stopped && all_resumed s.listed) (list_all is_given_back s.events) some;
       done = and-last ((s.stopped && all_resumed s.listed) && list_all is_given_back s.events) (list_all done s.jobs) end;
     }
+
+-- of a finished history nothing is wanting, and its port isn't open
+pub finished_end : (v : RecordedView) → is_finished (state_of v) ≡ true → IsFinished v.opening (reverse v.rows)
+finished_end v finished =
+    let s = state_of v in
+    record { marks = and-first (none_due s.due) (keeps_end s) finished; end = and-last (none_due s.due) (keeps_end s) finished }
+
+pub finished_shut : (v : RecordedView) → IsAt v.port v.opening (state_of v) → is_finished (state_of v) ≡ true → is_open (state_of v) ≡ false
+finished_shut v at finished = (over_at v at finished).closed
 
 none_listed : (s : State) → is_finished s ≡ true → s.listed ≡ []
 none_listed s finished =

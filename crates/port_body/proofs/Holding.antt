@@ -122,7 +122,7 @@ took old port x rest h settled same takes =
     let inside = within-lane key x h.due.0.fits in
     record {
       settled = settled;
-      table = h.table ∙ sym same.table;
+      table = h.table ∙ sym same.seat.table;
       processes = h.processes;
       workers = h.workers;
       port_processes = ap (λ o. o.processes) same.opening ∙ h.port_processes;
@@ -164,7 +164,7 @@ resumed old port items h settled same resumes =
     let entries : (state_of port).entries ≡ (state_of old.port).entries = ap (λ o. (state o (reverse port.rows)).entries) same.opening ∙ tasks.entries in
     record {
       settled = settled;
-      table = h.table ∙ sym same.table;
+      table = h.table ∙ sym same.seat.table;
       processes = h.processes;
       workers = h.workers;
       port_processes = ap (λ o. o.processes) same.opening ∙ h.port_processes;

@@ -25,10 +25,12 @@ same_name old new faults same =
     ∙ (ap (λ x. record name { opening = was.opening; processes = x }) same.processes
     ∙ (ap (λ x. record name { opening = was.opening; processes = was.processes; workers = x }) same.workers
     ∙ (ap (λ (l : Taking ParcelView Key). record name { opening = was.opening; processes = was.processes; workers = was.workers; lane = l.lane; key = l.key }) same.lane
-    ∙ (ap (λ x. record was { table = x; mailboxes = name.mailboxes; asks = name.asks; pool = name.pool }) same.port.table
+    ∙ (ap (λ x. record was { table = x; setup = name.setup; joined = name.joined; mailboxes = name.mailboxes; asks = name.asks; pool = name.pool }) same.port.seat.table
+    ∙ (ap (λ x. record was { setup = x; joined = name.joined; mailboxes = name.mailboxes; asks = name.asks; pool = name.pool }) same.port.seat.setup
+    ∙ (ap (λ x. record was { joined = x; mailboxes = name.mailboxes; asks = name.asks; pool = name.pool }) same.port.seat.joined
     ∙ (ap (λ x. record was { mailboxes = x; asks = name.asks; pool = name.pool }) same.port.ends
     ∙ (ap (λ (e : EventTable). record was { asks = end_name e.asks; pool = name.pool }) same.port.port.events
-    ∙ ap (λ x. record was { pool = x }) same.port.port.pool))))))
+    ∙ ap (λ x. record was { pool = x }) same.port.port.pool))))))))
 
 -- a chain of steps that isn't broken off
 pub finished_turn : (turn : Turn) (max : ℕ) (old new : LanePortView) → (turn ≡ NoMemory → ⊥) → IsBody old → IsBody new → IsSameLanePort old new → MakesSteps turn max old new

@@ -5,6 +5,8 @@ use Rattle.task_queue.specs.Ends.{LaneId}
 use Rattle.port_driver.specs.declared.life.Life.TheVariants.{Fresh}
 use Rattle.port_history.specs.Opening.{Opening}
 use Rattle.port_lanes.specs.Keys.{Key}
+use Rattle.port_words.specs.declared.busy.view.BusySetup.{BusySetup}
+use Rattle.port_words.specs.declared.busy.view.SenderView.{SenderView}
 use Rattle.served_port.specs.View.{EndName, end_name, end_names}
 use Rattle.recorded_port.specs.View.{is_finished, state_of}
 use Rattle.port_body.specs.LanePort.{LanePortView, IsBody}
@@ -18,8 +20,8 @@ pub record BodyView : Type 0 where
   pub first_faults : ℕ
 
 -- All that no turn changes: how the port was opened (its number, how many processes there are, its kind, its options, its first owner, and the events of its
--- program), how many processes and workers its lane knows, the lane and its key, the table of its words, which ends it has in the mailboxes, in the poller's lane and
--- in the workers', and its driver's count of faults when it was opened
+-- program), how many processes and workers its lane knows, the lane and its key, the table of its words, the set-up of its words, and the senders' seats that were joined,
+-- which ends it has in the mailboxes, in the poller's lane and in the workers', and its driver's count of faults when it was opened
 pub record BodyName : Type 0 where
   pub opening : Opening
   pub processes : ℕ
@@ -27,6 +29,8 @@ pub record BodyName : Type 0 where
   pub lane : LaneId
   pub key : Key
   pub table : TableId
+  pub setup : BusySetup
+  pub joined : List SenderView
   pub mailboxes : List EndName
   pub asks : EndName
   pub pool : List EndName
@@ -40,6 +44,8 @@ name_of v = record {
   lane = v.lane_port.lane.lane;
   key = v.lane_port.lane.key;
   table = v.lane_port.port.seat.table;
+  setup = v.lane_port.port.seat.known.setup;
+  joined = v.lane_port.port.seat.known.senders;
   mailboxes = end_names v.lane_port.port.ends;
   asks = end_name v.lane_port.port.port.events.asks;
   pool = end_names v.lane_port.port.port.jobs.lanes;

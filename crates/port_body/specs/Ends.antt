@@ -1,9 +1,9 @@
 -- What a body is once it ended, and what it gives back.
-use Rattle.std.specs.Prelude.{◌≡◌, ◌<◌, ◌≤◌, ℕ, List, [], ◌++◌, length, slice_index_or, reverse, Bool, true, false, Option, IfSome}
+use Rattle.std.specs.Prelude.{◌≡◌, ◌<◌, ◌≤◌, ℕ, List, [], ◌++◌, length, slice_index_or, reverse, All, Contains, true, false, Option, IfSome}
 use Rattle.std.specs.List.{AllByRecursion}
 use Rattle.task_queue.specs.Ends.{Taking}
 use Rattle.driver_model.specs.Calls.{Own}
-use Rattle.driver_model.specs.Drivers.{holds}
+use Rattle.driver_model.specs.Drivers.{holds, read_event_of, write_event_of}
 use Rattle.driver_model.specs.Programs.{Tells, ToldProgram}
 use Rattle.port_config.specs.declared.config.Config.{Config}
 use Rattle.port_driver.specs.declared.life.Life.TheVariants.{Stopped}
@@ -16,7 +16,7 @@ use Rattle.port_lanes.specs.Parcels.{ParcelView}
 use Rattle.port_model.specs.declared.row.Row.{Row}
 use Rattle.port_model.specs.declared.signal.Sender.TheVariants.{Timer}
 use Rattle.port_mail.specs.Ends.{MailEnd}
-use Rattle.recorded_port.specs.Asks.{GaveJobs, asks, removals}
+use Rattle.recorded_port.specs.Asks.{GaveJobs, asks, removals, resumed_words}
 use Rattle.recorded_port.specs.Laws.{IsLawful}
 use Rattle.recorded_port.specs.View.{removed_sizes, stat_marks, state_of}
 use Rattle.recorded_port.specs.declared.parts.PortOutlets.{PortOutlets}
@@ -37,9 +37,12 @@ pub record HasEnded (old new : BodyView) : Type 0 where
   pub unchanged : old.broken ≡ false → (state_of old.lane_port.port).stopped ≡ true → new ≡ old
   pub over : old.broken ≡ false → old.finished ≡ true → new ≡ old
 
--- A driver stands as the calls of a history leave it: it keeps what they leave, and its program, where this is told, is as they tell
+-- A driver stands as the calls of a history leave it: it keeps what they leave, its events are those of the opening, and its program, where this is
+-- told, is as they tell
 pub record IsLeftByCalls (port : Opening) (history : List Row) (own : Own) (program : Option ToldProgram) : Type 0 where
   pub keeps : own ≡ (holds port.kind port.config (state port history).calls).own
+  pub read : read_event_of own ≡ port.read
+  pub write : write_event_of own ≡ port.write
   pub told : IfSome program (Tells port.config (state port history).calls)
 
 -- the rows, the options, the ends and the words are those of the body
@@ -52,7 +55,7 @@ pub record IsEndOf (v : BodyView) (rows : List Row) (config : Config) (outlets :
   pub pool : outlets.ends.pool ≡ v.lane_port.port.port.jobs.lanes
   pub lane_is : lane ≡ v.lane_port.lane
 
--- these are the mail, the asks, the jobs, the marks and the removed bytes of a lawful history
+-- these are the mail, the asks, the jobs, the marks and the removed bytes of a lawful history, whose words of resumes are among those that the port found
 pub record IsSentBy (port : Opening) (history : List Row) (outlets : PortOutlets) : Type 0 where
   pub lawful : IsLawful port history
   pub mail : (process : ℕ) (e : MailEnd) → process < length outlets.mailboxes → (slice_index_or outlets.mailboxes process e).sent ≡ mails port process history
@@ -60,6 +63,7 @@ pub record IsSentBy (port : Opening) (history : List Row) (outlets : PortOutlets
   pub jobs : GaveJobs port history outlets.ends.pool
   pub marks : outlets.seat.known.marks ≡ stat_marks (state port history).marks
   pub removed : removed_sizes outlets.seat ≡ removals history
+  pub resumed : All (λ word. Contains outlets.seat.known.words word) (resumed_words history)
 
 -- What an unbroken body ends with: its history is lawful, and what it sent and marked is what that says. Of each end of its lane the tasks that have a row, and then
 -- those that wait, are what was taken of it, and no other sender has a row. Nothing waits where the port isn't open, and so of a body that has finished

@@ -30,6 +30,8 @@ pub record IsNameOf (place : PortPlace) (kind : Kind) (faults : ℕ) (config : C
   pub lane_is : name.lane ≡ lane.lane
   pub key : name.key ≡ lane.key
   pub table : name.table ≡ outlets.seat.table
+  pub setup_is : name.setup ≡ outlets.seat.known.setup
+  pub joined_is : name.joined ≡ outlets.seat.known.senders
   pub mailboxes : name.mailboxes ≡ end_names outlets.mailboxes
   pub asks : name.asks ≡ end_name outlets.ends.asks
   pub pool : name.pool ≡ end_names outlets.ends.pool

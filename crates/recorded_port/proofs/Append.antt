@@ -1,7 +1,8 @@
 -- A history stays lawful, and what the port did stays what it says, with each kind of row.
 use Rattle.std.proofs.Common.{◌≡◌, ℕ, ◌==◌, ◌≤◌, map, Bool, true, false, ◌&&◌, List, [], ◌∷◌, ◌++◌, length, drop, refl, sym, ap, ◌∙◌, subst, arith}
-use Rattle.std.specs.Prelude.{not, reverse, nat_le}
+use Rattle.std.specs.Prelude.{All, Contains, not, reverse, nat_le}
 use Rattle.std.proofs.lemmas.List.{append-nil, reverse-append}
+use Rattle.std.proofs.lemmas.List.Elements.{All-cons, All-weaker, Contains-append_left}
 use Rattle.port_words.specs.busy.Known.{PortKnown}
 use Rattle.port_words.specs.declared.busy.view.AddName.{AddName}
 use Rattle.port_signal.specs.declared.row.MarkKind.{MarkKind}
@@ -23,7 +24,7 @@ use Rattle.port_suspension.specs.Listed.{AgreesListed}
 use Rattle.served_port.specs.View.{ServedView, IsAt}
 use Rattle.served_port.specs.Outcomes.{is_handled, IsHandledRow, IsLateRow}
 use Rattle.served_port.proofs.Rows.{listed-at, resumed-at}
-use Rattle.recorded_port.specs.Asks.{GaveJobs, asks, row_asks, removals, command_sizes}
+use Rattle.recorded_port.specs.Asks.{GaveJobs, asks, row_asks, removals, command_sizes, resumed_words}
 use Rattle.recorded_port.specs.Resuming.{may_go}
 use Rattle.recorded_port.specs.View.{RecordedView, Records, IsChange, CanChange, removed_sizes, stat_mark}
 use Rattle.recorded_port.proofs.RowParts.{HasMail, mail-sent, mail-silent, jobs-given, jobs-kept, change-of-row, change-of-mark, stat-marks-more}
@@ -44,6 +45,13 @@ none-due-of due e = ap none_due e
 -- the bytes of a task's command are still in the message queue
 left-more : (sizes before more : List ℕ) → sizes ++ [] ≡ before → sizes ++ more ≡ before ++ more
 left-more sizes before more e = ap (λ x. x ++ more) (sym (append-nil sizes) ∙ e)
+
+seat-resumed : (rows : List Row) (old new : PortKnown) → new ≡ old → All (λ word. Contains old.known.words word) (resumed_words rows) → All (λ word. Contains new.known.words word) (resumed_words rows)
+seat-resumed rows old new e found = subst (λ (x : PortKnown). All (λ word. Contains x.known.words word) (resumed_words rows)) (sym e) found
+
+-- the words that the port found before are still among those that it found
+pub still-found : (words old more : List ℕ) → All (λ word. Contains old word) words → All (λ word. Contains (old ++ more) word) words
+still-found words old more found = All-weaker (λ word. Contains old word) (λ word. Contains (old ++ more) word) (λ word at. Contains-append_left old more word at) words found
 
 -- A handled task
 
@@ -85,6 +93,8 @@ handled-row port rows old new mid from seq task made before settled row next fre
       marks = ap (λ (x : PortKnown). x.known.marks) w ∙ before.marks;
       change = change-of-row (is_busy st.marks) (busy_after (is_busy st.marks) made.effects) (closing_reason st t);
       removed = ap (λ (x : PortKnown). removed_sizes x ++ command_sizes task.signal) w ∙ left-more (removed_sizes old.seat) (removals rows) (command_sizes task.signal) before.removed;
+      resumed = seat-resumed rows old.seat new.seat w before.resumed;
+      events = before.events;
     }
 
 -- A late one
@@ -124,6 +134,8 @@ late-row port rows old new mid from seq task before settled row next right p s w
       marks = ap (λ (x : PortKnown). x.known.marks) w ∙ before.marks;
       change = before.change;
       removed = ap (λ (x : PortKnown). removed_sizes x ++ command_sizes task.signal) w ∙ left-more (removed_sizes old.seat) (removals rows) (command_sizes task.signal) before.removed;
+      resumed = seat-resumed rows old.seat new.seat w before.resumed;
+      events = before.events;
     }
 
 -- A mark
@@ -157,9 +169,9 @@ pub mark-row : (port : Opening) (rows : List Row) (old new : RecordedView) (mid 
     → Records port rows old left → is_due kind (state port rows).due ≡ true → IsAt mid port (after port (state port rows) (Mark kind))
     → mid.events ≡ old.port.events → mid.jobs ≡ old.port.jobs
     → new.port ≡ mid → new.suspended ≡ old.suspended → new.ends ≡ old.ends
-    → new.seat.known.marks ≡ old.seat.known.marks ++ stat_mark kind ∷ [] → new.seat.known.removed ≡ old.seat.known.removed
+    → new.seat.known.marks ≡ old.seat.known.marks ++ stat_mark kind ∷ [] → new.seat.known.removed ≡ old.seat.known.removed → new.seat.known.words ≡ old.seat.known.words
     → Records port (Mark kind ∷ rows) new left
-mark-row port rows old new mid kind left before due at ev jb p s e marks removed =
+mark-row port rows old new mid kind left before due at ev jb p s e marks removed words =
     let st = state port rows in
     record {
       at = subst (λ x. IsAt x port (after port st (Mark kind))) (sym p) at;
@@ -172,6 +184,8 @@ mark-row port rows old new mid kind left before due at ev jb p s e marks removed
       marks = marks ∙ (ap (λ x. x ++ stat_mark kind ∷ []) before.marks ∙ sym (stat-marks-more kind st.marks));
       change = subst (λ x. IsChange (is_busy (kind ∷ st.marks)) (drop 1 x)) before.at.state.due (change-of-mark old.port.state.change old.port.state.closes (is_busy (kind ∷ st.marks)));
       removed = ap (λ x. map (λ (n : AddName). n.size) x ++ left) removed ∙ (before.removed ∙ sym (append-nil (removals rows)));
+      resumed = subst (λ x. All (λ word. Contains x word) (resumed_words rows)) (sym words) before.resumed;
+      events = before.events;
     }
 
 -- A sender that is listed, and one that is resumed
@@ -209,16 +223,18 @@ listed-row port rows old new process seq before settled fresh later alone listed
       marks = ap (λ (x : PortKnown). x.known.marks) w ∙ before.marks;
       change = before.change;
       removed = ap (λ (x : PortKnown). removed_sizes x ++ []) w ∙ (before.removed ∙ sym (append-nil (removals rows)));
+      resumed = seat-resumed rows old.seat new.seat w before.resumed;
+      events = before.events;
     }
 
 pub resumed-row : (port : Opening) (rows : List Row) (old new : RecordedView) (process seq word : ℕ)
     → Records port rows old [] → (state port rows).due ≡ []
-    → is_first (entry (Process process) seq) (state port rows).listed ≡ true → may_go (state port rows) word ≡ true
+    → is_first (entry (Process process) seq) (state port rows).listed ≡ true → may_go (state port rows) word ≡ true → Contains old.seat.known.words word
     → AgreesListed new.suspended (without_entry (entry (Process process) seq) (state port rows).listed) → new.suspended.places ≡ old.suspended.places
     → new.port ≡ old.port → new.seat ≡ old.seat
     → Posts old.port.state.links.ties.ended old.ends new.ends (row_mail port (state port rows) (Resumed (Process process) seq word))
     → Records port (Resumed (Process process) seq word ∷ rows) new []
-resumed-row port rows old new process seq word before settled first may listed places p w posts =
+resumed-row port rows old new process seq word before settled first may found listed places p w posts =
     let st = state port rows in
     record {
       at = subst (λ x. IsAt x port (after port st (Resumed (Process process) seq word))) (sym p) (resumed-at old.port port st (Process process) seq word before.at);
@@ -244,6 +260,8 @@ resumed-row port rows old new process seq word before settled first may listed p
       marks = ap (λ (x : PortKnown). x.known.marks) w ∙ before.marks;
       change = before.change;
       removed = ap (λ (x : PortKnown). removed_sizes x ++ []) w ∙ (before.removed ∙ sym (append-nil (removals rows)));
+      resumed = All-cons (λ word. Contains new.seat.known.words word) word (resumed_words rows) (subst (λ (x : PortKnown). Contains x.known.words word) (sym w) found) (seat-resumed rows old.seat new.seat w before.resumed);
+      events = before.events;
     }
 
 -- there are no more marks than rows

@@ -4,6 +4,7 @@ use Rattle.std.specs.Prelude.{Result, Ok, Err, OnOk, not, if◌then◌else◌}
 use Rattle.std.proofs.lemmas.List.{append-nil, append_assoc}
 use Rattle.driver_model.specs.Calls.{Kind}
 use Rattle.port_model.specs.declared.row.Row.{Row}
+use Rattle.port_words.specs.busy.Known.{PortKnown}
 use Rattle.port_events.specs.Table.{EventTable}
 use Rattle.port_history.specs.Mail.{Sent}
 use Rattle.port_history.specs.Opening.{Opening}
@@ -12,7 +13,7 @@ use Rattle.port_mail.specs.Ends.{MailEnd, Puts, Posts}
 use Rattle.served_port.specs.View.{ServedView, IsSameServed, end_name, end_names}
 use Rattle.served_port.proofs.EndNames.{names_by_place}
 use Rattle.recorded_port.specs.View.{RecordedView}
-use Rattle.recorded_port.specs.Taking.{GrewTo, IsSameRecorded, UsesRoom}
+use Rattle.recorded_port.specs.Taking.{GrewTo, IsSameRecorded, IsSameSeat, UsesRoom}
 
 pub on-ok : {T E : Type 0} (r : Result T E) {P Q : Type 0} → (P → Q) → OnOk r P → OnOk r Q
 on-ok (Ok value) f p = f p
@@ -44,8 +45,14 @@ grew-trans a b c p q = record { more = p.more ++ q.more; rows = q.rows ∙ (ap (
 pub row-room : (old new : RecordedView) (row : Row) → new.rows ≡ old.rows ++ row ∷ [] → new.room + 1 ≡ old.room → UsesRoom old new
 row-room old new row rows less = let more = ap length rows ∙ length-append old.rows (row ∷ []) in omega (arith, less, more)
 
+pub seat-refl : (seat : PortKnown) → IsSameSeat seat seat
+seat-refl seat = record { table = refl; setup = refl; joined = refl }
+
+seat-trans : (a b c : PortKnown) → IsSameSeat a b → IsSameSeat b c → IsSameSeat a c
+seat-trans a b c p q = record { table = q.table ∙ p.table; setup = q.setup ∙ p.setup; joined = q.joined ∙ p.joined }
+
 pub same-refl : (v : RecordedView) → IsSameRecorded v v
-same-refl v = record { opening = refl; rows = grew-none v.rows; port = served-refl v.port; ends = refl; table = refl; places = refl }
+same-refl v = record { opening = refl; rows = grew-none v.rows; port = served-refl v.port; ends = refl; seat = seat-refl v.seat; places = refl }
 
 pub same-trans : (a b c : RecordedView) → IsSameRecorded a b → IsSameRecorded b c → IsSameRecorded a c
 same-trans a b c p q = record {
@@ -53,7 +60,7 @@ same-trans a b c p q = record {
   rows = grew-trans a.rows b.rows c.rows p.rows q.rows;
   port = served-trans a.port b.port c.port p.port q.port;
   ends = q.ends ∙ p.ends;
-  table = q.table ∙ p.table;
+  seat = seat-trans a.seat b.seat c.seat p.seat q.seat;
   places = q.places ∙ p.places;
 }
 
@@ -62,7 +69,7 @@ pub same-written : (old new : RecordedView) (row : Row) (room : ℕ) (ends : Lis
     → end_names ends ≡ end_names old.ends → IsSameRecorded old new
 same-written old new row room ends e names =
     subst (λ x. IsSameRecorded old x) (sym e)
-    (record { opening = refl; rows = grew-one old.rows row; port = served-refl old.port; ends = names; table = refl; places = refl })
+    (record { opening = refl; rows = grew-one old.rows row; port = served-refl old.port; ends = names; seat = seat-refl old.seat; places = refl })
 
 posted-names : (ended : List ℕ) (old new : List MailEnd) (sent : List Sent) → Posts ended old new sent → end_names new ≡ end_names old
 posted-names ended old new sent p = names_by_place old new p.processes (λ n e less. ap end_name (p.ends n e less))

@@ -1,8 +1,13 @@
 -- Rows that came behind the others, and a port at its start.
-use Rattle.std.proofs.Common.{◌≡◌, ℕ, ◌<◌, ◌≤◌, map, true, List, [], ◌∷◌, ◌++◌, length, length-append, sym, ap, ◌∙◌, subst, arith}
-use Rattle.std.specs.Prelude.{All, reverse, slice_index_or}
+use Rattle.std.proofs.Common.{◌≡◌, ℕ, ◌<◌, ◌≤◌, Option, map, true, List, [], ◌∷◌, ◌++◌, length, length-append, sym, ap, ◌∙◌, subst, arith}
+use Rattle.std.specs.Prelude.{All, Contains, reverse, slice_index_or}
 use Rattle.std.proofs.lemmas.List.{length-map, length-reverse}
-use Rattle.std.proofs.lemmas.List.Elements.{All-get_or}
+use Rattle.std.proofs.lemmas.List.Elements.{All-nil, All-get_or}
+use Rattle.driver_model.specs.Calls.{Held, Own}
+use Rattle.driver_model.specs.Drivers.{read_event_of, write_event_of}
+use Rattle.driver_model.specs.Programs.{ToldProgram}
+use Rattle.port_driver.specs.Context.{Context}
+use Rattle.port_driver.specs.Driven.{Stands}
 use Rattle.port_words.specs.busy.Stat.{marked_busy}
 use Rattle.port_words.specs.busy.Known.{PortKnown}
 use Rattle.port_signal.specs.declared.row.MarkKind.{MarkKind}
@@ -10,7 +15,7 @@ use Rattle.port_model.specs.declared.row.Row.{Row}
 use Rattle.port_mail.specs.Ends.{MailEnd}
 use Rattle.port_history.specs.Marks.{is_busy, is_due}
 use Rattle.port_history.specs.Opening.{Opening}
-use Rattle.port_history.specs.State.{State, state}
+use Rattle.port_history.specs.State.{State, state, state_at_start}
 use Rattle.port_suspension.specs.Listed.{AgreesListed}
 use Rattle.served_port.specs.Openings.{IsAtStart}
 use Rattle.recorded_port.specs.declared.parts.PortOutlets.{PortOutlets}
@@ -20,7 +25,7 @@ use Rattle.recorded_port.specs.Asks.{start_asks}
 use Rattle.recorded_port.specs.Resuming.{ResumesFirst}
 use Rattle.recorded_port.specs.Taking.{UsesRoom}
 use Rattle.recorded_port.specs.Openings.{AreUnused}
-use Rattle.recorded_port.specs.View.{RecordedView, Records, IsRecorded, IsSettled, CanMark, CanChange, removed_sizes, state_of, stat_mark}
+use Rattle.recorded_port.specs.View.{RecordedView, Records, IsRecorded, IsSettled, CanMark, CanChange, HasEvents, removed_sizes, state_of, stat_mark}
 use Rattle.recorded_port.proofs.Append.{rows-more, due-first, marks-below}
 use Rattle.recorded_port.proofs.RowParts.{stat-busy}
 
@@ -57,13 +62,20 @@ can-mark old new kind left recorded due w r =
           (due-first kind (state_of old).due (is_busy (state_of old).marks) due recorded.change);
     }
 
+-- the events that a driver keeps as it stands after its start are those of the opening
+pub events-at-start : (port : Opening) (own : Own) (program : Option ToldProgram) (context : Context) → Stands port.kind port.config (state_at_start port).calls own program context
+    → port.read ≡ read_event_of own → port.write ≡ write_event_of own → HasEvents port
+events-at-start port own program context stands read write =
+    let kept = ap (λ (h : Held). h.own) stands.holds in
+    record { read = ap read_event_of (sym kept) ∙ sym read; write = ap write_event_of (sym kept) ∙ sym write }
+
 -- a port whose parts are those of its start
 no-mail : (ends : List MailEnd) → All (λ (e : MailEnd). e.sent ≡ []) ends → (process : ℕ) (e : MailEnd) → process < length ends → (slice_index_or ends process e).sent ≡ []
 no-mail ends all process e within = All-get_or (λ (x : MailEnd). x.sent ≡ []) ends process e within all
 
 pub opened : (v : RecordedView) (port : Opening) (outlets : PortOutlets) → v.opening ≡ port → v.rows ≡ [] → IsAtStart port outlets.ends v.port
-    → v.suspended.places ≡ port.processes → AgreesListed v.suspended [] → v.ends ≡ outlets.mailboxes → v.seat ≡ outlets.seat → AreUnused outlets → IsSettled v
-opened v port outlets o r start places listed ends seat unused = record {
+    → v.suspended.places ≡ port.processes → AgreesListed v.suspended [] → v.ends ≡ outlets.mailboxes → v.seat ≡ outlets.seat → AreUnused outlets → HasEvents port → IsSettled v
+opened v port outlets o r start places listed ends seat unused events = record {
   recorded = subst (λ x. Records x (reverse v.rows) v []) (sym o) (subst (λ x. Records port (reverse x) v []) (sym r) (record {
     at = start.at;
     lawful = tt;
@@ -75,6 +87,8 @@ opened v port outlets o r start places listed ends seat unused = record {
     marks = ap (λ (x : PortKnown). x.known.marks) seat ∙ unused.marks;
     change = tt;
     removed = ap (λ (x : PortKnown). removed_sizes x ++ []) seat ∙ ap (λ x. map (λ (n : AddName). n.size) x ++ []) unused.removed;
+    resumed = All-nil (λ word. Contains v.seat.known.words word);
+    events = events;
   }));
   none_due = ap (λ x. (state x (reverse v.rows)).due) o ∙ ap (λ x. (state port (reverse x)).due) r;
 }

@@ -1,13 +1,15 @@
 -- The row of a task, and the marks behind it.
-use Rattle.std.proofs.Common.{◌≡◌, ℕ, Bool, true, false, List, [], ◌∷◌, ◌++◌, drop, length, map, true≢false, refl, sym, ap, ◌∙◌, subst, inl, inr}
-use Rattle.std.specs.Prelude.{reverse}
+use Rattle.std.proofs.Common.{◌≡◌, ℕ, Bool, true, false, List, [], ◌∷◌, ◌++◌, drop, length, true≢false, refl, sym, ap, ◌∙◌, subst, inl, inr}
+use Rattle.std.specs.Prelude.{All, Contains, Option, Some, None, reverse, if◌then◌else◌}
 use Rattle.std.proofs.lemmas.List.{append-nil, append_assoc}
 use Rattle.port_signal.specs.declared.row.MarkKind.{MarkKind}
-use Rattle.port_words.specs.busy.Known.{PortKnown, port_known}
-use Rattle.port_words.specs.busy.Steps.{marked}
+use Rattle.port_lanes.specs.Parcels.{IsParcel}
+use Rattle.port_words.specs.busy.Known.{PortKnown, WeightKnown, port_known}
+use Rattle.port_words.specs.busy.Steps.{marked, port_heard}
 use Rattle.port_model.specs.declared.row.Row.{Row}
 use Rattle.port_model.specs.declared.row.Row.TheVariants.{Handled, Late, Resumed, Mark}
 use Rattle.port_model.specs.declared.signal.Sender.{Sender}
+use Rattle.port_model.specs.Signals.{data_size}
 use Rattle.port_model.specs.Tasks.{TaskView}
 use Rattle.port_mail.specs.Ends.{Posts}
 use Rattle.port_history.specs.Mail.{handled_mail, row_mail}
@@ -16,16 +18,15 @@ use Rattle.port_history.specs.Marks.{is_due}
 use Rattle.port_history.specs.State.{State, state, after}
 use Rattle.port_history.specs.Suspension.{Entry, entry, is_first, without_entry}
 use Rattle.port_suspension.specs.Listed.{AgreesListed}
-use Rattle.port_words.specs.declared.busy.view.AddName.{AddName}
 use Rattle.port_model.specs.declared.signal.Sender.TheVariants.{Process}
 use Rattle.port_state.specs.declared.served.Served.{Served}
 use Rattle.served_port.specs.View.{ServedView, IsAt}
 use Rattle.served_port.specs.Outcomes.{IsHandledRow, IsLateRow}
-use Rattle.recorded_port.specs.Asks.{GaveJobs, command_sizes}
+use Rattle.recorded_port.specs.Asks.{GaveJobs, command_sizes, resumed_words}
 use Rattle.recorded_port.specs.Resuming.{ResumesFirst, may_go, resumed_rows}
-use Rattle.recorded_port.specs.View.{RecordedView, Records, IsRecorded, IsSettled, stat_mark, state_of}
-use Rattle.recorded_port.specs.Taking.{MayWrite, WritesTask, WritesMark, WritesNext, WritesMarks}
-use Rattle.recorded_port.proofs.Append.{due-kind, handled-row, late-row, mark-row, resumed-row}
+use Rattle.recorded_port.specs.View.{RecordedView, Records, IsRecorded, IsSettled, removed_sizes, stat_mark, state_of}
+use Rattle.recorded_port.specs.Taking.{FoundMore, MayWrite, WritesTask, WritesMark, WritesNext, WritesMarks, sizes_of}
+use Rattle.recorded_port.proofs.Append.{due-kind, handled-row, late-row, mark-row, resumed-row, still-found}
 use Rattle.recorded_port.proofs.RowParts.{HasMail}
 use Rattle.recorded_port.proofs.Settled.{recorded-more, settled-more, state-more}
 
@@ -132,7 +133,8 @@ marked-row old mid new port kind left recorded due at ev jb b e =
           (mark-row old.opening (reverse old.rows) old new port kind left recorded due at ev jb (ap (λ (v : RecordedView). v.port) e ∙ b.port_is)
           (ap (λ (v : RecordedView). v.suspended) e ∙ b.suspended) (ap (λ (v : RecordedView). v.ends) e ∙ b.ends)
           (ap (λ (v : RecordedView). v.seat.known.marks) e ∙ ap (λ (x : PortKnown). x.known.marks ++ stat_mark kind ∷ []) b.seat)
-          (ap (λ (v : RecordedView). v.seat.known.removed) e ∙ ap (λ (x : PortKnown). x.known.removed) b.seat));
+          (ap (λ (v : RecordedView). v.seat.known.removed) e ∙ ap (λ (x : PortKnown). x.known.removed) b.seat)
+          (ap (λ (v : RecordedView). v.seat.known.words) e ∙ ap (λ (x : PortKnown). x.known.words) b.seat));
       due = due-kind kind (state_of old).due due ∙ sym (ap (λ (x : State). kind ∷ x.due) (state-more old new (Mark kind) opening rows));
       rows = rows;
       suspended = ap (λ (v : RecordedView). v.suspended) e ∙ b.suspended;
@@ -154,12 +156,12 @@ pub record WasResumed (old new : RecordedView) (word : ℕ) : Type 0 where
   pub resumes : ResumesFirst old new word
 
 pub resumed-first : (old mid new : RecordedView) (process seq word : ℕ) → IsSettled old → is_first (entry (Process process) seq) (state_of old).listed ≡ true
-    → may_go (state_of old) word ≡ true → (state_of old).listed ≡ entry (Process process) seq ∷ without_entry (entry (Process process) seq) (state_of old).listed
+    → may_go (state_of old) word ≡ true → Contains old.seat.known.words word → (state_of old).listed ≡ entry (Process process) seq ∷ without_entry (entry (Process process) seq) (state_of old).listed
     → AgreesListed mid.suspended (without_entry (entry (Process process) seq) (state_of old).listed) → BetweenLists old mid
     → new ≡ record mid { rows = mid.rows ++ Resumed (Process process) seq word ∷ []; room = new.room; ends = new.ends }
     → Posts mid.port.state.links.ties.ended mid.ends new.ends (row_mail mid.opening (state_of old) (Resumed (Process process) seq word))
     → WasResumed old new word
-resumed-first old mid new process seq word settled first goes listed agrees b e posts =
+resumed-first old mid new process seq word settled first goes found listed agrees b e posts =
     let row = Resumed (Process process) seq word in
     let rows = ap (λ (v : RecordedView). v.rows) e ∙ ap (λ x. x ++ row ∷ []) b.rows in
     let opening = ap (λ (v : RecordedView). v.opening) e ∙ b.opening in
@@ -171,7 +173,7 @@ resumed-first old mid new process seq word settled first goes listed agrees b e 
     (subst (λ x. Posts mid.port.state.links.ties.ended mid.ends new.ends (row_mail x (state_of old) row)) b.opening posts)) in
     record {
       settled = settled-more old new row opening rows
-          (resumed-row old.opening (reverse old.rows) old new process seq word settled.recorded settled.none_due first goes
+          (resumed-row old.opening (reverse old.rows) old new process seq word settled.recorded settled.none_due first goes found
           (subst (λ x. AgreesListed x (without_entry (entry (Process process) seq) (state_of old).listed)) (sym suspended) agrees)
           (ap (λ x. x.places) suspended ∙ b.places) (ap (λ (v : RecordedView). v.port) e ∙ b.port) seat sent) settled.none_due;
       resumes = record {
@@ -190,23 +192,43 @@ resumed-more rows more word listed rest first e m =
     ap (λ x. x ++ resumed_rows word rest) m
     ∙ (append_assoc rows (Resumed first.from first.seq word ∷ []) (resumed_rows word rest) ∙ ap (λ x. rows ++ resumed_rows word x) (sym e))
 
--- a word that was looked at is no part of a history
-pub settled-heard : (old new : RecordedView) → IsSettled old → new.opening ≡ old.opening → new.rows ≡ old.rows → new.port ≡ old.port → new.ends ≡ old.ends → new.suspended ≡ old.suspended
-    → new.seat.known.marks ≡ old.seat.known.marks → new.seat.known.removed ≡ old.seat.known.removed → IsSettled new
-settled-heard old new settled o r p e s marks removed =
-    let before = settled.recorded in
+-- marks and rows are as they were, the bytes of the commands of `left` were removed, and more words were found
+pub settled-seat : (old new : RecordedView) (left : List ℕ) → IsRecorded old left → (state_of old).due ≡ [] → new ≡ record old { seat = new.seat }
+    → new.seat.known.marks ≡ old.seat.known.marks → removed_sizes new.seat ≡ removed_sizes old.seat ++ left → FoundMore old.seat new.seat → IsSettled new
+settled-seat old new left before due e marks removed found =
+    let o = ap (λ (v : RecordedView). v.opening) e in
+    let r = ap (λ (v : RecordedView). v.rows) e in
+    let p = ap (λ (v : RecordedView). v.port) e in
+    let s = ap (λ (v : RecordedView). v.suspended) e in
     record {
       recorded = subst (λ x. Records x (reverse new.rows) new []) (sym o) (subst (λ x. Records old.opening (reverse x) new []) (sym r) (record {
         at = subst (λ x. IsAt x old.opening (state_of old)) (sym p) before.at;
         lawful = before.lawful;
         places = ap (λ x. x.places) s ∙ before.places;
         listed = subst (λ x. AgreesListed x (state_of old).listed) (sym s) before.listed;
-        mail = subst (λ x. HasMail old.opening (reverse old.rows) x) (sym e) before.mail;
+        mail = subst (λ x. HasMail old.opening (reverse old.rows) x) (sym (ap (λ (v : RecordedView). v.ends) e)) before.mail;
         asks = ap (λ (x : ServedView). x.events.asks.sent) p ∙ before.asks;
         jobs = subst (λ (x : ServedView). GaveJobs old.opening (reverse old.rows) x.jobs.lanes) (sym p) before.jobs;
         marks = marks ∙ before.marks;
         change = before.change;
-        removed = ap (λ x. map (λ (n : AddName). n.size) x ++ []) removed ∙ before.removed;
+        removed = append-nil (removed_sizes new.seat) ∙ (removed ∙ before.removed);
+        resumed = subst (λ x. All (λ word. Contains x word) (resumed_words (reverse old.rows))) (sym found.words)
+            (still-found (resumed_words (reverse old.rows)) old.seat.known.words found.more before.resumed);
+        events = before.events;
       }));
-      none_due = ap (λ x. (state x (reverse new.rows)).due) o ∙ (ap (λ x. (state old.opening (reverse x)).due) r ∙ settled.none_due);
+      none_due = ap (λ x. (state x (reverse new.rows)).due) o ∙ (ap (λ x. (state old.opening (reverse x)).due) r ∙ due);
     }
+
+-- a word that was looked at is no part of a history
+pub settled-heard : (old new : RecordedView) (seat : PortKnown) (word : ℕ) → IsSettled old → new ≡ record old { seat = new.seat } → seat ≡ old.seat
+    → new.seat ≡ port_known seat.table (port_heard seat.known (word ∷ [])) → IsSettled new
+settled-heard old new seat word settled e s heard =
+    settled-seat old new [] settled.recorded settled.none_due e
+    (ap (λ (x : PortKnown). x.known.marks) (heard ∙ ap (λ (x : PortKnown). port_known x.table (port_heard x.known (word ∷ []))) s))
+    (ap removed_sizes (heard ∙ ap (λ (x : PortKnown). port_known x.table (port_heard x.known (word ∷ []))) s) ∙ sym (append-nil (removed_sizes old.seat)))
+    (record { more = word ∷ []; words = ap (λ (x : PortKnown). x.known.words) (heard ∙ ap (λ (x : PortKnown). port_known x.table (port_heard x.known (word ∷ []))) s) })
+
+-- the weight of a command has the size that is to be removed, and nothing else has one
+pub weight-sizes : (weight : Option WeightKnown) (task : TaskView) → IsParcel (record { task = task; weight = weight }) → sizes_of weight ≡ command_sizes task.signal
+weight-sizes None task parcel = ap (λ b. if b then data_size task.signal ∷ [] else []) parcel.weighed
+weight-sizes (Some weight) task parcel = ap (λ size. size ∷ []) parcel.size ∙ ap (λ b. if b then data_size task.signal ∷ [] else []) parcel.weighed

@@ -1,4 +1,4 @@
--- What the rows of a history ask of the poller and of the workers, and which bytes they take out of the message queue.
+-- What the rows of a history ask of the poller and of the workers, which bytes they take out of the message queue, and with which words they resume.
 use Rattle.std.specs.Prelude.{◌≡◌, ℕ, List, [], ◌∷◌, ◌++◌, map, All, if◌then◌else◌}
 use Rattle.std.specs.List.{flat_map}
 use Rattle.async_jobs.specs.declared.job.Job.{Job}
@@ -6,7 +6,7 @@ use Rattle.async_jobs.specs.Order.{AllSubmitted}
 use Rattle.async_jobs.specs.Pool.{Lanes, PoolEnd}
 use Rattle.driver_model.specs.Drivers.{effects_of}
 use Rattle.port_model.specs.declared.row.Row.{Row}
-use Rattle.port_model.specs.declared.row.Row.TheVariants.{Handled, Late}
+use Rattle.port_model.specs.declared.row.Row.TheVariants.{Handled, Late, Resumed}
 use Rattle.port_model.specs.declared.signal.Signal.{Signal}
 use Rattle.port_model.specs.Signals.{data_size, is_command}
 use Rattle.port_history.specs.Events.{selected_by}
@@ -56,3 +56,9 @@ row_sizes row = []
 abbrev pub removals : List Row → List ℕ
 removals [] = []
 removals (row ∷ older) = removals older ++ row_sizes row
+
+-- the words with which a history, newest row first, resumes senders, newest first
+abbrev pub resumed_words : List Row → List ℕ
+resumed_words [] = []
+resumed_words (Resumed from seq word ∷ older) = word ∷ resumed_words older
+resumed_words (row ∷ older) = resumed_words older

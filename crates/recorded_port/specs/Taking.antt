@@ -1,6 +1,6 @@
 -- What has to hold of a task that a port takes in, and what that adds to its rows.
 use Rattle.std.specs.Prelude.{◌≡◌, ◌⊎◌, ◌+◌, ◌≤◌, ℕ, List, [], ◌∷◌, ◌++◌, length, map, Bool, true, false, ◌&&◌, IfSome, Option, Some, None}
-use Rattle.port_words.specs.busy.Known.{WeightKnown}
+use Rattle.port_words.specs.busy.Known.{PortKnown, WeightKnown}
 use Rattle.port_lanes.specs.Parcels.{ParcelView}
 use Rattle.port_links.specs.Table.{IsAmong}
 use Rattle.port_signal.specs.declared.row.MarkKind.{MarkKind}
@@ -49,13 +49,24 @@ pub record GrewTo (old new : List Row) : Type 0 where
   pub more : List Row
   pub rows : new ≡ old ++ more
 
+-- the same words with the same set-up, and of senders the same seats that were joined
+pub record IsSameSeat (old new : PortKnown) : Type 0 where
+  pub table : new.table ≡ old.table
+  pub setup : new.known.setup ≡ old.known.setup
+  pub joined : new.known.senders ≡ old.known.senders
+
+-- the words that were found came behind those found before
+pub record FoundMore (old new : PortKnown) : Type 0 where
+  pub more : List ℕ
+  pub words : new.known.words ≡ old.known.words ++ more
+
 -- the same port, with the same ends and words, of which the rows grew, and what its ends sent
 pub record IsSameRecorded (old new : RecordedView) : Type 0 where
   pub opening : new.opening ≡ old.opening
   pub rows : GrewTo old.rows new.rows
   pub port : IsSameServed old.port new.port
   pub ends : end_names new.ends ≡ end_names old.ends
-  pub table : new.seat.table ≡ old.seat.table
+  pub seat : IsSameSeat old.seat new.seat
   pub places : new.suspended.places ≡ old.suspended.places
 
 -- the rows that came took places for which there was room

@@ -1,5 +1,5 @@
 -- A port with its rows, its mail and its words, as contracts see it, and what always holds of it.
-use Rattle.std.specs.Prelude.{◌≡◌, ◌<◌, ◌≤◌, ℕ, List, [], ◌∷◌, ◌++◌, length, map, reverse, slice_index_or, Bool, true, false, ◌&&◌}
+use Rattle.std.specs.Prelude.{◌≡◌, ◌<◌, ◌≤◌, ℕ, List, [], ◌∷◌, ◌++◌, length, map, reverse, slice_index_or, All, Contains, Bool, true, false, ◌&&◌}
 use Rattle.port_words.specs.busy.Stat.{marked_busy}
 use Rattle.suspend_list.specs.Entries.{Suspended}
 use Rattle.port_words.specs.busy.Known.{PortKnown}
@@ -14,11 +14,12 @@ use Rattle.port_history.specs.Mail.{mails}
 use Rattle.port_history.specs.Laws.{keeps_end}
 use Rattle.port_history.specs.Marks.{is_busy, none_due}
 use Rattle.port_history.specs.Opening.{Opening}
-use Rattle.port_history.specs.State.{State, state}
+use Rattle.port_history.specs.State.{State, start_call, state}
+use Rattle.driver_model.specs.Drivers.{holds, read_event_of, write_event_of}
 use Rattle.port_suspension.specs.Listed.{AgreesListed}
 use Rattle.served_port.specs.View.{ServedView, IsAt}
 use Rattle.recorded_port.specs.Laws.{IsLawful}
-use Rattle.recorded_port.specs.Asks.{asks, GaveJobs, removals}
+use Rattle.recorded_port.specs.Asks.{asks, GaveJobs, removals, resumed_words}
 
 -- what was fixed at its opening, its rows, oldest first, for how many more of them there is room, the port with its driver, its ends into the mailboxes by the numbers of the processes, the seat of
 -- its words, and the senders that it suspended
@@ -58,9 +59,14 @@ IsChange busy (Busy ∷ due) = busy ≡ false
 IsChange busy (Free ∷ due) = busy ≡ true
 IsChange busy (Closed ∷ due) = Unit {0}
 
+-- the events of an opening are those that its driver keeps from its start
+pub record HasEvents (port : Opening) : Type 0 where
+  pub read : read_event_of (holds port.kind port.config (start_call port ∷ [])).own ≡ port.read
+  pub write : write_event_of (holds port.kind port.config (start_call port ∷ [])).own ≡ port.write
+
 -- A history is lawful, and all that the port did is what it says: the driver, the events and the jobs are as after it, the suspended senders are those that
--- are listed, each process was sent its mail, the poller was asked what its rows ask, the workers were given its jobs, and the words have its marks. `left`
--- are the sizes of commands whose bytes are still in the message queue
+-- are listed, each process was sent its mail, the poller was asked what its rows ask, the workers were given its jobs, the words have its marks, and the
+-- port found the words with which it resumed. `left` are the sizes of commands whose bytes are still in the message queue
 pub record Records (port : Opening) (rows : List Row) (v : RecordedView) (left : List ℕ) : Type 0 where
   pub at : IsAt v.port port (state port rows)
   pub lawful : IsLawful port rows
@@ -72,6 +78,8 @@ pub record Records (port : Opening) (rows : List Row) (v : RecordedView) (left :
   pub marks : v.seat.known.marks ≡ stat_marks (state port rows).marks
   pub change : IsChange (is_busy (state port rows).marks) (state port rows).due
   pub removed : removed_sizes v.seat ++ left ≡ removals rows
+  pub resumed : All (λ word. Contains v.seat.known.words word) (resumed_words rows)
+  pub events : HasEvents port
 
 -- its own rows are such a history
 abbrev pub IsRecorded : RecordedView → List ℕ → Type 0

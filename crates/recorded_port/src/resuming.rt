@@ -1,5 +1,5 @@
 //! Senders that are suspended and resumed.
-ghost use Rattle.std.specs.Prelude.{◌≡◌, ◌<◌, ◌≤◌, ◌∷◌, ◌++◌, [], length, OnOk, IfOk, true, not, is_some};
+ghost use Rattle.std.specs.Prelude.{◌≡◌, ◌<◌, ◌≤◌, ◌∷◌, ◌++◌, [], length, Contains, OnOk, IfOk, true, not, is_some};
 ghost use Rattle.port_model.specs.declared.row.Row.TheVariants.{Listed, Resumed};
 ghost use Rattle.port_model.specs.declared.signal.Sender.TheVariants.{Process};
 ghost use Rattle.port_history.specs.Mail.{row_mail};
@@ -59,6 +59,7 @@ impl<D: Driver> RecordedPort<D> {
     /// Resumes all senders that wait with this word.
     fn resume_all<R: Wait>(&mut self, rt: &R, word: u64) -> Result<(), NoMemory>
         requires settled { IsSettled self.old }
+        requires found { Contains self.old.seat.known.words word }
         requires may { may_go (state_of self.old) word ≡ true }
         requires room { length (state_of self.old).listed ≤ self.old.room }
         ensures same { IsSameRecorded self.old self.new }
@@ -77,6 +78,7 @@ impl<D: Driver> RecordedPort<D> {
     /// Resumes the first of those who wait with this word. False exactly where nobody waits.
     fn resume_next<R: Wait>(&mut self, rt: &R, word: u64) -> Result<bool, NoMemory>
         requires settled { IsSettled self.old }
+        requires found { Contains self.old.seat.known.words word }
         requires may { may_go (state_of self.old) word ≡ true }
         requires room { length (state_of self.old).listed ≤ self.old.room }
         ensures same { IsSameRecorded self.old self.new }

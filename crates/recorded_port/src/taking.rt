@@ -8,7 +8,7 @@ ghost use Rattle.port_history.specs.State.{State};
 ghost use Rattle.port_mail.specs.Ends.{Posts};
 ghost use Rattle.port_mail.specs.Rows.{IsRowOf};
 ghost use Rattle.recorded_port.specs.View.{IsRecorded, IsSettled, removed_sizes};
-ghost use Rattle.recorded_port.specs.Taking.{IsSameRecorded, MayTake, MayWrite, Takes, UsesRoom, WritesMarks, WritesNext, WritesTask, sizes_of};
+ghost use Rattle.recorded_port.specs.Taking.{FoundMore, IsSameRecorded, IsSameSeat, MayTake, MayWrite, Takes, UsesRoom, WritesMarks, WritesNext, WritesTask, sizes_of};
 
 use crate::{Driver, NoMemory, Parcel, RecordedPort, Row, Sender, Served, Task};
 use port_words::busy::Weight;
@@ -166,7 +166,8 @@ impl<D: Driver> RecordedPort<D> {
     fn remove<R: Wait>(&mut self, rt: &R, weight: Option<Weight>)
         requires { IfSome weight (λ w. w.table ≡ self.old.seat.table) }
         ensures rest { self.new ≡ record self.old { seat = self.new.seat } }
-        ensures table { self.new.seat.table ≡ self.old.seat.table }
+        ensures same { IsSameSeat self.old.seat self.new.seat }
+        ensures found { FoundMore self.old.seat self.new.seat }
         ensures marks { self.new.seat.known.marks ≡ self.old.seat.known.marks }
         ensures sizes { removed_sizes self.new.seat ≡ removed_sizes self.old.seat ++ sizes_of weight }
     {

@@ -4,9 +4,10 @@ use Rattle.std.specs.List.{All, sum_by}
 use Rattle.std.proofs.lemmas.List.Elements.{All-nil, All-cons, All-head, All-tail}
 use Rattle.std.proofs.lemmas.List.Sums.{sum_by-cons}
 use Rattle.port_words.specs.declared.busy.view.QueueAdd.{QueueAdd}
+use Rattle.port_words.specs.declared.busy.view.QueueLimits.{QueueLimits}
 use Rattle.port_words.specs.declared.busy.view.SenderView.{SenderView}
 use Rattle.port_words.specs.declared.busy.view.BusyView.{BusyView}
-use Rattle.port_words.specs.busy.Known.{SendKnown}
+use Rattle.port_words.specs.busy.Known.{PortKnown, SendKnown}
 use Rattle.port_words.specs.busy.Queue.{period_of, bytes_of, Climbs, filled_in, add_size}
 use Rattle.port_words.specs.busy.Stat.{Rises, EachRises}
 use Rattle.port_words.specs.busy.Steps.{TellsQueue}
@@ -16,7 +17,7 @@ use Rattle.process_end.proofs.Bounds.{kept-all, words-kept}
 use Rattle.process_end.proofs.Stats.{shown-rise}
 use Rattle.process_receipts.specs.Ledgers.{shown_add, OncePlain}
 use Rattle.process_receipts.specs.Receipts.{ShownAdd, adds_shown, stats_shown, words_shown, picked, IsSublist}
-use Rattle.run_end.specs.Shown.{Calls, SeatShown, AreShown, adds_of, filled_by, times_filled, bytes_added, HasCause, WordsHold, ShownWordsHold}
+use Rattle.run_end.specs.Shown.{Calls, SeatShown, AreShown, adds_of, filled_by, times_filled, bytes_added, HasCause, WordsHold, QueueWordsHold, AllSeatsJoined, ShownWordsHold, OwnWordsHold}
 
 picked-all : (P : ℕ → Type 0) (picks : List Bool) (ws : List ℕ) → All P ws → All P (picked picks ws)
 picked-all P [] ws all = All-nil P
@@ -173,17 +174,58 @@ holds-of port v last calls seats j rises =
     each-holds port v last calls seats j calls seats j.shown
     (subst (All (SeatWords v last (adds_of port calls))) j.senders_are (together v last (adds_of port calls) v.senders rises bound j.tells.climbs.1 (λ off. (j.tells.off off).1)))
 
+length-senders : (seats : List SendKnown) → length (map sender_of seats) ≡ length seats
+length-senders [] = refl
+length-senders (seat ∷ seats) = ap suc (length-senders seats)
+
+joined-all : (port : ℕ) (old new : PortKnown) (seats : List SendKnown) (calls : List Calls) (a : AllSeatsJoined old seats new) → AreShown port calls seats
+    → Joined port new.known a.joined.last calls seats
+joined-all port old new seats calls a shown =
+    let v = new.known in
+    let k = a.joined.known in
+    let senders : v.senders ≡ map sender_of seats = ap (λ (x : BusyView). x.senders) k ∙ ap (λ l. l ++ map sender_of seats) a.none_before in
+    let many : length v.senders ≡ v.setup.senders = ap length senders ∙ (length-senders seats ∙ (a.many ∙ ap (λ (x : BusyView). x.setup.senders) (sym k))) in
+    record { tells = a.joined.queue; senders_are = senders; all = many; shown = shown }
+
 pub shown-hold : ShownWordsHold
 shown-hold port old new seats calls a shown =
     let v = new.known in
     let k = a.joined.known in
     let setup : v.setup ≡ old.known.setup = ap (λ (x : BusyView). x.setup) k in
     let marks : v.marks ≡ old.known.marks = ap (λ (x : BusyView). x.marks) k in
-    let senders : v.senders ≡ map sender_of seats = ap (λ (x : BusyView). x.senders) k ∙ ap (λ l. l ++ map sender_of seats) a.none_before in
-    let many : length v.senders ≡ v.setup.senders = ap length senders ∙ (length-map seats ∙ (a.many ∙ ap (λ s. s.senders) (sym setup))) in
-    let hold = holds-of port v a.joined.last calls seats (record { tells = a.joined.queue; senders_are = senders; all = many; shown = shown }) a.joined.stats in
+    let hold = holds-of port v a.joined.last calls seats (joined-all port old new seats calls a shown) a.joined.stats in
     subst (λ m. All (WordsHold port old.known.setup.limits m calls) calls) marks (subst (λ s. All (WordsHold port s.limits v.marks calls) calls) setup hold)
-  where
-    length-map : (xs : List SendKnown) → length (map sender_of xs) ≡ length xs
-    length-map [] = refl
-    length-map (x ∷ xs) = ap suc (length-map xs)
+
+-- what holds of all words holds of the first ones
+front-all : (P : ℕ → Type 0) (ws more : List ℕ) → All P (ws ++ more) → All P ws
+front-all P [] more all = All-nil P
+front-all P (w ∷ ws) more all = All-cons P w ws (All-head P w (ws ++ more) all) (front-all P ws more (All-tail P w (ws ++ more) all))
+
+-- the port's own words hold
+own-of : (port : ℕ) (v : BusyView) (last : ℕ) (calls : List Calls) (seats : List SendKnown) → Joined port v last calls seats → QueueWordsHold port v.setup.limits calls v.words
+own-of port v last calls seats j =
+    let adds = adds-are port v last calls seats j in
+    let once : All KeptOnce v.senders = subst (All KeptOnce) (sym j.senders_are) (once-each port calls seats j.shown) in
+    record {
+      bounded = λ on. subst (λ x. All (Bounded v.setup.limits.high x) v.words) adds (words-kept v last (record { limited = on; all = j.all; senders = once }) j.tells).0;
+      caused = λ on. all-of (λ x. period_of x ≤ period_of last) (HasCause v.setup.limits.high (adds_of port calls)) (λ x le. has-cause port v last x calls seats j on le) v.words
+          (climbs-below 0 v.words (period_of last) j.tells.climbs.0);
+      free = λ off. (j.tells.off off).0;
+    }
+
+front-holds : (port : ℕ) (limits : QueueLimits) (calls : List Calls) (ws more : List ℕ) → QueueWordsHold port limits calls (ws ++ more) → QueueWordsHold port limits calls ws
+front-holds port limits calls ws more h = record {
+  bounded = λ on. front-all (Bounded limits.high (adds_of port calls)) ws more (h.bounded on);
+  caused = λ on. front-all (HasCause limits.high (adds_of port calls)) ws more (h.caused on);
+  free = λ off. front-all Unused ws more (h.free off);
+}
+
+pub own-hold : OwnWordsHold
+own-hold port old new seats calls a shown =
+    let v = new.known in
+    let k = a.joined.known in
+    let setup : v.setup ≡ old.known.setup = ap (λ (x : BusyView). x.setup) k in
+    let words : v.words ≡ old.known.words ++ a.joined.last ∷ [] = ap (λ (x : BusyView). x.words) k in
+    let hold = own-of port v a.joined.last calls seats (joined-all port old new seats calls a shown) in
+    front-holds port old.known.setup.limits calls old.known.words (a.joined.last ∷ [])
+    (subst (QueueWordsHold port old.known.setup.limits calls) words (subst (λ s. QueueWordsHold port s.limits calls v.words) setup hold))

@@ -18,9 +18,9 @@ use Rattle.run_end.specs.Rows.{AreSeatRows}
 use Rattle.run_end.specs.Shown.{SeatShown}
 use Rattle.run_end.specs.Tell.{AllCallsTell, HaveRunWhole, AllSeatsShow, AllRowsStay}
 use Rattle.run_end.specs.Words.{IsOfTable}
-use Rattle.run_end.specs.Whole.{RunWordsHold}
+use Rattle.run_end.specs.Whole.{RunPortsHold, RunWordsHold}
 use Rattle.run_end.proofs.Merges.{first_of}
-use Rattle.run_end.proofs.Shown.{shown-hold}
+use Rattle.run_end.proofs.Shown.{own-hold, shown-hold}
 
 nothing : {X : Type 0} (xs : List X) → length xs ≤ 0 → xs ≡ []
 nothing [] few = refl
@@ -104,5 +104,13 @@ run_words old new ps ran none joined k d below =
     let j = joined.each k d d below in
     let fresh = none k d below in
     shown-hold k (slice_index_or old k d) (slice_index_or new k d) j.seats (map calls_made ps)
+    (record { joined = j.joined; none_before = fresh.0; many = j.column.many ∙ length-map ps seats_of ∙ sym fresh.1 })
+    (seats_show (length old) k ps j.seats ran below j.column)
+
+pub run_ports : RunPortsHold
+run_ports old new ps ran none joined k d below =
+    let j = joined.each k d d below in
+    let fresh = none k d below in
+    own-hold k (slice_index_or old k d) (slice_index_or new k d) j.seats (map calls_made ps)
     (record { joined = j.joined; none_before = fresh.0; many = j.column.many ∙ length-map ps seats_of ∙ sym fresh.1 })
     (seats_show (length old) k ps j.seats ran below j.column)

@@ -59,6 +59,12 @@ pub record WordsHold (port : ℕ) (limits : QueueLimits) (marks : List StatMark)
   pub caused : limits.on ≡ true → All (HasCause limits.high (adds_of port all)) (words_shown port c.receipts)
   pub free : limits.on ≡ false → All (λ w. period_of w ≡ 0) (words_shown port c.receipts)
 
+-- with limits on, each of these words of the port's message queue has bytes within the bound, and is busy only with a cause; with limits off none is busy
+pub record QueueWordsHold (port : ℕ) (limits : QueueLimits) (all : List Calls) (words : List ℕ) : Type 0 where
+  pub bounded : limits.on ≡ true → All (λ w. bytes_of w ≤ queue_bound limits.high (adds_of port all)) words
+  pub caused : limits.on ≡ true → All (HasCause limits.high (adds_of port all)) words
+  pub free : limits.on ≡ false → All (λ w. period_of w ≡ 0) words
+
 -- all seats of the port's senders were joined, of which none was joined before
 pub record AllSeatsJoined (old : PortKnown) (seats : List SendKnown) (new : PortKnown) : Type 0 where
   pub joined : HasJoined old seats new
@@ -69,3 +75,8 @@ pub record AllSeatsJoined (old : PortKnown) (seats : List SendKnown) (new : Port
 abbrev pub ShownWordsHold : Type 0
 ShownWordsHold = (port : ℕ) (old new : PortKnown) (seats : List SendKnown) (calls : List Calls) → AllSeatsJoined old seats new → AreShown port calls seats
     → All (WordsHold port old.known.setup.limits old.known.marks calls) calls
+
+-- and so do the words that the port itself found or left
+abbrev pub OwnWordsHold : Type 0
+OwnWordsHold = (port : ℕ) (old new : PortKnown) (seats : List SendKnown) (calls : List Calls) → AllSeatsJoined old seats new → AreShown port calls seats
+    → QueueWordsHold port old.known.setup.limits calls old.known.words

@@ -3,7 +3,7 @@ ghost use Rattle.run_end.specs.Shown.{ShownWordsHold};
 ghost use Rattle.run_end.specs.Mailboxes.{AllMailIsMerge};
 ghost use Rattle.run_end.specs.Merge.{MailIsMerge};
 ghost use Rattle.run_end.specs.Tell.{AllCallsTell, AllRowsStay, AllSeatsShow};
-ghost use Rattle.run_end.specs.Whole.{RunWordsHold};
+ghost use Rattle.run_end.specs.Whole.{RunPortsHold, RunWordsHold};
 
 /// The words in the receipts of all processes agree with the marks of the port to which the calls were made, have bytes within the bound of its message queue, and show it busy only with a
 /// cause among the commands that were put.
@@ -39,4 +39,9 @@ pub fn rows_stay()
 /// Once all seats were joined, the words in the receipts of all processes hold, for each port.
 pub fn run_words_hold()
     ensures { RunWordsHold }
+{}
+
+/// The words that each port itself found or left hold too.
+pub fn port_words_hold()
+    ensures { RunPortsHold }
 {}

@@ -5,7 +5,7 @@ use Rattle.port_model.specs.declared.signal.Sender.TheVariants.{Process}
 use Rattle.port_suspension.specs.Listed.{AgreesListed}
 use Rattle.recorded_port.specs.View.{RecordedView, IsSettled, state_of}
 use Rattle.recorded_port.proofs.Append.{listed-row}
-use Rattle.recorded_port.proofs.Same.{on-ok, not-false-of}
+use Rattle.recorded_port.proofs.Same.{not-false-of}
 use Rattle.recorded_port.proofs.Settled.{settled-more}
 use Rattle.recorded_port.proofs.recorded_port.RecordedPort.list.Goals as goal
 

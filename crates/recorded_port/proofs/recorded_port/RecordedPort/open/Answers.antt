@@ -2,7 +2,7 @@ use Rattle.std.proofs.Common.{refl, ap}
 use Rattle.port_history.specs.Opening.{Opening}
 use Rattle.port_state.specs.View.{IsOpeningOf}
 use Rattle.recorded_port.proofs.Same.{same-opening}
-use Rattle.recorded_port.proofs.Settled.{opened}
+use Rattle.recorded_port.proofs.Settled.{events-at-start, opened}
 use Rattle.recorded_port.proofs.recorded_port.RecordedPort.open.Goals as goal
 
 pub returns-clause-settled : goal.returns-clause-settled
@@ -25,6 +25,7 @@ returns-clause-settled g c =
     let start = c.in-Ok-open.ensures.opened port is in
     opened _ port c.args.parts.outlets (same-opening port _ _ start.at.state.processes start.at.state.kind) c.new-2.ensures.items start
     (ap (λ x. x.places) c.in-Ok.ensures.list) c.in-Ok.ensures.agrees refl refl c.requires.unused
+    (events-at-start port _ _ _ start.at.state.stands c.program_events-read.ensures.read c.program_events-read.ensures.write)
 
 pub returns-clause-opened : goal.returns-clause-opened
 returns-clause-opened g c =

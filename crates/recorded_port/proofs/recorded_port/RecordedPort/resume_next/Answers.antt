@@ -17,7 +17,7 @@ returns-clause-settled g c =
     let rest = c.in-Some.ensures.rest s.listed agrees in
     let listed = sym agrees ∙ (ap (map listed_as) c.in-Some.ensures.entries ∙ ap (λ x. entry (Process e.process) e.seq ∷ x) rest) in
     let told = ap (λ x. not (is_some x)) (sym settled.recorded.at.state.reason) ∙ ap (λ (v : RecordedView). not (is_some v.port.state.reason)) (sym c.self.view_is) in
-    (resumed-first old _ c.write_resumed.new.self e.process e.seq c.args.word settled (c.in-Some.ensures.some s.listed agrees) c.requires.may listed rest
+    (resumed-first old _ c.write_resumed.new.self e.process e.seq c.args.word settled (c.in-Some.ensures.some s.listed agrees) c.requires.may c.requires.found listed rest
     (record {
       opening = ap (λ (v : RecordedView). v.opening) c.self.view_is;
       rows = ap (λ (v : RecordedView). v.rows) c.self.view_is;
@@ -38,7 +38,7 @@ returns-clause-next g c =
     let rest = c.in-Some.ensures.rest s.listed agrees in
     let listed = sym agrees ∙ (ap (map listed_as) c.in-Some.ensures.entries ∙ ap (λ x. entry (Process e.process) e.seq ∷ x) rest) in
     let told = ap (λ x. not (is_some x)) (sym settled.recorded.at.state.reason) ∙ ap (λ (v : RecordedView). not (is_some v.port.state.reason)) (sym c.self.view_is) in
-    (resumed-first old _ c.write_resumed.new.self e.process e.seq c.args.word settled (c.in-Some.ensures.some s.listed agrees) c.requires.may listed rest
+    (resumed-first old _ c.write_resumed.new.self e.process e.seq c.args.word settled (c.in-Some.ensures.some s.listed agrees) c.requires.may c.requires.found listed rest
     (record {
       opening = ap (λ (v : RecordedView). v.opening) c.self.view_is;
       rows = ap (λ (v : RecordedView). v.rows) c.self.view_is;
