@@ -1,0 +1,9 @@
+mod Lists
+mod LaneColumns
+mod Names
+mod Setting
+mod Gave
+mod Sent
+mod Workers
+mod Ports
+mod Parts

@@ -1,0 +1,5 @@
+mod Places
+mod Faults
+mod Jobs
+mod Watched
+mod Ends

@@ -1,0 +1,45 @@
+-- What the jobs of a run leave that nobody stopped, by what they were set up with.
+use Rattle.std.specs.Prelude.{◌≡◌, ◌<◌, ℕ, List, [], All, length, slice_index_or}
+use Rattle.async_jobs.specs.Pool.{PoolEnd}
+use Rattle.process_end.specs.Views.{LaneEnd, proc_view}
+use Rattle.run_end.specs.Ran.{RanProcess, HasRunWhole}
+use Rattle.run_jobs.specs.declared.finish.FinishEnd.TheVariants.{Told}
+use Rattle.run_jobs.specs.declared.worker.WorkerEnd.TheVariants.{Finished}
+use Rattle.run_jobs.specs.Finishing.{TellsWorkers}
+use Rattle.run_jobs.specs.Telling.{PortTask, Sends}
+use Rattle.run_jobs.specs.Working.{WorksTo}
+use Rattle.run_lanes.specs.declared.parts.ProcessLanes.{ProcessLanes}
+use Rattle.run_lanes.specs.declared.parts.WorkerLanes.{WorkerLanes}
+use Rattle.run_seats.specs.declared.plans.Program.{Program}
+use Rattle.threaded_jobs.specs.declared.parting.WorkerLeft.{WorkerLeft}
+use Rattle.run_setting.specs.Setting.{Setting}
+
+-- the process of this number had these lanes and this program to begin with, and had made no call
+pub record IsSetUp (s : Setting) (number : ℕ) (lanes : ProcessLanes) (program : Program) (process : RanProcess) : Type 0 where
+  pub old : process.old ≡ proc_view number lanes.mailbox lanes.lanes.items lanes.seats.items s.soft [] 0 0
+  pub steps : process.steps ≡ program.steps.items
+  pub files : process.files ≡ program.files.items
+
+-- each process made its program to its end
+pub record HaveRunIn (s : Setting) (processes : List RanProcess) : Type 0 where
+  pub many : length processes ≡ s.size.processes
+  pub ran : All HasRunWhole processes
+  pub each : (n : ℕ) (l : ProcessLanes) (p : Program) (r : RanProcess) → n < s.size.processes
+      → IsSetUp s n (slice_index_or s.lanes.processes.items n l) (slice_index_or s.programs n p) (slice_index_or processes n r)
+
+-- the worker answered all that it took of its lane, up to a `Finish`
+abbrev pub HasWorkedLane : WorkerLanes → WorkerLeft → Type 0
+HasWorkedLane lanes left = WorksTo Finished lanes.jobs left.jobs lanes.lanes.items left.lanes.items
+
+-- so did each worker
+pub record HaveWorkedIn (s : Setting) (workers : List WorkerLeft) : Type 0 where
+  pub many : length workers ≡ s.size.workers
+  pub each : (n : ℕ) (w : WorkerLanes) (l : WorkerLeft) → n < s.size.workers → HasWorkedLane (slice_index_or s.lanes.workers.items n w) (slice_index_or workers n l)
+
+-- the poller's ends of the ports' lanes sent something
+abbrev pub HasToldPorts : Setting → List LaneEnd → Type 0
+HasToldPorts s ends = (told : List PortTask) × Sends told s.lanes.poller.lanes.items ends
+
+-- the last end of each worker's lane sent one `Finish`
+abbrev pub HasToldWorkers : Setting → List PoolEnd → Type 0
+HasToldWorkers s ends = TellsWorkers Told s.lanes.finish.workers.items ends

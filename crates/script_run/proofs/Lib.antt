@@ -1,0 +1,6 @@
+mod Parts
+mod Whole
+mod Gathered
+mod Given
+mod Back
+mod Run

@@ -1,0 +1,4 @@
+pub mod Ran
+pub mod Ends
+pub mod Parted
+pub mod Left

@@ -1,0 +1,149 @@
+//! The end of a run that nobody stopped: its lanes are closed, its mail is taken, and what it leaves is put together.
+ghost use Rattle.std.specs.Prelude.{◌≡◌, ◌≢◌, ◌<◌, List, length, map, All, AllPairs, Some, IfOk, IfErr};
+ghost use Rattle.closed_lanes.specs.Closed.{AreClosedIn};
+ghost use Rattle.closed_ports.specs.Closed.{HaveComeBack};
+ghost use Rattle.driver_model.specs.Calls.{Kind, Own};
+ghost use Rattle.port_body.specs.Body.{BodyName, name_of};
+ghost use Rattle.run_end.specs.Ran.{RanProcess};
+ghost use Rattle.run_seats.specs.declared.plans.ProcessPlan.{ProcessPlan as Plan};
+ghost use Rattle.run_setting.specs.Setting.{Setting, IsSetting, AreNamedIn};
+ghost use Rattle.run_setting.specs.Jobs.{HaveRunIn};
+ghost use Rattle.script_run.specs.Left.{AreJobParts, CanGather, HasEndedIn, HaveJobParts, IsGathered, IsLeft};
+ghost use Rattle.script_run.specs.Parted.{ran_processes};
+
+use crate::parting::{PortParts, ProcessParts, part_ports, part_processes, processes_left};
+use crate::running::ScriptRan;
+use async_jobs::WorkItem;
+use closed_lanes::{ClosedPort, LaneEnds, close_lanes};
+use closed_mail::{ProcessPeers, join_peers};
+use driver_hosts::{Body, take_back};
+use no_memory::NoMemory;
+use outside::PollSet;
+use port_lanes::Parcel;
+use process_job::EndedProcess;
+use process_receipts::Receipts;
+use run_jobs::Watch;
+use run_opening::{Driver, Hosted};
+use std::alloc::Global;
+use std::sync::Wait;
+use task_queue::SendEnd;
+use threaded_jobs::{EndedJobs, FinishLeft, PollerLeft, WorkerLeft};
+
+/// Puts together what the ports and the processes leave.
+fn gather<R: Wait>(
+    rt: &R,
+    alloc: Global,
+    closed: Vec<ClosedPort>,
+    receipts: Vec<Receipts>,
+    peers: ProcessPeers,
+) -> Result<ScriptRan, NoMemory>
+    requires { (s : Setting) × (names : List BodyName) × (ran : List RanProcess) × CanGather s names ran closed.items receipts.items peers }
+    ensures { (s : Setting) (names : List BodyName) (ran : List RanProcess) → CanGather s names ran closed.items receipts.items peers → IfOk result (IsGathered s ran closed.items) }
+{
+    let PortParts {
+        left: ports,
+        peers: port_peers,
+    } = part_ports(alloc, closed)?;
+    let mails = join_peers(rt, alloc, port_peers, peers)?;
+    let processes = processes_left(alloc, receipts, mails)?;
+    Ok(ScriptRan { ports, processes })
+}
+
+/// What the jobs of a run leave, by those who need it: the ends of its lanes, the receipts of the processes, and what ties these to the ports.
+#[derive(Drop)]
+struct JobParts {
+    ends: LaneEnds,
+    receipts: Vec<Receipts>,
+    peers: ProcessPeers,
+}
+
+/// Closes the lanes, and puts together what is left. The drivers are back at their places, also where memory is wanting.
+fn close_parts<D: Driver, R: Wait>(
+    rt: &R,
+    alloc: Global,
+    hosts: &mut Vec<Hosted<D>>,
+    places: &[usize],
+    bodies: Vec<Body<D>>,
+    parts: JobParts,
+) -> Result<ScriptRan, NoMemory>
+    requires len { length places.now ≡ length bodies.items }
+    requires within { All (λ at. at < length hosts.old.items) places.now }
+    requires different { AllPairs (λ at later. at ≢ later) places.now }
+    requires ended { (s : Setting) × (ran : List RanProcess) × HaveJobParts s (map name_of bodies.items) ran parts.ends parts.receipts.items parts.peers }
+    ensures returned { HaveComeBack D.kind D.stage D.faults D.own D.program bodies.items places.now hosts.old.items hosts.new.items }
+    ensures left { (s : Setting) (ran : List RanProcess) → HaveJobParts s (map name_of bodies.items) ran parts.ends parts.receipts.items parts.peers
+        → IfOk result (IsLeft D.kind D.own D.program s ran (map name_of bodies.items) places.now hosts.new.items) }
+{
+    let JobParts {
+        ends,
+        receipts,
+        peers,
+    } = parts;
+    let closed = close_lanes(rt, alloc, hosts, places, bodies, ends)?;
+    let ran = gather(rt, alloc, closed, receipts, peers)?;
+    Ok(ran)
+}
+
+/// The parts of what the jobs of a run leave.
+fn job_parts(
+    alloc: Global,
+    processes: Vec<EndedProcess>,
+    poller: Vec<SendEnd<Parcel>>,
+    workers: Vec<WorkerLeft>,
+    finish: Vec<SendEnd<WorkItem>>,
+) -> Result<JobParts, NoMemory>
+    ensures { IfOk result (λ parts. AreJobParts processes.items poller.items workers.items finish.items parts.ends parts.receipts.items parts.peers) }
+{
+    let ProcessParts {
+        lanes,
+        receipts,
+        peers,
+    } = part_processes(alloc, processes)?;
+    let ends = LaneEnds {
+        processes: lanes,
+        poller,
+        workers,
+        finish,
+    };
+    Ok(JobParts {
+        ends,
+        receipts,
+        peers,
+    })
+}
+
+/// Closes a run that nobody stopped: its ports come to rest, and their drivers are back at their places, also where memory is wanting.
+pub(crate) fn close_run<D: Driver, S: PollSet + Drop, R: Wait>(
+    rt: &R,
+    alloc: Global,
+    hosts: &mut Vec<Hosted<D>>,
+    places: &[usize],
+    bodies: Vec<Body<D>>,
+    jobs: EndedJobs<S>,
+) -> (Result<ScriptRan, NoMemory>, S)
+    requires len { length places.now ≡ length bodies.items }
+    requires within { All (λ at. at < length hosts.old.items) places.now }
+    requires different { AllPairs (λ at later. at ≢ later) places.now }
+    requires ended { (s : Setting) × (plans : List Plan) × (poll : S) × HasEndedIn S.faults S.answered s plans poll (map name_of bodies.items) jobs }
+    ensures returned { HaveComeBack D.kind D.stage D.faults D.own D.program bodies.items places.now hosts.old.items hosts.new.items }
+    ensures left { (s : Setting) (plans : List Plan) (poll : S) → HasEndedIn S.faults S.answered s plans poll (map name_of bodies.items) jobs
+        → IfOk result.0 (IsLeft D.kind D.own D.program s (ran_processes plans jobs.processes.items) (map name_of bodies.items) places.now hosts.new.items) }
+    ensures poll { result.1 ≡ jobs.poller.watch.poll }
+{
+    let EndedJobs {
+        processes,
+        workers,
+        poller,
+        finish,
+    } = jobs;
+    let PollerLeft { watch, lanes, .. } = poller;
+    let Watch { poll, .. } = watch;
+    let FinishLeft { workers: last, .. } = finish;
+    let Ok(parts) = job_parts(alloc, processes, lanes, workers, last) else {
+        // What the ports leave is given up.
+        let _ = take_back(alloc, hosts, places, bodies);
+        return (Err(NoMemory), poll);
+    };
+    let ran = close_parts(rt, alloc, hosts, places, bodies, parts);
+    (ran, poll)
+}

@@ -1,0 +1,3 @@
+mod Ready
+mod Named
+mod Seats

@@ -1,0 +1,57 @@
+//! The lanes and the programs of a run are dealt to its jobs.
+ghost use Rattle.std.specs.Prelude.{◌≡◌, ◌<◌, ◌≤◌, length, IfOk, IfErr};
+ghost use Rattle.seated_script.specs.Parts.{AreParts, IsRunOf};
+
+use driver_hosts::{Body, Driver};
+use outside::PollSet;
+use port_lanes::each_sender_has_an_end;
+use run_opening::JobLanes;
+use run_seats::{OtherLanes, Program, SeatedRun, process_plans, seat_run};
+use std::alloc::Global;
+
+/// What the jobs of a run are made of: of each port whether its driver takes forced commands while the port is busy, the lanes, and the program of each process.
+#[derive(Drop)]
+pub(crate) struct JobParts {
+    pub soft: Vec<bool>,
+    pub lanes: JobLanes,
+    pub programs: Vec<Program>,
+}
+
+/// Seats a run over these bodies. Where memory is wanting they come back as they were.
+pub(crate) fn seat_bodies<D: Driver, S: PollSet + Drop>(
+    alloc: Global,
+    bodies: Vec<Body<D>>,
+    parts: JobParts,
+    schedulers: u32,
+    poll: S,
+) -> Result<SeatedRun<Body<D>, S>, Vec<Body<D>>>
+    requires parts { AreParts (length bodies.items) parts }
+    requires schedulers { (0 < schedulers) × (schedulers ≤ 16) }
+    ensures seated { IfOk result (IsRunOf bodies.items parts poll schedulers) }
+    ensures back { IfErr result (λ back. back.items ≡ bodies.items) }
+{
+    each_sender_has_an_end();
+    let JobParts {
+        soft,
+        lanes,
+        programs,
+    } = parts;
+    let JobLanes {
+        processes,
+        workers,
+        poller,
+        finish,
+    } = lanes;
+    let Ok(plans) = process_plans(alloc, soft.as_slice(), processes, programs) else {
+        return Err(bodies);
+    };
+    let others = OtherLanes {
+        workers,
+        poller,
+        finish,
+    };
+    match seat_run(alloc, bodies, plans, others, poll, schedulers) {
+        Ok(run) => Ok(run),
+        Err((bodies, _)) => Err(bodies),
+    }
+}
