@@ -4,10 +4,8 @@
 //! once with a few parts, and no time is printed.
 #![tactic(auto)]
 
-mod busy;
 mod framing;
 mod queues;
-mod rounds;
 mod rows;
 mod scripts;
 mod terms;

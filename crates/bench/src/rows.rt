@@ -2,10 +2,9 @@
 use crate::work::{WORKS, Work, time_of};
 use anyhow::Result;
 use std::rt::Clock;
-use std::sync::Wait;
 
 /// Prints the rows of every work.
-pub(crate) fn print_all<R: Clock + AllocGlobal + Print + Wait>(rt: &R) -> Result<()> {
+pub(crate) fn print_all<R: Clock + AllocGlobal + Print>(rt: &R) -> Result<()> {
     for work in WORKS {
         print_rows(rt, work, work.parts())?;
     }
@@ -13,7 +12,7 @@ pub(crate) fn print_all<R: Clock + AllocGlobal + Print + Wait>(rt: &R) -> Result
 }
 
 /// Prints the rows of a work with so many parts, with twice and with four times as many.
-pub(crate) fn print_rows<R: Clock + AllocGlobal + Print + Wait>(
+pub(crate) fn print_rows<R: Clock + AllocGlobal + Print>(
     rt: &R,
     work: Work,
     parts: u32,

@@ -1,7 +1,7 @@
 //! Scripts that are read.
 use crate::work::ROUNDS;
 use anyhow::Result;
-use script_reader::read_script;
+use gateway_script::read_script;
 use std::alloc::Global;
 use std::rt::Clock;
 use std::time::{Duration, Instant};

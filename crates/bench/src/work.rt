@@ -1,15 +1,12 @@
 //! The works that are timed.
-use crate::busy::free_time;
 use crate::framing::feed_time;
 use crate::queues::{deq_time, pushq_time};
-use crate::rounds::rounds_time;
 use crate::scripts::read_time;
 use crate::terms::{decode_time, encode_time};
 use crate::vectors::skip_time;
 use anyhow::Result;
 use packet_framing::Mode;
 use std::rt::Clock;
-use std::sync::Wait;
 use std::time::Duration;
 
 /// How often a work is made for one time.
@@ -33,15 +30,11 @@ pub(crate) enum Work {
     LinesBytewise,
     Stream,
     StreamBytewise,
-    /// A busy port is freed, for which so many commands wait.
-    Freed,
     /// A script of about so many bytes is read.
     Script,
-    /// So many commands of 32 processes at 32 echo ports.
-    Rounds,
 }
 
-pub(crate) const WORKS: [Work; 14] = [
+pub(crate) const WORKS: [Work; 12] = [
     Work::Encode,
     Work::Decode,
     Work::Skip,
@@ -53,9 +46,7 @@ pub(crate) const WORKS: [Work; 14] = [
     Work::LinesBytewise,
     Work::Stream,
     Work::StreamBytewise,
-    Work::Freed,
     Work::Script,
-    Work::Rounds,
 ];
 
 impl Work {
@@ -72,31 +63,24 @@ impl Work {
             Work::LinesBytewise => "unframe_lines_bytewise",
             Work::Stream => "unframe_stream",
             Work::StreamBytewise => "unframe_stream_bytewise",
-            Work::Freed => "port_freed",
             Work::Script => "script_read",
-            Work::Rounds => "rounds",
         }
     }
 
     /// How many parts it has where nothing is said: tuples, segments, bytes or commands.
     pub(crate) fn parts(self) -> u32 {
         match self {
-            Work::Encode | Work::Decode | Work::Freed => 50_000,
+            Work::Encode | Work::Decode => 50_000,
             Work::Skip | Work::Deq | Work::Pushq => 100_000,
             Work::Packets | Work::Lines | Work::Stream => 4_194_304,
             Work::PacketsBytewise | Work::LinesBytewise | Work::StreamBytewise => 1_048_576,
             Work::Script => 250_000,
-            Work::Rounds => 32_768,
         }
     }
 }
 
 /// The shortest time of some rounds of a work with so many parts.
-pub(crate) fn time_of<R: Clock + AllocGlobal + Wait>(
-    rt: &R,
-    work: Work,
-    parts: u32,
-) -> Result<Duration> {
+pub(crate) fn time_of<R: Clock + AllocGlobal>(rt: &R, work: Work, parts: u32) -> Result<Duration> {
     match work {
         Work::Encode => encode_time(rt, parts),
         Work::Decode => decode_time(rt, parts),
@@ -109,8 +93,6 @@ pub(crate) fn time_of<R: Clock + AllocGlobal + Wait>(
         Work::LinesBytewise => feed_time(rt, Mode::Line(262_143), parts, true),
         Work::Stream => feed_time(rt, Mode::Stream, parts, false),
         Work::StreamBytewise => feed_time(rt, Mode::Stream, parts, true),
-        Work::Freed => free_time(rt, parts),
         Work::Script => read_time(rt, parts),
-        Work::Rounds => rounds_time(rt, parts),
     }
 }

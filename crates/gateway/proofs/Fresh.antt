@@ -3,8 +3,8 @@ use Rattle.std.proofs.Common.{◌≡◌, List, [], ◌∷◌, ◌++◌, refl, ap
 use Rattle.std.specs.Prelude.{map, filter}
 use Rattle.std.proofs.lemmas.List.{map-append}
 use Rattle.std.proofs.lemmas.List.Elements.{filter-append}
-use Rattle.driver_entry.specs.declared.life.Life.{Life}
-use Rattle.driver_entry.specs.declared.life.Life.TheVariants.{Fresh}
+use Rattle.port_driver.specs.declared.life.Life.{Life}
+use Rattle.port_driver.specs.declared.life.Life.TheVariants.{Fresh}
 use Rattle.gateway.specs.Fresh.{is_fresh, unserving, hosted}
 
 module _ {D : Type 0} where

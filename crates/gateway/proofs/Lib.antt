@@ -1,6 +1,8 @@
-pub mod Ending
+pub mod Closing
 pub mod Fresh
+pub mod Untouched
+pub mod Reading
 pub mod Reported
-pub mod Rows
-pub mod Served
 pub mod Whole
+pub mod Ending
+pub mod Polls

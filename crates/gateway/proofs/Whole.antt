@@ -1,31 +1,41 @@
 -- Completeness: a valid run has no other cause than its end, or want of memory.
-use Rattle.std.proofs.Common.{arith, inl, inr, ◌≡◌, ℕ, ◌<◌, ◌≤◌, ◌⊎◌, List, [], ◌∷◌, ◌++◌, length, true, false, Option, Some, None, Result, Ok, Err, refl, sym, ap, subst, ◌∙◌}
+use Rattle.std.proofs.Common.{inl, inr, ◌≡◌, ℕ, suc, ◌+◌, ◌<◌, ◌⊎◌, List, [], ◌∷◌, ◌++◌, length, map, true, false, Option, Some, None, Result, Ok, Err, refl, sym, ap, subst, ◌∙◌, append-nil, append_assoc, length-append, arith}
 use Rattle.std.specs.Prelude.{IfSome, IsSomeAnd, slice_index, slice_index_or}
 use Rattle.std.specs.Option.{option_map_or}
 use Rattle.std.specs.Str.{bytes_eq}
-use Rattle.std.proofs.lemmas.List.{append-nil, append_cancel_left, get_or-map, length-map}
+use Rattle.std.proofs.lemmas.List.{append_cancel_left}
+use Rattle.std.proofs.lemmas.List.Elements.{filter_map-append}
+use Rattle.std.proofs.lemmas.List.Sums.{sum_by-append}
 use Rattle.std.proofs.lemmas.Slice.Eq.{bytes_eq-Decides}
 use Rattle.outside.specs.Causes.{Told, Rose}
 use Rattle.outside.specs.Log.{NamedBytes, noted}
-use Rattle.driver_entry.specs.declared.life.Life.{Life}
-use Rattle.driver_entry.specs.Drivers.{Kind, kind_name}
-use Rattle.driver_entry.specs.Refusals.{refusal_of, Refuses}
-use Rattle.driver_entry.specs.declared.life.StartRefusal.{StartRefusal}
-use Rattle.driver_entry.specs.declared.life.StartRefusal.TheVariants.{General, Errno, Badarg, NoMemory as NoMemoryToStart}
-use Rattle.port_hosts.specs.declared.hosted.Hosted.{Hosted}
-use Rattle.port_hosts.specs.declared.wanted.Wanted.{Wanted}
-use Rattle.port_hosts.specs.Hosts.{is_named}
-use Rattle.port_hosts.specs.Finding.{HasDrivers}
-use Rattle.script_reader.specs.declared.decl.PortDecl.{PortDecl}
-use Rattle.script_reader.specs.declared.fault.ScriptFault.{ScriptFault}
-use Rattle.script_reader.specs.Plan.{Plan}
-use Rattle.script_reader.specs.Script.{script}
-use Rattle.gateway_report.specs.declared.cause.Cause.{Cause}
-use Rattle.gateway_report.specs.declared.cause.Cause.TheVariants.{Done, Usage, Script, ReadFault, WriteFault, NoDriver, StartRefused, NoMemory, Limit}
-use Rattle.gateway_report.specs.Cause.{IsOfDriver}
-use Rattle.gateway.specs.Wanted.{plain, wanted_by, wanted_of}
-use Rattle.gateway.specs.Run.{FilesView, Run, HasRead, ScriptRead}
-use Rattle.gateway.specs.Causes.{ReadFails, IsOverLimit, LacksFor, RefusesFor, AllStart, CauseComes, IsValid}
+use Rattle.port_config.specs.Config.{plain}
+use Rattle.driver_model.specs.Calls.{Kind, Own}
+use Rattle.driver_model.specs.Drivers.{kind_name, refusal_of}
+use Rattle.driver_model.specs.Programs.{ToldProgram}
+use Rattle.port_driver.specs.declared.life.Life.{Life}
+use Rattle.port_driver.specs.declared.life.StartRefusal.{StartRefusal}
+use Rattle.port_driver.specs.declared.life.StartRefusal.TheVariants.{General, Errno, Badarg, StartFault, NoMemory as NoMemoryToStart}
+use Rattle.port_driver.specs.Starting as driver
+use Rattle.driver_hosts.specs.declared.hosted.Hosted.{Hosted}
+use Rattle.driver_hosts.specs.Finding.{HasDrivers}
+use Rattle.driver_hosts.specs.Hosts.{is_named}
+use Rattle.gateway_script.specs.Script.{script}
+use Rattle.run_opening.specs.Faults.{IsOfDriver, LacksAt, RefusedAt}
+use Rattle.run_report.specs.declared.cause.Cause.{Cause}
+use Rattle.run_report.specs.declared.cause.Cause.TheVariants.{Done, Usage, Script, ReadFault, WriteFault, NoDriver, StartRefused, PollFault, NoMemory, Illegal, Limit, JournalText}
+use Rattle.script_input.specs.Contents.{file_of, file_names, named, total, StopsAt}
+use Rattle.script_input.specs.Files.{FilesView, HasRead, IsUnread}
+use Rattle.script_input.specs.Script.{ScriptRead}
+use Rattle.script_input.specs.Words.{Asked}
+use Rattle.script_plan.specs.declared.decl.PortDecl.{PortDecl}
+use Rattle.script_plan.specs.declared.fault.ScriptFault.{ScriptFault}
+use Rattle.script_plan.specs.declared.step.Step.{Step}
+use Rattle.script_plan.specs.Plan.{Plan}
+use Rattle.gateway.specs.Run.{Run, PlanRead, PlanFound}
+use Rattle.gateway.specs.Causes.{IsNoScript, ScriptUnread, ScriptOver, StepUnread, StepOver, CauseComes, AreThere, AllStart, NoDriverFailed, IsValid}
+
+-- ---- plain facts
 
 ok≢err : {A B : Type 0} (r : Result A B) (a : A) (b : B) → r ≡ Ok a → r ≡ Err b → ⊥
 ok≢err (Ok x) a b e f = absurd cc
@@ -46,131 +56,278 @@ abbrev first-bytes : List NamedBytes → List ℕ
 first-bytes [] = []
 first-bytes (x ∷ xs) = x.bytes
 
--- the file of a valid run is told, or a read answered it
-abbrev IsThere : FilesView → FilesView → List ℕ → List ℕ → Type 0
-IsThere before after name bytes = IsSomeAnd before.told (λ files. files name ≡ Some bytes) ⊎ (after.answered ≡ noted before.answered name bytes)
+abbrev rest-of : {A : Type 0} → List A → List A
+rest-of [] = []
+rest-of (x ∷ xs) = xs
 
-told-bytes : (told : Told) (name bytes read : List ℕ) → IsSomeAnd told (λ files. files name ≡ Some bytes) → IfSome told (λ files. files name ≡ Some read) → read ≡ bytes
-told-bytes None name bytes read s h = absurd s
-told-bytes (Some files) name bytes read s h = some-same (files name) read bytes h s
+abbrev first-or : {A : Type 0} → A → List A → A
+first-or d [] = d
+first-or d (x ∷ xs) = x
 
-noted-bytes : (log : List NamedBytes) (name name' bytes bytes' : List ℕ) → noted log name bytes ≡ noted log name' bytes' → bytes ≡ bytes'
-noted-bytes log name name' bytes bytes' e = ap first-bytes (append_cancel_left log (record { name = name; bytes = bytes } ∷ []) (record { name = name'; bytes = bytes' } ∷ []) e)
+-- ---- what reads answered
 
-nil≢cons : {A : Type 0} (x : A) (xs : List A) → [] ≡ x ∷ xs → ⊥
-nil≢cons x xs e = absurd cc
+-- two logs that go on so hold the same bytes
+noted-bytes : (log more more' : List NamedBytes) (name name' bytes bytes' : List ℕ) → noted log name bytes ++ more ≡ noted log name' bytes' ++ more' → bytes ≡ bytes'
+noted-bytes log more more' name name' bytes bytes' e =
+    let here = record { name = name; bytes = bytes } ∷ [] in
+    let there = record { name = name'; bytes = bytes' } ∷ [] in
+    ap first-bytes (append_cancel_left log (here ++ more) (there ++ more') (sym (append_assoc log here more) ∙ e ∙ append_assoc log there more'))
 
 -- no read answered, though one did
-unanswered : (log after : List NamedBytes) (name bytes : List ℕ) → after ≡ log → after ≡ noted log name bytes → ⊥
-unanswered log after name bytes e f =
-    nil≢cons (record { name = name; bytes = bytes }) [] (append_cancel_left log [] (record { name = name; bytes = bytes } ∷ []) (append-nil log ∙ (sym e ∙ f)))
+unanswered : (log after more : List NamedBytes) (name bytes : List ℕ) → after ≡ log → after ≡ noted log name bytes ++ more → ⊥
+unanswered log after more name bytes e f =
+    omega (arith, ap (λ (l : List NamedBytes). length l) (sym e ∙ f), length-append (noted log name bytes) more, length-append log (record { name = name; bytes = bytes } ∷ []))
 
-read-bytes : (words : Result (List ℕ) ℕ) (before after : FilesView) (name bytes read : List ℕ) → words ≡ Ok name → IsThere before after name bytes → HasRead words before after read → read ≡ bytes
-read-bytes words before after name bytes read named there r = elim there [
-  | inl told ↦ told-bytes before.told name bytes read told (subst (λ name. IfSome before.told (λ files. files name ≡ Some read)) (ok-same words r.name name r.named named) r.held)
-  | inr answered ↦ noted-bytes before.answered r.name name read bytes (sym r.answered ∙ answered)
-]
+named-many : (names contents : List (List ℕ)) → length contents ≡ length names → length (named names contents) ≡ length names
+named-many [] [] e = refl
+named-many [] (c ∷ contents) e = absurd (omega arith)
+named-many (n ∷ names) [] e = absurd (omega arith)
+named-many (n ∷ names) (c ∷ contents) e = ap suc (named-many names contents (omega arith))
 
--- what the script that was read says is what the valid script says
-said-so : (words : Result (List ℕ) ℕ) (before after : FilesView) (name bytes : List ℕ) (said : Result Plan ScriptFault) → words ≡ Ok name → IsThere before after name bytes
-    → ScriptRead words before after said → script bytes ≡ said
-said-so words before after name bytes said named there r = ap script (sym (read-bytes words before after name bytes r.bytes named there r.read)) ∙ r.says
+-- ---- the script of a valid run
 
-told-missing : (told : Told) (name bytes : List ℕ) → IsSomeAnd told (λ files. files name ≡ Some bytes) → IsSomeAnd told (λ files. files name ≡ None) → ⊥
-told-missing None name bytes s m = s
-told-missing (Some files) name bytes s m = some≢none bytes (sym s ∙ m)
+-- the files of a valid run tell its script, or a read answered it
+told-bytes : (told : Told) (name bytes read : List ℕ) (names contents : List (List ℕ)) → IsSomeAnd told (λ files. (files name ≡ Some bytes) × (map files names ≡ map Some contents))
+    → IfSome told (λ files. files name ≡ Some read) → read ≡ bytes
+told-bytes None name bytes read names contents s h = absurd s
+told-bytes (Some files) name bytes read names contents s h = some-same (files name) read bytes h s.0
 
-no-read-fault : (words : Result (List ℕ) ℕ) (before after : FilesView) (name bytes : List ℕ) → words ≡ Ok name → IsThere before after name bytes
-    → ReadFails words before after → (Rose before.reads after.reads → ⊥) → ⊥
-no-read-fault words before after name bytes named there r calm = elim r.why [
-  | inl rose ↦ calm rose
-  | inr missing ↦ elim there [
-    | inl told ↦ told-missing before.told name bytes told (subst (λ name. IsSomeAnd before.told (λ files. files name ≡ None)) (ok-same words r.name name r.named named) missing.1)
-    | inr answered ↦ unanswered before.answered after.answered name bytes r.answered answered
-  ]
-]
+read-bytes : (before mid after : FilesView) (name bytes read : List ℕ) (names contents : List (List ℕ)) (more : List NamedBytes) → AreThere before after name bytes names contents
+    → HasRead 1048576 before mid name read → after.answered ≡ mid.answered ++ more → read ≡ bytes
+read-bytes before mid after name bytes read names contents more (inl told) r e = told-bytes before.told name bytes read names contents told r.held
+read-bytes before mid after name bytes read names contents more (inr answered) r e =
+    noted-bytes before.answered more (named names contents) name name read bytes (ap (λ (l : List NamedBytes). l ++ more) (sym r.answered) ∙ sym e ∙ answered)
 
-above : {m : ℕ} → 1048576 < m → m ≤ 1048576 → ⊥
-above a b = omega arith
+told-missing : (told : Told) (name bytes : List ℕ) (names contents : List (List ℕ)) → IsSomeAnd told (λ files. (files name ≡ Some bytes) × (map files names ≡ map Some contents))
+    → IsSomeAnd told (λ files. files name ≡ None) → ⊥
+told-missing None name bytes names contents s m = s
+told-missing (Some files) name bytes names contents s m = some≢none bytes (sym s.0 ∙ m)
 
-some-above : (held : Option (List ℕ)) (bytes : List ℕ) → held ≡ Some bytes → IsSomeAnd held (λ bytes. 1048576 < length bytes) → 1048576 < length bytes
-some-above held bytes e a = rw e at a
+told-above : (told : Told) (name bytes : List ℕ) (names contents : List (List ℕ)) → IsSomeAnd told (λ files. (files name ≡ Some bytes) × (map files names ≡ map Some contents))
+    → IfSome told (λ files. IsSomeAnd (files name) (λ bytes. 1048576 < length bytes)) → 1048576 < length bytes
+told-above None name bytes names contents s a = absurd s
+told-above (Some files) name bytes names contents s a = above (files name) s.0 a
+  where
+    above : (held : Option (List ℕ)) → held ≡ Some bytes → IsSomeAnd held (λ bytes. 1048576 < length bytes) → 1048576 < length bytes
+    above held e a = rw e at a
 
-told-above : (told : Told) (name bytes : List ℕ) → IsSomeAnd told (λ files. files name ≡ Some bytes) → IfSome told (λ files. IsSomeAnd (files name) (λ bytes. 1048576 < length bytes)) → 1048576 < length bytes
-told-above None name bytes s a = absurd s
-told-above (Some files) name bytes s a = some-above (files name) bytes s a
+-- ---- the files of a valid run
 
-no-limit : (words : Result (List ℕ) ℕ) (before after : FilesView) (name bytes : List ℕ) → words ≡ Ok name → IsThere before after name bytes → length bytes ≤ 1048576
-    → IsOverLimit words before after → ⊥
-no-limit words before after name bytes named there fits r = elim there [
-  | inl told ↦ above (told-above before.told name bytes told
-      (subst (λ name. IfSome before.told (λ files. IsSomeAnd (files name) (λ bytes. 1048576 < length bytes))) (ok-same words r.name name r.named named) r.over)) fits
-  | inr answered ↦ unanswered before.answered after.answered name bytes r.nothing.answered answered
-]
+-- a name among those that are held is held
+held-there : (files : List ℕ → Option (List ℕ)) (front : List (List ℕ)) (name : List ℕ) (rest contents : List (List ℕ)) → map files (front ++ name ∷ rest) ≡ map Some contents → files name ≡ None → ⊥
+held-there files [] name rest [] e none = absurd cc
+held-there files [] name rest (c ∷ contents) e none = some≢none c (sym (ap (first-or None) e) ∙ none)
+held-there files (f ∷ front) name rest [] e none = absurd cc
+held-there files (f ∷ front) name rest (c ∷ contents) e none = held-there files front name rest contents (ap rest-of e) none
 
-no-wanted : Wanted
-no-wanted = record { driver = []; owner = 0; config = plain }
+total-cons : (c : List ℕ) (contents : List (List ℕ)) → total (c ∷ contents) ≡ length c + total contents
+total-cons c contents = omega (arith, sum_by-append (λ (c : List ℕ). length c) (c ∷ []) contents)
+
+more-than : (limit other n : ℕ) (held : Option (List ℕ)) → n ≡ other → IsSomeAnd held (λ bytes. limit < n + length bytes) → IsSomeAnd held (λ bytes. limit < other + length bytes)
+more-than limit other n None e h = absurd h
+more-than limit other n (Some b) e h = omega (arith, e)
+
+-- the contents of the first of them, and one more, are no more than all have together
+held-total : (files : List ℕ → Option (List ℕ)) (front : List (List ℕ)) (name : List ℕ) (rest contents first : List (List ℕ)) (limit other : ℕ) → map files (front ++ name ∷ rest) ≡ map Some contents
+    → map files front ≡ map Some first → IsSomeAnd (files name) (λ bytes. limit < other + total first + length bytes) → limit < other + total contents
+held-total files [] name rest [] first limit other e h over = absurd cc
+held-total files [] name rest (c ∷ contents) [] limit other e h over =
+    let here : limit < other + 0 + length c = subst (λ held. IsSomeAnd held (λ bytes. limit < other + 0 + length bytes)) (ap (first-or None) e) over in
+    omega (arith, here, total-cons c contents)
+held-total files [] name rest (c ∷ contents) (f ∷ first) limit other e h over = absurd cc
+held-total files (f ∷ front) name rest [] first limit other e h over = absurd cc
+held-total files (f ∷ front) name rest (c ∷ contents) [] limit other e h over = absurd cc
+held-total files (f ∷ front) name rest (c ∷ contents) (c' ∷ first) limit other e h over =
+    let same : c' ≡ c = some-same (files f) c' c (ap (first-or None) h) (ap (first-or None) e) in
+    let sum : other + total (c' ∷ first) ≡ other + length c + total first = omega (arith, total-cons c' first, ap (λ (b : List ℕ). length b) same) in
+    let more = held-total files front name rest contents first limit (other + length c) (ap rest-of e) (ap rest-of h)
+    (more-than limit (other + length c + total first) (other + total (c' ∷ first)) (files name) sum over) in
+    omega (arith, more, total-cons c contents)
+
+names-split : (steps done rest : List Step) (step : Step) (name : List ℕ) → steps ≡ done ++ step ∷ rest → file_of step.act ≡ Some name → file_names steps ≡ file_names done ++ name ∷ file_names rest
+names-split steps done rest step name e f =
+    ap file_names e ∙ filter_map-append (λ (s : Step). file_of s.act) done (step ∷ rest) ∙ ap (λ more. file_names done ++ more) (one step f)
+  where
+    one : (step : Step) → file_of step.act ≡ Some name → file_names (step ∷ rest) ≡ name ∷ file_names rest
+    one step f = rw f refl
+
+-- the reads answered the files of some of the steps alone, though they answered all
+short : (before mid after : FilesView) (name bytes : List ℕ) (steps : List Step) (contents : List (List ℕ)) (line : ℕ) (file : List ℕ) (some : List (List ℕ))
+    → length contents ≡ length (file_names steps) → after.answered ≡ noted before.answered name bytes ++ named (file_names steps) contents → (read : List ℕ) → mid.answered ≡ noted before.answered name read
+    → StopsAt steps line file some mid after → ⊥
+short before mid after name bytes steps contents line file some many all read e s =
+    let names = ap (λ (l : List (List ℕ)). length l) (names-split steps s.done s.rest s.step file s.split s.names) in
+    let parts = length-append (file_names s.done) (file ∷ file_names s.rest) in
+    let left = ap (λ (l : List NamedBytes). length l) (sym all ∙ s.read.answered ∙ ap (λ (l : List NamedBytes). l ++ named (file_names s.done) some) e) in
+    let first = length-append (noted before.answered name bytes) (named (file_names steps) contents) in
+    let second = length-append (noted before.answered name read) (named (file_names s.done) some) in
+    let third = length-append before.answered (record { name = name; bytes = bytes } ∷ []) in
+    let fourth = length-append before.answered (record { name = name; bytes = read } ∷ []) in
+    omega (arith, names, parts, left, first, second, third, fourth, named-many (file_names steps) contents many, named-many (file_names s.done) some s.read.many)
+
+told-step : (told : Told) (name bytes : List ℕ) (steps done rest : List Step) (step : Step) (file : List ℕ) (contents : List (List ℕ)) → steps ≡ done ++ step ∷ rest → file_of step.act ≡ Some file
+    → IsSomeAnd told (λ files. (files name ≡ Some bytes) × (map files (file_names steps) ≡ map Some contents)) → IsSomeAnd told (λ files. files file ≡ None) → ⊥
+told-step None name bytes steps done rest step file contents e f s none = s
+told-step (Some files) name bytes steps done rest step file contents e f s none =
+    held-there files (file_names done) file (file_names rest) contents (ap (map files) (sym (names-split steps done rest step file e f)) ∙ s.1) none
+
+told-over : (told : Told) (name bytes : List ℕ) (steps done rest : List Step) (step : Step) (file : List ℕ) (contents first : List (List ℕ)) → steps ≡ done ++ step ∷ rest → file_of step.act ≡ Some file
+    → IsSomeAnd told (λ files. (files name ≡ Some bytes) × (map files (file_names steps) ≡ map Some contents)) → IfSome told (λ files. map files (file_names done) ≡ map Some first)
+    → IfSome told (λ files. IsSomeAnd (files file) (λ bytes. 33554432 < total first + length bytes)) → 33554432 < total contents
+told-over None name bytes steps done rest step file contents first e f s h over = absurd s
+told-over (Some files) name bytes steps done rest step file contents first e f s h over =
+    let all = held-total files (file_names done) file (file_names rest) contents first 33554432 0 (ap (map files) (sym (names-split steps done rest step file e f)) ∙ s.1) h
+    (more-than 33554432 (0 + total first) (total first) (files file) (omega arith) over) in
+    omega (arith, all)
+
+-- ---- drivers
 
 no-decl : PortDecl
-no-decl = record { line = 0; name = []; owner = 0; driver = [] }
+no-decl = record { line = 0; name = []; owner = 0; driver = []; config = plain }
 
--- a driver of a kind that starts doesn't refuse
-starts-not : (kind : Kind) (refusal : StartRefusal) → IsOfDriver refusal → Refuses kind refusal → refusal_of kind ≡ None → ⊥
-starts-not kind General d r n = some≢none General (sym r ∙ n)
-starts-not kind Errno d r n = some≢none Errno (sym r ∙ n)
-starts-not kind Badarg d r n = some≢none Badarg (sym r ∙ n)
-starts-not kind NoMemoryToStart d r n = d
+-- a driver of a kind that starts doesn't refuse where its outside didn't fail
+starts-not : (kind : Kind) (config : _) (before after : ℕ) (refusal : StartRefusal) → IsOfDriver refusal → driver.Refuses kind config before after refusal → refusal_of kind config ≡ None
+    → (driver.Rose before after → ⊥) → ⊥
+starts-not kind config before after General d r n calm = some≢none _ (sym r ∙ n)
+starts-not kind config before after Errno d r n calm = some≢none _ (sym r ∙ n)
+starts-not kind config before after Badarg d r n calm = some≢none _ (sym r ∙ n)
+starts-not kind config before after StartFault d r n calm = calm r
+starts-not kind config before after NoMemoryToStart d r n calm = d
 
 module _ {D : Type 0} where
   no-host : Hosted D
   no-host = record { port = None; driver = None }
 
-  no-lack : (kind : D → Kind) (hosts : List (Hosted D)) (plan : Plan) (line handed : ℕ) → HasDrivers kind hosts (wanted_of plan.ports) → LacksFor kind hosts plan line handed → ⊥
-  no-lack kind hosts plan line handed has l =
-      let a = has l.at l.lacks.within no-wanted in
-      let b = l.lacks.counted no-wanted in
-      let c = l.lacks.taken no-wanted in
+  no-lack : (kind : D → Kind) (stage : D → Life) (faults : D → ℕ) (hosts : List (Hosted D)) (ports : List PortDecl) (line handed : ℕ) → HasDrivers kind hosts ports
+      → LacksAt kind stage faults ports hosts line handed → ⊥
+  no-lack kind stage faults hosts ports line handed has l =
+      let a = has l.at l.lacks.within no-decl in
+      let b = l.lacks.counted no-decl in
+      let c = l.lacks.taken no-decl in
       less a (rw b at c)
     where
-      less : {m n : ℕ} → m < n → n ≤ m → ⊥
+      less : {m n : ℕ} → m < n → n ≡ m → ⊥
       less a c = omega arith
 
   -- the driver that was found for a port has its name
   named-kind : (kind : D → Kind) (name : List ℕ) (host : Hosted D) (driver : D) → host.driver ≡ Some driver → is_named kind name host ≡ true → kind_name (kind driver) ≡ name
-  named-kind kind name host driver has named =
-      let n : bytes_eq (kind_name (kind driver)) name ≡ true = ap (λ d. option_map_or (λ d. bytes_eq (kind_name (kind d)) name) d false) (sym has) ∙ named in
+  named-kind kind name host driver has is =
+      let n : bytes_eq (kind_name (kind driver)) name ≡ true = ap (λ d. option_map_or (λ d. bytes_eq (kind_name (kind d)) name) d false) (sym has) ∙ is in
       (bytes_eq-Decides (kind_name (kind driver)) name).0 n
 
-  found-starts : (kind : D → Kind) (host : Hosted D) (driver : Option D) (name : List ℕ) (refusal : StartRefusal) → host.driver ≡ driver → is_named kind name host ≡ true
-      → ((q : Kind) → kind_name q ≡ name → refusal_of q ≡ None) → IsOfDriver refusal → IsSomeAnd driver (λ d. Refuses (kind d) refusal) → ⊥
-  found-starts kind host None name refusal has named starts d r = r
-  found-starts kind host (Some driver) name refusal has named starts d r =
-      starts-not (kind driver) refusal d r (starts (kind driver) (named-kind kind name host driver has named))
-
   no-refusal : (kind : D → Kind) (stage : D → Life) (faults : D → ℕ) (plan : Plan) (hosts after : List (Hosted D)) (line : ℕ) (refusal : StartRefusal) → AllStart plan
-      → RefusesFor kind stage faults plan hosts after line refusal → ⊥
-  no-refusal kind stage faults plan hosts after line refusal starts r =
-      let within = r.refuses.within in
-      let wanted : slice_index_or (wanted_of plan.ports) r.at no-wanted ≡ wanted_by (slice_index_or plan.ports r.at no-decl) = get_or-map wanted_by plan.ports r.at no-decl no-wanted within in
-      let place : r.at < length r.places = rw (r.found.len, length-map plan.ports wanted_by) within in
-      let host = slice_index_or hosts (slice_index r.places r.at) no-host in
-      let named : is_named kind (slice_index_or plan.ports r.at no-decl).driver host ≡ true =
-      ap (λ (w : Wanted). is_named kind w.driver host) (sym wanted) ∙ r.found.named r.at no-wanted no-host place in
-      found-starts kind host host.driver (slice_index_or plan.ports r.at no-decl).driver refusal refl named (λ q e. starts r.at no-decl q within e) r.of_driver (r.refuses.refuses no-host)
+      → NoDriverFailed faults hosts after → RefusedAt kind stage faults plan.ports hosts after line refusal → ⊥
+  no-refusal kind stage faults plan hosts after line refusal starts calm r =
+      let within = r.refused.within in
+      let place : r.at < length r.places = rw r.found.len within in
+      let spot = slice_index r.places r.at in
+      let host = slice_index_or hosts spot no-host in
+      let u = r.served.unstarted no-decl no-host in
+      let is : host.driver ≡ Some u.before = ap (λ (h : Hosted D). h.driver) u.back.handed in
+      let came : (slice_index_or after spot no-host).driver ≡ Some u.after = ap (λ (h : Hosted D). h.driver) u.back.returned in
+      let named : is_named kind (slice_index_or plan.ports r.at no-decl).driver host ≡ true = r.found.named r.at no-decl no-host place in
+      starts-not (kind u.before) (slice_index_or plan.ports r.at no-decl).config (faults u.before) (faults u.after) refusal r.own u.refuses
+      (starts r.at no-decl (kind u.before) within (named-kind kind (slice_index_or plan.ports r.at no-decl).driver host u.before is named))
+      (calm spot no-host u.before u.after is came)
 
-  pub completes : (kind : D → Kind) (stage : D → Life) (faults : D → ℕ) (run : Run D) (cause : Cause) → CauseComes kind stage faults run cause → IsValid kind run → (cause ≡ Done) ⊎ (cause ≡ NoMemory)
-  completes kind stage faults run Done c v = inl refl
-  completes kind stage faults run (Usage at) c v = absurd (ok≢err run.words v.name at v.named c.0)
-  completes kind stage faults run (Script fault) c v =
-      absurd (ok≢err (script v.bytes) v.plan fault v.says (said-so run.words run.files run.files_after v.name v.bytes (Err fault) v.named v.there c.1))
-  completes kind stage faults run (ReadFault line) c v = absurd (no-read-fault run.words run.files run.files_after v.name v.bytes v.named v.there c.1 v.reads)
-  completes kind stage faults run WriteFault c v = absurd (v.puts c.1)
-  completes kind stage faults run (NoDriver line handed) c v =
-      let same : c.0 ≡ v.plan = ok-same (script v.bytes) c.0 v.plan (said-so run.words run.files run.files_after v.name v.bytes (Ok c.0) v.named v.there c.1) v.says in
-      absurd (no-lack kind run.hosts v.plan line handed v.drivers (subst (λ plan. LacksFor kind run.hosts plan line handed) same c.2))
-  completes kind stage faults run (StartRefused line refusal) c v =
-      let same : c.0 ≡ v.plan = ok-same (script v.bytes) c.0 v.plan (said-so run.words run.files run.files_after v.name v.bytes (Ok c.0) v.named v.there c.1) v.says in
-      absurd (no-refusal kind stage faults v.plan run.hosts run.hosts_after line refusal v.starts
-      (subst (λ plan. RefusesFor kind stage faults plan run.hosts run.hosts_after line refusal) same c.2))
-  completes kind stage faults run NoMemory c v = inr refl
-  completes kind stage faults run (Limit line) c v = absurd (no-limit run.words run.files run.files_after v.name v.bytes v.named v.there v.fits c.1)
+  -- ---- a valid run
+
+  module _ (kind : D → Kind) (stage : D → Life) (faults : D → ℕ) (own : D → Own) (program : D → Option ToldProgram) (run : Run D) where
+    asked-same : (a : Asked) (v : IsValid kind faults run) → run.words ≡ Ok a → a.script ≡ v.asked.script
+    asked-same a v e = ap (λ (a : Asked). a.script) (ok-same run.words a v.asked e v.named)
+
+    -- what was read as the script is the script
+    bytes-same : (a : Asked) (mid : FilesView) (said : Result Plan ScriptFault) (more : List NamedBytes) (v : IsValid kind faults run) → run.words ≡ Ok a
+        → (r : ScriptRead run.files mid a.script said) → run.files_after.answered ≡ mid.answered ++ more → script v.bytes ≡ said
+    bytes-same a mid said more v e r log =
+        let read : HasRead 1048576 run.files mid v.asked.script r.bytes = subst (λ name. HasRead 1048576 run.files mid name r.bytes) (asked-same a v e) r.read in
+        ap script (sym (read-bytes run.files mid run.files_after v.asked.script v.bytes r.bytes (file_names v.plan.steps) v.contents more v.there read log)) ∙ r.says
+
+    plan-same : (mid : FilesView) (plan : Plan) (more : List NamedBytes) (v : IsValid kind faults run) → PlanRead run.words run.files mid plan → run.files_after.answered ≡ mid.answered ++ more
+        → plan ≡ v.plan
+    plan-same mid plan more v r log = ok-same (script v.bytes) plan v.plan (bytes-same r.asked mid (Ok plan) more v r.named r.read log) v.says
+
+    found-same : (plan : Plan) (v : IsValid kind faults run) → PlanFound run.words run.files run.files_after plan → plan ≡ v.plan
+    found-same plan v f = plan-same f.mid plan _ v f.script f.files.read.answer.answered
+
+    no-script-fault : (fault : ScriptFault) (v : IsValid kind faults run) → IsNoScript run.words run.files run.files_after fault → ⊥
+    no-script-fault fault v n =
+        ok≢err (script v.bytes) v.plan fault v.says (bytes-same n.asked run.files_after (Err fault) [] v n.named n.read (sym (append-nil run.files_after.answered)))
+
+    script-there : (v : IsValid kind faults run) → ScriptUnread run.words run.files run.files_after → ⊥
+    script-there v u = unread u.unread v.there
+      where
+        name : u.asked.script ≡ v.asked.script
+        name = asked-same u.asked v u.named
+
+        unread : IsUnread run.files run.files_after u.asked.script → AreThere run.files run.files_after v.asked.script v.bytes (file_names v.plan.steps) v.contents → ⊥
+        unread (inl rose) there = v.reads rose
+        unread (inr missing) (inl told) = told-missing run.files.told v.asked.script v.bytes _ _ told (subst (λ name. IsSomeAnd run.files.told (λ files. files name ≡ None)) name missing.1)
+        unread (inr missing) (inr all) = unanswered run.files.answered run.files_after.answered _ v.asked.script v.bytes u.answered all
+
+    script-fits : (v : IsValid kind faults run) → ScriptOver run.words run.files run.files_after → ⊥
+    script-fits v u = over v.there
+      where
+        over : AreThere run.files run.files_after v.asked.script v.bytes (file_names v.plan.steps) v.contents → ⊥
+        over (inl told) =
+            let long = told-above run.files.told v.asked.script v.bytes _ _ told
+            (subst (λ name. IfSome run.files.told (λ files. IsSomeAnd (files name) (λ bytes. 1048576 < length bytes))) (asked-same u.asked v u.named) u.over) in
+            absurd (omega (arith, long, v.fits))
+        over (inr all) = unanswered run.files.answered run.files_after.answered _ v.asked.script v.bytes u.nothing.answered all
+
+    step-there : (line : ℕ) (v : IsValid kind faults run) → StepUnread run.words run.files run.files_after line → ⊥
+    step-there line v u = unread u.file.unread v.there
+      where
+        same : u.plan ≡ v.plan
+        same = plan-same u.mid u.plan _ v u.script u.file.stops.read.answered
+
+        stops : StopsAt v.plan.steps line u.file.name u.file.contents u.mid run.files_after
+        stops = subst (λ (p : Plan). StopsAt p.steps line u.file.name u.file.contents u.mid run.files_after) same u.file.stops
+
+        unread : IsUnread u.mid run.files_after u.file.name → AreThere run.files run.files_after v.asked.script v.bytes (file_names v.plan.steps) v.contents → ⊥
+        unread (inl rose) there = v.reads (subst (λ n. Rose n run.files_after.reads) u.script.read.read.reads rose)
+        unread (inr missing) (inl told) = told-step run.files.told v.asked.script v.bytes v.plan.steps stops.done stops.rest stops.step u.file.name v.contents stops.split stops.names told
+            (subst (λ t. IsSomeAnd t (λ files. files u.file.name ≡ None)) u.script.told missing.1)
+        unread (inr missing) (inr all) = short run.files u.mid run.files_after v.asked.script v.bytes v.plan.steps v.contents line u.file.name u.file.contents v.many all u.script.read.bytes
+            (subst (λ name. u.mid.answered ≡ noted run.files.answered name u.script.read.bytes) (asked-same u.script.asked v u.script.named) u.script.read.read.answered) stops
+
+    files-fit : (line : ℕ) (v : IsValid kind faults run) → StepOver run.words run.files run.files_after line → ⊥
+    files-fit line v u = over v.there
+      where
+        same : u.plan ≡ v.plan
+        same = plan-same u.mid u.plan _ v u.script u.files.stops.read.answered
+
+        stops : StopsAt v.plan.steps line u.files.name u.files.contents u.mid run.files_after
+        stops = subst (λ (p : Plan). StopsAt p.steps line u.files.name u.files.contents u.mid run.files_after) same u.files.stops
+
+        over : AreThere run.files run.files_after v.asked.script v.bytes (file_names v.plan.steps) v.contents → ⊥
+        over (inl told) =
+            let long = told-over run.files.told v.asked.script v.bytes v.plan.steps stops.done stops.rest stops.step u.files.name v.contents u.files.contents stops.split stops.names told
+            (subst (λ t. IfSome t (λ files. map files (file_names stops.done) ≡ map Some u.files.contents)) u.script.told stops.read.held)
+            (subst (λ t. IfSome t (λ files. IsSomeAnd (files u.files.name) (λ bytes. 33554432 < total u.files.contents + length bytes))) u.script.told u.files.over) in
+            absurd (omega (arith, long, v.files_fit))
+        over (inr all) = short run.files u.mid run.files_after v.asked.script v.bytes v.plan.steps v.contents line u.files.name u.files.contents v.many all u.script.read.bytes
+            (subst (λ name. u.mid.answered ≡ noted run.files.answered name u.script.read.bytes) (asked-same u.script.asked v u.script.named) u.script.read.read.answered) stops
+
+    no-wait-failed : (waits : Option ℕ) → IsSomeAnd waits (λ w. Rose run.waits w) → IfSome waits (λ w. Rose run.waits w → ⊥) → ⊥
+    no-wait-failed None r v = r
+    no-wait-failed (Some w) r v = v r
+
+    pub completes : (cause : Cause) → CauseComes kind stage faults own program run cause → IsValid kind faults run → (cause ≡ Done) ⊎ (cause ≡ NoMemory)
+    completes Done c v = inl refl
+    completes (Usage at) c v = absurd (ok≢err run.words v.asked at v.named c.0)
+    completes (Script fault) c v = absurd (no-script-fault fault v c.0)
+    completes (ReadFault line) c v = absurd (elim c.0 [ inl main ↦ script-there v main.1 | inr file ↦ step-there line v file ])
+    completes WriteFault c v = absurd (elim c [ inl file ↦ v.writes file | inr put ↦ v.puts put ])
+    completes (NoDriver line handed) c v =
+        let same = found-same c.0.plan v c.0.found in
+        absurd (no-lack kind stage faults run.hosts v.plan.ports line handed v.drivers (subst (λ (p : Plan). LacksAt kind stage faults p.ports run.hosts line handed) same c.0.lacks))
+    completes (StartRefused line refusal) c v =
+        let same = found-same c.0.plan v c.0.found in
+        absurd (no-refusal kind stage faults v.plan run.hosts run.hosts_after line refusal v.starts v.calm
+        (subst (λ (p : Plan). RefusedAt kind stage faults p.ports run.hosts run.hosts_after line refusal) same c.0.refused))
+    completes PollFault c v = absurd (no-wait-failed run.waits_after c.0.rose v.waits)
+    completes NoMemory c v = inr refl
+    completes (Illegal port row law) c v = absurd c
+    completes (Limit line) c v = absurd (elim c.0 [ inl main ↦ script-fits v main.1 | inr files ↦ files-fit line v files ])
+    completes (JournalText at) c v = absurd c

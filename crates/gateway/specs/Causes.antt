@@ -1,211 +1,173 @@
 -- Why a run ends as it does, and what it leaves.
-use Rattle.std.specs.Prelude.{◌≡◌, ℕ, ◌<◌, ◌≤◌, ◌⊎◌, List, ◌++◌, length, Option, Some, None, Result, Ok, Err, IfSome, IsSomeAnd, slice_index_or}
-use Rattle.std.specs.Option.{option_map}
+use Rattle.std.specs.Prelude.{◌≡◌, ℕ, ◌<◌, ◌≤◌, ◌⊎◌, List, ◌++◌, length, map, Option, Some, None, Result, Ok, Err, IfSome, IsSomeAnd, slice_index_or}
 use Rattle.outside.specs.Causes.{Rose}
 use Rattle.outside.specs.Log.{noted}
-use Rattle.driver_entry.specs.declared.life.Life.{Life}
-use Rattle.driver_entry.specs.declared.life.StartRefusal.{StartRefusal}
-use Rattle.driver_entry.specs.declared.life.StartRefusal.TheVariants.{General, Errno, Badarg, NoMemory as NoMemoryToStart}
-use Rattle.driver_entry.specs.Drivers.{Kind, Own, kind_name}
-use Rattle.driver_entry.specs.Refusals.{refusal_of}
-use Rattle.port_hosts.specs.declared.hosted.Hosted.{Hosted}
-use Rattle.port_hosts.specs.Finding.{Found, HasDrivers, LacksDriver}
-use Rattle.port_hosts.specs.Opening.{HasRefused}
-use Rattle.port_hosts.specs.Back.{AllServed, ServedBefore, AllCameBack}
-use Rattle.script_reader.specs.declared.decl.PortDecl.{PortDecl}
-use Rattle.script_reader.specs.Plan.{Plan}
-use Rattle.script_reader.specs.Script.{script}
-use Rattle.gateway_report.specs.declared.cause.Cause.{Cause}
-use Rattle.gateway_report.specs.declared.cause.Cause.TheVariants.{Done, Usage, Script, ReadFault, WriteFault, NoDriver, StartRefused, NoMemory, Limit}
-use Rattle.gateway_report.specs.Cause.{IsOfDriver, IsOfScript}
-use Rattle.gateway_report.specs.declared.report.Report.{Report}
-use Rattle.gateway_report.specs.Report.{text_of}
-use Rattle.gateway.specs.Wanted.{wanted_of}
-use Rattle.gateway.specs.Run.{FilesView, SinkView, Run, NothingRead, HasRead, ScriptRead, NothingWritten}
-use Rattle.gateway.specs.Headline.{Made, Ran}
+use Rattle.driver_model.specs.Calls.{Kind, Own}
+use Rattle.driver_model.specs.Drivers.{kind_name, refusal_of}
+use Rattle.driver_model.specs.Programs.{ToldProgram}
+use Rattle.port_driver.specs.declared.life.Life.{Life}
+use Rattle.port_driver.specs.declared.life.StartRefusal.{StartRefusal}
+use Rattle.port_driver.specs.Starting as driver
+use Rattle.driver_hosts.specs.declared.hosted.Hosted.{Hosted}
+use Rattle.driver_hosts.specs.Back.{AllCameBack}
+use Rattle.driver_hosts.specs.Finding.{HasDrivers}
+use Rattle.gateway_script.specs.Script.{script}
+use Rattle.run_opening.specs.Faults.{LacksAt, RefusedAt}
+use Rattle.run_output.specs.declared.writing.OutputFault.TheVariants as output
+use Rattle.run_report.specs.declared.cause.Cause.{Cause}
+use Rattle.run_report.specs.declared.cause.Cause.TheVariants.{Done, Usage, Script, ReadFault, WriteFault, NoDriver, StartRefused, PollFault, NoMemory, Illegal, Limit, JournalText}
+use Rattle.run_report.specs.declared.report.Report.{Report}
+use Rattle.script_input.specs.Contents.{file_names, named as named_files, total, FileUnread, FilesOver}
+use Rattle.script_input.specs.Files.{FilesView, IsLonger, IsUnread, NothingRead, NothingWritten}
+use Rattle.script_input.specs.Script.{IsOfScript, ScriptRead}
+use Rattle.script_input.specs.Words.{Asked}
+use Rattle.script_plan.specs.declared.decl.PortDecl.{PortDecl}
+use Rattle.script_plan.specs.declared.fault.ScriptFault.{ScriptFault}
+use Rattle.script_plan.specs.Plan.{Plan}
+use Rattle.gateway.specs.Run.{Run, PlanRead, PlanFound}
+use Rattle.gateway.specs.Ran.{Ran}
 
--- no read answered: one failed, or else the files tell that they hold no file of the name that the words name
-pub record ReadFails (words : Result (List ℕ) ℕ) (before after : FilesView) : Type 0 where
-  pub name : List ℕ
-  pub named : words ≡ Ok name
+-- what the words name is no script, by this fault
+pub record IsNoScript (words : Result Asked ℕ) (before after : FilesView) (fault : ScriptFault) : Type 0 where
+  pub asked : Asked
+  pub named : words ≡ Ok asked
+  pub of_script : IsOfScript fault
+  pub read : ScriptRead before after asked.script (Err fault)
+
+-- the script wasn't read
+pub record ScriptUnread (words : Result Asked ℕ) (before after : FilesView) : Type 0 where
+  pub asked : Asked
+  pub named : words ≡ Ok asked
   pub answered : after.answered ≡ before.answered
-  pub why : Rose before.reads after.reads ⊎ ((after.reads ≡ before.reads) × IsSomeAnd before.told (λ files. files name ≡ None))
+  pub unread : IsUnread before after asked.script
 
--- no read answered, and none failed: where the files tell what they hold, the file that the words name has more than 1,048,576 bytes
-pub record IsOverLimit (words : Result (List ℕ) ℕ) (before after : FilesView) : Type 0 where
-  pub name : List ℕ
-  pub named : words ≡ Ok name
+-- the script is larger than is allowed
+pub record ScriptOver (words : Result Asked ℕ) (before after : FilesView) : Type 0 where
+  pub asked : Asked
+  pub named : words ≡ Ok asked
   pub nothing : NothingRead before after
-  pub over : IfSome before.told (λ files. IsSomeAnd (files name) (λ bytes. 1048576 < length bytes))
+  pub over : IsLonger 1048576 before asked.script
 
--- at most one read answered, of the file that the words name, and none failed
-abbrev pub ReadAtMostOnce : Result (List ℕ) ℕ → FilesView → FilesView → Type 0
-ReadAtMostOnce words before after = NothingRead before after ⊎ ((bytes : List ℕ) × HasRead words before after bytes)
+-- the script was read, and the file that this line names wasn't
+pub record StepUnread (words : Result Asked ℕ) (before after : FilesView) (line : ℕ) : Type 0 where
+  pub plan : Plan
+  pub mid : FilesView
+  pub script : PlanRead words before mid plan
+  pub file : FileUnread plan.steps mid after line
 
--- why there is no script to run
-abbrev pub LoadErr : Result (List ℕ) ℕ → FilesView → FilesView → Cause → Type 0
-LoadErr words before after Done = ⊥
-LoadErr words before after (Usage at) = ⊥
-LoadErr words before after (Script fault) = IsOfScript fault × ScriptRead words before after (Err fault)
-LoadErr words before after (ReadFault line) = (line ≡ 0) × ReadFails words before after
-LoadErr words before after WriteFault = ⊥
-LoadErr words before after (NoDriver line handed) = ⊥
-LoadErr words before after (StartRefused line refusal) = ⊥
-LoadErr words before after NoMemory = ReadAtMostOnce words before after
-LoadErr words before after (Limit line) = (line ≡ 0) × IsOverLimit words before after
-
--- the port at this place is declared on this line
-abbrev pub StandsOn : Plan → ℕ → ℕ → Type 0
-StandsOn plan at line = (d : PortDecl) → (slice_index_or plan.ports at d).line ≡ line
-
--- the cause of a port on this line that was not served: the refusal of its driver, or want of memory
-abbrev pub unserved_cause : ℕ → StartRefusal → Cause
-unserved_cause line General = StartRefused line General
-unserved_cause line Errno = StartRefused line Errno
-unserved_cause line Badarg = StartRefused line Badarg
-unserved_cause line NoMemoryToStart = NoMemory
+-- the script was read, and its files up to that of this line are larger than is allowed
+pub record StepOver (words : Result Asked ℕ) (before after : FilesView) (line : ℕ) : Type 0 where
+  pub plan : Plan
+  pub mid : FilesView
+  pub script : PlanRead words before mid plan
+  pub files : FilesOver plan.steps mid after line
 
 module _ {D : Type 0} where
-  -- no driver is left for the port on this line, and it is the first such: as many have its name as ports above it got
-  pub record LacksFor (kind : D → Kind) (hosts : List (Hosted D)) (plan : Plan) (line handed : ℕ) : Type 0 where
-    pub at : ℕ
-    pub stands : StandsOn plan at line
-    pub lacks : LacksDriver kind hosts (wanted_of plan.ports) at handed
-
-  -- the driver that the search finds for the port on this line refuses so by its kind, and in the order of the script it is the first that
-  -- refuses. The drivers of the ports above it served them, and no driver of another port was touched
-  pub record RefusesFor (kind : D → Kind) (stage : D → Life) (faults : D → ℕ) (plan : Plan) (old new : List (Hosted D)) (line : ℕ) (refusal : StartRefusal) : Type 0 where
-    pub at : ℕ
-    pub places : List ℕ
-    pub stands : StandsOn plan at line
-    pub found : Found kind old (wanted_of plan.ports) places
-    pub refuses : HasRefused kind (length plan.ports) places old at refusal
-    pub of_driver : IsOfDriver refusal
-    pub back : ServedBefore kind stage faults places at refusal old new
-
-  -- the drivers that the search finds served their ports: all of them, or those above the first one for whose start no memory was found
-  pub record FoundNoMemory (kind : D → Kind) (stage : D → Life) (faults : D → ℕ) (plan : Plan) (old new : List (Hosted D)) : Type 0 where
-    pub places : List ℕ
-    pub found : Found kind old (wanted_of plan.ports) places
-    pub back : AllServed kind stage faults places old new
-        ⊎ ((at : ℕ) × HasRefused kind (length plan.ports) places old at NoMemoryToStart × ServedBefore kind stage faults places at NoMemoryToStart old new)
-
-  -- why no report of a plan could be made, and how the drivers come back: one is missing, and then none was touched, or one refuses to start, or
-  -- memory is wanting, before or after the first was started
-  abbrev pub MakeFails : (D → Kind) → (D → Life) → (D → ℕ) → Plan → List (Hosted D) → List (Hosted D) → Cause → Type 0
-  MakeFails kind stage faults plan old new Done = ⊥
-  MakeFails kind stage faults plan old new (Usage at) = ⊥
-  MakeFails kind stage faults plan old new (Script fault) = ⊥
-  MakeFails kind stage faults plan old new (ReadFault line) = ⊥
-  MakeFails kind stage faults plan old new WriteFault = ⊥
-  MakeFails kind stage faults plan old new (NoDriver line handed) = LacksFor kind old plan line handed × (new ≡ old)
-  MakeFails kind stage faults plan old new (StartRefused line refusal) = RefusesFor kind stage faults plan old new line refusal
-  MakeFails kind stage faults plan old new NoMemory = (new ≡ old) ⊎ FoundNoMemory kind stage faults plan old new
-  MakeFails kind stage faults plan old new (Limit line) = ⊥
-
   -- each driver is as it was handed in
   abbrev pub NoneTouched : Run D → Type 0
   NoneTouched run = run.hosts_after ≡ run.hosts
 
-  -- memory was wanting: before a driver was started, or in the run of the script that was read
-  abbrev pub WantedMemory : (D → Kind) → (D → Life) → (D → ℕ) → Run D → Type 0
-  WantedMemory kind stage faults run = (ReadAtMostOnce run.words run.files run.files_after × NoneTouched run)
-      ⊎ ((plan : Plan) × ScriptRead run.words run.files run.files_after (Ok plan) × FoundNoMemory kind stage faults plan run.hosts run.hosts_after)
+  -- nothing was written
+  abbrev pub Unwritten : Run D → Type 0
+  Unwritten run = NothingWritten run.files run.files_after × (run.sink_after ≡ run.sink)
 
-  -- each cause comes only where this holds
-  abbrev pub CauseComes : (D → Kind) → (D → Life) → (D → ℕ) → Run D → Cause → Type 0
-  CauseComes kind stage faults run Done = (run.files_after.reads ≡ run.files.reads) × (run.sink_after.faults ≡ run.sink.faults)
-  CauseComes kind stage faults run (Usage at) = (run.words ≡ Err at) × NothingRead run.files run.files_after × NoneTouched run
-  CauseComes kind stage faults run (Script fault) = IsOfScript fault × ScriptRead run.words run.files run.files_after (Err fault) × NoneTouched run
-  CauseComes kind stage faults run (ReadFault line) = (line ≡ 0) × ReadFails run.words run.files run.files_after × NoneTouched run
-  CauseComes kind stage faults run WriteFault = (run.files_after.reads ≡ run.files.reads) × Rose run.sink.faults run.sink_after.faults
-  CauseComes kind stage faults run (NoDriver line handed) =
-      (plan : Plan) × ScriptRead run.words run.files run.files_after (Ok plan) × LacksFor kind run.hosts plan line handed × NoneTouched run
-  CauseComes kind stage faults run (StartRefused line refusal) =
-      (plan : Plan) × ScriptRead run.words run.files run.files_after (Ok plan) × RefusesFor kind stage faults plan run.hosts run.hosts_after line refusal
-  CauseComes kind stage faults run NoMemory = WantedMemory kind stage faults run
-  CauseComes kind stage faults run (Limit line) = (line ≡ 0) × IsOverLimit run.words run.files run.files_after × NoneTouched run
+  -- no count of faults rose
+  pub record NoneRose (run : Run D) : Type 0 where
+    pub reads : run.files_after.reads ≡ run.files.reads
+    pub writes : run.files_after.writes ≡ run.files.writes
+    pub puts : run.sink_after.faults ≡ run.sink.faults
+    pub waits : run.waits_after ≡ Some run.waits
 
-  -- a report is there exactly where the run was made, also where the report wasn't written
-  abbrev pub IsReported : (D → Kind) → (D → Life) → (D → ℕ) → (D → Own) → Run D → Cause → Option Report → Type 0
-  IsReported kind stage faults own run Done report = IsSomeAnd report (Ran kind stage faults own run)
-  IsReported kind stage faults own run (Usage at) report = report ≡ None
-  IsReported kind stage faults own run (Script fault) report = report ≡ None
-  IsReported kind stage faults own run (ReadFault line) report = report ≡ None
-  IsReported kind stage faults own run WriteFault report = IsSomeAnd report (Ran kind stage faults own run)
-  IsReported kind stage faults own run (NoDriver line handed) report = report ≡ None
-  IsReported kind stage faults own run (StartRefused line refusal) report = report ≡ None
-  IsReported kind stage faults own run NoMemory report = report ≡ None
-  IsReported kind stage faults own run (Limit line) report = report ≡ None
+  module _ (kind : D → Kind) (stage : D → Life) (faults : D → ℕ) (own : D → Own) (program : D → Option ToldProgram) where
+    -- no driver is left for a port of the script that was read
+    pub record PortLacks (run : Run D) (line handed : ℕ) : Type 0 where
+      pub plan : Plan
+      pub found : PlanFound run.words run.files run.files_after plan
+      pub lacks : LacksAt kind stage faults plan.ports run.hosts line handed
 
--- the sink took this text, and no put failed
-pub record TookText (old new : SinkView) (text : List ℕ) : Type 0 where
-  pub took : new.took ≡ old.took ++ text
-  pub written : new.written ≡ option_map (λ written. written ++ text) old.written
-  pub faults : new.faults ≡ old.faults
+    -- the driver of a port of the script that was read refused
+    pub record PortRefused (run : Run D) (line : ℕ) (refusal : StartRefusal) : Type 0 where
+      pub plan : Plan
+      pub found : PlanFound run.words run.files run.files_after plan
+      pub refused : RefusedAt kind stage faults plan.ports run.hosts run.hosts_after line refusal
 
--- a part of this text was written, from its front
-abbrev pub WrotePart : Option (List ℕ) → Option (List ℕ) → List ℕ → Type 0
-WrotePart None new text = new ≡ None
-WrotePart (Some old) new text = (part : List ℕ) × (rest : List ℕ) × (text ≡ part ++ rest) × (new ≡ Some (old ++ part))
+    -- a wait failed in the run of the script that was read
+    pub record WaitFailed (run : Run D) : Type 0 where
+      pub plan : Plan
+      pub found : PlanFound run.words run.files run.files_after plan
+      pub rose : IsSomeAnd run.waits_after (λ waits. Rose run.waits waits)
 
--- the put of this text failed
-pub record PutFailed (old new : SinkView) (text : List ℕ) : Type 0 where
-  pub took : new.took ≡ old.took
-  pub written : WrotePart old.written new.written text
-  pub rose : Rose old.faults new.faults
+    -- Each cause comes only where this holds. What a run found no memory for, it didn't read or write: no read and no write failed, and where anything was written, the run was made
+    abbrev pub CauseComes : Run D → Cause → Type 0
+    CauseComes run Done = NoneRose run
+    CauseComes run (Usage at) = (run.words ≡ Err at) × NothingRead run.files run.files_after × NoneTouched run × Unwritten run
+    CauseComes run (Script fault) = IsNoScript run.words run.files run.files_after fault × NoneTouched run × Unwritten run
+    CauseComes run (ReadFault line) =
+        (((line ≡ 0) × ScriptUnread run.words run.files run.files_after) ⊎ StepUnread run.words run.files run.files_after line) × NoneTouched run × Unwritten run
+    CauseComes run WriteFault = Rose run.files.writes run.files_after.writes ⊎ Rose run.sink.faults run.sink_after.faults
+    CauseComes run (NoDriver line handed) = PortLacks run line handed × NoneTouched run × Unwritten run
+    CauseComes run (StartRefused line refusal) = PortRefused run line refusal × Unwritten run
+    CauseComes run PollFault = WaitFailed run × Unwritten run
+    CauseComes run NoMemory = (run.files_after.reads ≡ run.files.reads) × (Unwritten run ⊎ ((report : Report) × Ran kind stage faults own program run (Err output.NoMemory) report))
+    CauseComes run (Illegal port row law) = ⊥
+    CauseComes run (Limit line) =
+        (((line ≡ 0) × ScriptOver run.words run.files run.files_after) ⊎ StepOver run.words run.files run.files_after line) × NoneTouched run × Unwritten run
+    CauseComes run (JournalText at) = ⊥
 
--- how the text of a report was written, and whether the report is there
-abbrev pub WriteEnds : SinkView → SinkView → Report → Cause → Option Report → Type 0
-WriteEnds old new report Done told = (told ≡ Some report) × TookText old new (text_of report)
-WriteEnds old new report (Usage at) told = ⊥
-WriteEnds old new report (Script fault) told = ⊥
-WriteEnds old new report (ReadFault line) told = ⊥
-WriteEnds old new report WriteFault told = (told ≡ Some report) × PutFailed old new (text_of report)
-WriteEnds old new report (NoDriver line handed) told = ⊥
-WriteEnds old new report (StartRefused line refusal) told = ⊥
-WriteEnds old new report NoMemory told = (told ≡ None) × (new ≡ old)
-WriteEnds old new report (Limit line) told = ⊥
+    -- a report is there exactly where the run was made and memory was found to report it, also where it wasn't written
+    abbrev pub IsReported : Run D → Cause → Option Report → Type 0
+    IsReported run Done report = IsSomeAnd report (Ran kind stage faults own program run (Ok tt))
+    IsReported run WriteFault report = IsSomeAnd report (Ran kind stage faults own program run (Err output.WriteFault))
+    IsReported run cause report = report ≡ None
 
--- what was written: the text of the report, or a part of it where the sink failed, and nothing where there is no report
-abbrev pub Wrote : SinkView → SinkView → Cause → Option Report → Type 0
-Wrote old new cause None = new ≡ old
-Wrote old new Done (Some report) = TookText old new (text_of report)
-Wrote old new (Usage at) (Some report) = ⊥
-Wrote old new (Script fault) (Some report) = ⊥
-Wrote old new (ReadFault line) (Some report) = ⊥
-Wrote old new WriteFault (Some report) = PutFailed old new (text_of report)
-Wrote old new (NoDriver line handed) (Some report) = ⊥
-Wrote old new (StartRefused line refusal) (Some report) = ⊥
-Wrote old new NoMemory (Some report) = ⊥
-Wrote old new (Limit line) (Some report) = ⊥
+-- how the poll set comes back: as it was handed in, but where the run was made or a wait failed; only where memory was wanting it may be gone
+abbrev pub PollEnds : {S : Type 0} → (S → ℕ) → S → Cause → Option S → Type 0
+PollEnds faults old Done new = IsSomeAnd new (λ poll. faults poll ≡ faults old)
+PollEnds faults old WriteFault new = IsSomeAnd new (λ poll. faults poll ≡ faults old)
+PollEnds faults old PollFault new = IsSomeAnd new (λ poll. Rose (faults old) (faults poll))
+PollEnds faults old NoMemory new = Unit {0}
+PollEnds faults old cause new = new ≡ Some old
 
--- no port wants a driver of a kind that refuses to start
+-- no port wants a driver of a kind that refuses to start with the port's options
 abbrev pub AllStart : Plan → Type 0
-AllStart plan = (at : ℕ) (d : PortDecl) (kind : Kind) → at < length plan.ports → kind_name kind ≡ (slice_index_or plan.ports at d).driver → refusal_of kind ≡ None
+AllStart plan = (at : ℕ) (d : PortDecl) (kind : Kind) → at < length plan.ports → kind_name kind ≡ (slice_index_or plan.ports at d).driver
+    → refusal_of kind (slice_index_or plan.ports at d).config ≡ None
+
+-- the script and the files of its steps are there: the files tell that they hold them, or reads answered them
+abbrev pub AreThere : FilesView → FilesView → List ℕ → List ℕ → List (List ℕ) → List (List ℕ) → Type 0
+AreThere before after name bytes names contents =
+    IsSomeAnd before.told (λ files. (files name ≡ Some bytes) × (map files names ≡ map Some contents))
+    ⊎ (after.answered ≡ noted before.answered name bytes ++ named_files names contents)
 
 module _ {D : Type 0} where
-  -- the words name a script that the files tell that they hold, or that a read answered. It is valid and within its limit, a driver that starts
-  -- is there for each of its ports, and no count of faults rose, or stood at its end
-  pub record IsValid (kind : D → Kind) (run : Run D) : Type 0 where
-    pub name : List ℕ
+  -- the count of the faults of no driver rose, or stood at its end
+  abbrev pub NoDriverFailed : (D → ℕ) → List (Hosted D) → List (Hosted D) → Type 0
+  NoDriverFailed faults old new = (at : ℕ) (d : Hosted D) (before after : D) → (slice_index_or old at d).driver ≡ Some before → (slice_index_or new at d).driver ≡ Some after
+      → driver.Rose (faults before) (faults after) → ⊥
+
+  -- What the words ask for is there and valid, within the limits of its size. A driver that starts is there for each of its ports, and no count of faults rose, or stood at its end
+  pub record IsValid (kind : D → Kind) (faults : D → ℕ) (run : Run D) : Type 0 where
+    pub asked : Asked
     pub bytes : List ℕ
     pub plan : Plan
-    pub named : run.words ≡ Ok name
-    pub there : IsSomeAnd run.files.told (λ files. files name ≡ Some bytes) ⊎ (run.files_after.answered ≡ noted run.files.answered name bytes)
+    pub contents : List (List ℕ)
+    pub named : run.words ≡ Ok asked
+    pub many : length contents ≡ length (file_names plan.steps)
+    pub there : AreThere run.files run.files_after asked.script bytes (file_names plan.steps) contents
     pub fits : length bytes ≤ 1048576
+    pub files_fit : total contents ≤ 33554432
     pub says : script bytes ≡ Ok plan
-    pub drivers : HasDrivers kind run.hosts (wanted_of plan.ports)
+    pub drivers : HasDrivers kind run.hosts plan.ports
     pub starts : AllStart plan
     pub reads : Rose run.files.reads run.files_after.reads → ⊥
+    pub writes : Rose run.files.writes run.files_after.writes → ⊥
     pub puts : Rose run.sink.faults run.sink_after.faults → ⊥
+    pub waits : IfSome run.waits_after (λ waits. Rose run.waits waits → ⊥)
+    pub calm : NoDriverFailed faults run.hosts run.hosts_after
 
-  -- how a run ends with this cause and this report: why, what was written, to the sink alone, and how the drivers come back. A valid run is made
-  -- and its report is written, or memory is wanting
-  pub record Ends (kind : D → Kind) (stage : D → Life) (faults : D → ℕ) (own : D → Own) (run : Run D) (cause : Cause) (report : Option Report) : Type 0 where
-    pub comes : CauseComes kind stage faults run cause
-    pub reported : IsReported kind stage faults own run cause report
-    pub wrote : Wrote run.sink run.sink_after cause report
-    pub files : NothingWritten run.files run.files_after
+  -- How a run ends with this cause and this report: why, what was written, and how the drivers come back. A valid run is made and its report is written, or memory is wanting
+  pub record Ends (kind : D → Kind) (stage : D → Life) (faults : D → ℕ) (own : D → Own) (program : D → Option ToldProgram) (run : Run D) (cause : Cause) (report : Option Report) : Type 0 where
+    pub comes : CauseComes kind stage faults own program run cause
+    pub reported : IsReported kind stage faults own program run cause report
     pub back : AllCameBack kind stage faults run.hosts run.hosts_after
-    pub complete : IsValid kind run → (cause ≡ Done) ⊎ (cause ≡ NoMemory)
+    pub complete : IsValid kind faults run → (cause ≡ Done) ⊎ (cause ≡ NoMemory)

@@ -1,8 +1,8 @@
 -- Drivers as a run takes them.
 use Rattle.std.specs.Prelude.{List, map, filter, Bool, true, false, Some, None}
-use Rattle.driver_entry.specs.declared.life.Life.{Life}
-use Rattle.driver_entry.specs.declared.life.Life.TheVariants.{Fresh, Started, Stopped}
-use Rattle.port_hosts.specs.declared.hosted.Hosted.{Hosted}
+use Rattle.port_driver.specs.declared.life.Life.{Life}
+use Rattle.port_driver.specs.declared.life.Life.TheVariants.{Fresh, Started, Stopped}
+use Rattle.driver_hosts.specs.declared.hosted.Hosted.{Hosted}
 
 -- the driver wasn't started
 abbrev pub is_fresh : Life → Bool

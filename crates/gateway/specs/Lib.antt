@@ -1,7 +1,6 @@
-pub mod Words
 pub mod Fresh
-pub mod Wanted
 pub mod Run
-pub mod Headline
-pub mod Reported
+pub mod Ran
 pub mod Causes
+pub mod Stages
+pub mod Laws

@@ -1,16 +1,16 @@
 //! Runs of a script: the top call, from the words of the command line to the report.
 #![tactic(auto)]
 
+mod laws;
 mod making;
-mod reporting;
-mod serving;
+mod preparing;
 mod top;
-mod wanting;
-mod words;
+mod writing;
 
-pub use gateway_report::{Cause, PortReport, ProcReport, Report, cause_text, report_text};
+pub use driver_hosts::Hosted;
+pub use laws::finished_history_has_an_end;
 pub use making::host_drivers;
-pub use port_hosts::Hosted;
-pub use script_reader::ScriptFault;
-pub use top::{Ended, gateway};
-pub use words::script_name;
+pub use run_report::{
+    Cause, PortReport, ProcReport, Report, ScriptFault, StartRefusal, cause_text, report_text,
+};
+pub use top::{Ended, gateway, run_hosted};

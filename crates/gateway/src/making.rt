@@ -1,10 +1,10 @@
 ghost use Rattle.std.specs.Prelude.{◌≡◌, All, IfOk};
-ghost use Rattle.port_hosts.specs.Hosts.{IsUnused};
+ghost use Rattle.driver_hosts.specs.Hosts.{IsUnused};
 ghost use Rattle.gateway.specs.Fresh.{hosted};
 
-use crate::Hosted;
-use driver_entry::{Driver, Life};
-use port_signal::NoMemory;
+use driver_hosts::Hosted;
+use no_memory::NoMemory;
+use port_driver::{Driver, Life};
 use std::alloc::Global;
 
 /// These drivers as a run takes them: each that is fresh, and serves no port. The others are left out.

@@ -1,20 +1,28 @@
-//! The program `gateway`: it runs a script of processes and ports, and prints the report.
+//! The program `gateway`: it runs a script of processes and ports on threads, and prints the report.
 #![tactic(auto)]
 
-use driver_entry::{Driver, Echo, Refuse, Refused, StartRefusal, Store, Tally, Valve, ValveSoft};
-use gateway::{Cause, Ended, ScriptFault, cause_text, gateway, host_drivers};
+use either_driver::EitherDriver;
+use gateway::{Cause, Ended, ScriptFault, StartRefusal, cause_text, host_drivers, run_hosted};
 use no_memory::NoMemory;
-use outside::{MemPoll, OpenGate, RealFiles, RealSink};
+use outside::{OpenGate, PollSet, RealFiles, RealSink, Spawner};
+use outside_programs::{RealPoll, RealSpawner};
+use port_driver::Driver;
+use sample_drivers::{Digest, Echo, Refuse, Refused, Store, Tally, Valve};
+use spawn_driver::spawn_driver;
 use std::alloc::Global;
 use std::env::{Env, FillError};
 use std::process::ExitCode;
 use std::rt::Files;
 use std::sync::Wait;
+use std::thread::Threads;
 
 /// How many drivers of each kind there are: as many as a script may have ports.
-const DRIVERS: usize = 32;
+const DRIVERS: u32 = 32;
 
-/// The kinds of drivers that the program has.
+/// How many events the programs have: each has one for its output, and one for its input.
+const EVENTS: u32 = 64;
+
+/// The kinds of drivers that need nothing of the machine.
 #[derive(Clone, Copy)]
 enum Sample {
     Echo,
@@ -22,16 +30,18 @@ enum Sample {
     Store,
     Valve,
     ValveSoft,
+    Digest,
     Refuse(Refused),
 }
 
 /// One of each kind.
-const SAMPLES: [Sample; 8] = [
+const SAMPLES: [Sample; 9] = [
     Sample::Echo,
     Sample::Tally,
     Sample::Store,
     Sample::Valve,
     Sample::ValveSoft,
+    Sample::Digest,
     Sample::Refuse(Refused::General),
     Sample::Refuse(Refused::Errno),
     Sample::Refuse(Refused::Badarg),
@@ -84,18 +94,18 @@ fn say(rt: &impl Eprint, alloc: Global, cause: &Cause) {
     }
 }
 
-/// Runs what the command line asks for, over these drivers, and returns the status.
-fn run_over<R: AllocGlobal + Clone + Drop + Env + Eprint + Files + Print + Sync + Wait>(
-    rt: &R,
-    drivers: Vec<Box<dyn Driver + Send>>,
-) -> Result<u8, NoMemory> {
+/// Runs what the command line asks for, over these drivers and the poll set of their programs, and returns the status.
+fn run_over<
+    D: Driver + Send,
+    P: PollSet + Drop + Send,
+    R: AllocGlobal + Clone + Drop + Env + Eprint + Files + Print + Sync + Threads + Wait,
+>(rt: &R, drivers: Vec<D>, poll: P) -> Result<u8, NoMemory> {
     let alloc = rt.alloc();
     let words = words(rt, alloc)?;
     let drivers = host_drivers(alloc, drivers)?;
     let mut files = RealFiles::new(rt.clone()?);
     let mut out = RealSink::new(rt.clone()?);
-    let poll = MemPoll::new(alloc);
-    let Ended { status, cause, .. } = gateway(
+    let Ended { status, cause, .. } = run_hosted(
         rt,
         alloc,
         words.as_slice(),
@@ -109,10 +119,15 @@ fn run_over<R: AllocGlobal + Clone + Drop + Env + Eprint + Files + Print + Sync 
     Ok(status)
 }
 
-/// Runs what the command line asks for, over fresh drivers of each kind, and returns the status.
-fn run<R: AllocGlobal + Clone + Drop + Env + Eprint + Files + Print + Sync + Wait>(
-    rt: &R,
-) -> Result<u8, NoMemory> {
+/// Runs what the command line asks for, over fresh drivers of each kind, and returns the status. These start the programs, whose events are those of the poll set.
+fn run<
+    S: Spawner + Drop + Send,
+    P: PollSet + Drop + Send,
+    R: AllocGlobal + Clone + Drop + Env + Eprint + Files + Print + Sync + Threads + Wait,
+>(rt: &R, spawners: Vec<S>, poll: P) -> Result<u8, NoMemory>
+where
+    S::Program: Drop,
+{
     let alloc = rt.alloc();
     let mut drivers = Vec::new(alloc);
     for sample in SAMPLES {
@@ -122,17 +137,34 @@ fn run<R: AllocGlobal + Clone + Drop + Env + Eprint + Files + Print + Sync + Wai
                 Sample::Tally => Box::new(alloc, Tally::new())?,
                 Sample::Store => Box::new(alloc, Store::new())?,
                 Sample::Valve => Box::new(alloc, Valve::new())?,
-                Sample::ValveSoft => Box::new(alloc, ValveSoft::new())?,
+                Sample::ValveSoft => Box::new(alloc, Valve::soft())?,
+                Sample::Digest => Box::new(alloc, Digest::new())?,
                 Sample::Refuse(refused) => Box::new(alloc, Refuse::new(refused))?,
             };
-            drivers.push(driver)?;
+            drivers.push(EitherDriver::First(driver))?;
         }
     }
-    run_over(rt, drivers)
+    for spawner in spawners {
+        drivers.push(EitherDriver::Second(spawn_driver(spawner)))?;
+    }
+    run_over(rt, drivers, poll)
 }
 
 fn main(rt: HostRuntime) -> ExitCode {
-    match run(&rt) {
+    let alloc = rt.alloc();
+    let Ok(poll) = RealPoll::new(alloc, rt, EVENTS) else {
+        return ExitCode::from(NO_MEMORY);
+    };
+    let mut spawners = Vec::new(alloc);
+    for number in 0..DRIVERS {
+        let Ok(spawner) = RealSpawner::new(alloc, rt, &poll, 2 * number, 2 * number + 1) else {
+            return ExitCode::from(NO_MEMORY);
+        };
+        if spawners.push(spawner).is_err() {
+            return ExitCode::from(NO_MEMORY);
+        }
+    }
+    match run(&rt, spawners, poll) {
         Ok(status) => ExitCode::from(status),
         Err(NoMemory) => ExitCode::from(NO_MEMORY),
     }

@@ -2,10 +2,10 @@
 #![tactic(auto)]
 
 #[cfg(test)]
-mod processes;
+mod faults;
+#[cfg(test)]
+mod outputs;
 #[cfg(test)]
 mod reports;
 #[cfg(test)]
 mod runs;
-#[cfg(test)]
-mod scripts;

@@ -1,7 +1,7 @@
 use Rattle.std.proofs.Common.{◌≡◌, [], ◌∷◌, ◌++◌, refl, sym, ap, ◌∙◌}
 use Rattle.std.proofs.lemmas.List.Elements.{All-push}
-use Rattle.driver_entry.specs.declared.life.Life.TheVariants.{Fresh}
-use Rattle.port_hosts.specs.Hosts.{IsUnused}
+use Rattle.port_driver.specs.declared.life.Life.TheVariants.{Fresh}
+use Rattle.driver_hosts.specs.Hosts.{IsUnused}
 use Rattle.gateway.specs.Fresh.{unserving}
 use Rattle.gateway.proofs.Fresh.{hosted-push}
 use Rattle.gateway.proofs.making.host_drivers.Goals as goal

@@ -1,5 +1,5 @@
 use Rattle.std.specs.Prelude.{◌≡◌, All}
-use Rattle.port_hosts.specs.Hosts.{IsUnused}
+use Rattle.driver_hosts.specs.Hosts.{IsUnused}
 use Rattle.gateway.specs.Fresh.{hosted}
 use Rattle.gateway.proofs.making.host_drivers.Given as goal
 

@@ -1,0 +1,6 @@
+//! A driver of one of two types.
+#![tactic(auto)]
+
+mod either;
+
+pub use either::EitherDriver;

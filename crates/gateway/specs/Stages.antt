@@ -1,0 +1,64 @@
+-- How the stages of a run end: what it needs is read, the script is run, and what it left is written.
+use Rattle.std.specs.Prelude.{◌≡◌, ℕ, ◌⊎◌, List, Option, Some, None, Result, Ok, Err}
+use Rattle.driver_model.specs.Calls.{Kind}
+use Rattle.port_driver.specs.declared.life.Life.{Life}
+use Rattle.driver_hosts.specs.declared.hosted.Hosted.{Hosted}
+use Rattle.run_opening.specs.Faults.{LacksAt}
+use Rattle.run_output.specs.declared.writing.OutputFault.TheVariants as output
+use Rattle.run_output.specs.Ends.{OutputEnds, SinkView}
+use Rattle.run_output.specs.Writes.{writes_of}
+use Rattle.run_report.specs.declared.cause.Cause.{Cause}
+use Rattle.run_report.specs.declared.cause.Cause.TheVariants.{Done, Usage, Script, ReadFault, WriteFault, NoDriver, StartRefused, PollFault, NoMemory, Limit}
+use Rattle.run_report.specs.declared.report.Report.{Report}
+use Rattle.run_report.specs.Report.{text_of}
+use Rattle.script_input.specs.declared.input.InputFault.{InputFault}
+use Rattle.script_input.specs.declared.input.InputFault.TheVariants as input
+use Rattle.script_input.specs.declared.input.RunWrites.{RunWrites}
+use Rattle.script_input.specs.Files.{FilesView, NothingRead}
+use Rattle.script_input.specs.Words.{Asked}
+use Rattle.script_plan.specs.declared.decl.PortDecl.{PortDecl}
+use Rattle.script_plan.specs.Plan.{Plan}
+use Rattle.script_run.specs.declared.running.RunFault.{RunFault}
+use Rattle.script_run.specs.declared.running.RunFault.TheVariants as ran
+use Rattle.gateway.specs.Run.{PlanFound}
+use Rattle.gateway.specs.Causes.{IsNoScript, ScriptUnread, ScriptOver, StepUnread, StepOver}
+
+-- the cause of a run for which not all was read
+abbrev pub input_cause : InputFault → Cause
+input_cause (input.Script fault) = Script fault
+input_cause (input.ReadFault line) = ReadFault line
+input_cause (input.Limit line) = Limit line
+input_cause input.NoMemory = NoMemory
+
+-- the cause of a run that wasn't made
+abbrev pub run_cause : RunFault → Cause
+run_cause (ran.NoDriver line handed) = NoDriver line handed
+run_cause (ran.StartRefused line refusal) = StartRefused line refusal
+run_cause ran.PollFault = PollFault
+run_cause ran.NoMemory = NoMemory
+
+module _ {D : Type 0} (kind : D → Kind) (stage : D → Life) (faults : D → ℕ) where
+  -- why not each port has a driver
+  abbrev pub DriversEnd : List PortDecl → List (Hosted D) → Cause → Type 0
+  DriversEnd ports hosts (NoDriver line handed) = LacksAt kind stage faults ports hosts line handed
+  DriversEnd ports hosts NoMemory = Unit {0}
+  DriversEnd ports hosts cause = ⊥
+
+  -- why there is nothing to run
+  abbrev pub InputEnds : Result Asked ℕ → List (Hosted D) → FilesView → FilesView → Cause → Type 0
+  InputEnds words hosts before after (Usage at) = (words ≡ Err at) × NothingRead before after
+  InputEnds words hosts before after (Script fault) = IsNoScript words before after fault
+  InputEnds words hosts before after (ReadFault line) = ((line ≡ 0) × ScriptUnread words before after) ⊎ StepUnread words before after line
+  InputEnds words hosts before after (NoDriver line handed) = (plan : Plan) × PlanFound words before after plan × LacksAt kind stage faults plan.ports hosts line handed
+  InputEnds words hosts before after NoMemory = after.reads ≡ before.reads
+  InputEnds words hosts before after (Limit line) = ((line ≡ 0) × ScriptOver words before after) ⊎ StepOver words before after line
+  InputEnds words hosts before after cause = ⊥
+
+-- how this report was written, and whether it is there
+abbrev pub WriteEnds : RunWrites → Report → FilesView → FilesView → SinkView → SinkView → Cause → Option Report → Type 0
+WriteEnds writes report files files' sink sink' Done told = (told ≡ Some report) × OutputEnds (writes_of writes report) (text_of report) files files' sink sink' (Ok tt)
+WriteEnds writes report files files' sink sink' WriteFault told =
+    (told ≡ Some report) × OutputEnds (writes_of writes report) (text_of report) files files' sink sink' (Err output.WriteFault)
+WriteEnds writes report files files' sink sink' NoMemory told = (told ≡ None)
+    × (((files' ≡ files) × (sink' ≡ sink)) ⊎ OutputEnds (writes_of writes report) (text_of report) files files' sink sink' (Err output.NoMemory))
+WriteEnds writes report files files' sink sink' cause told = ⊥

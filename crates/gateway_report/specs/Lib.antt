@@ -1,6 +1,0 @@
-pub mod Count
-pub mod End
-pub mod Sums
-pub mod Saved
-pub mod Report
-pub mod Cause

@@ -1,4 +1,0 @@
-pub mod Flags
-pub mod Monitors
-pub mod Views
-pub mod Receivers

@@ -1,7 +1,0 @@
-use Rattle.std.proofs.Common.{◌≡◌, drop}
-use Rattle.driver_entry.specs.Mail.{answer_of}
-use Rattle.port_engine.proofs.posting.answer_of.Given as goal
-
--- the effects so far hold no answer
-abbrev pub invariant-loop-effect : goal.invariant-loop-effect
-invariant-loop-effect l = answer_of (drop l.effect-index l.effects) ≡ answer_of l.effects

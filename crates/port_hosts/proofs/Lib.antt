@@ -1,4 +1,0 @@
-pub mod Counts
-pub mod Ranks
-pub mod Returning
-pub mod Openings

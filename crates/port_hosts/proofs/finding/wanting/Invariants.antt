@@ -1,8 +1,0 @@
-use Rattle.std.proofs.Common.{◌≡◌, ◌≤◌, take}
-use Rattle.std.specs.Prelude.{count_by}
-use Rattle.std.specs.Str.{bytes_eq}
-use Rattle.port_hosts.proofs.finding.wanting.Given as goal
-
--- how many so far want a driver of the name
-abbrev pub invariant-loop-port : goal.invariant-loop-port
-invariant-loop-port l = (l.count ≡ count_by (λ w. bytes_eq w.driver l.name) (take l.port-index l.ports)) × (l.count ≤ l.port-index)

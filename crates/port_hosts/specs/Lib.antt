@@ -1,4 +1,0 @@
-pub mod Hosts
-pub mod Finding
-pub mod Opening
-pub mod Back

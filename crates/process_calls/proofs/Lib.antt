@@ -1,4 +1,0 @@
-pub mod Shown
-pub mod Gave
-pub mod Places
-pub mod Taken

@@ -1,4 +1,0 @@
-pub mod Asks
-pub mod Mails
-pub mod Rounds
-pub mod Running

@@ -1,0 +1,78 @@
+-- How what a run left is written, and why not.
+use Rattle.std.specs.Prelude.{◌≡◌, ◌≢◌, ℕ, ◌⊎◌, List, ◌++◌, All, Option, Some, None, Result, Ok, Err, IsSomeAnd}
+use Rattle.std.specs.Option.{option_map}
+use Rattle.outside.specs.Causes.{Told, Rose}
+use Rattle.outside.specs.Log.{NamedBytes}
+use Rattle.script_input.specs.Files.{FilesView}
+use Rattle.run_output.specs.declared.writing.OutputFault.{OutputFault}
+use Rattle.run_output.specs.declared.writing.OutputFault.TheVariants.{WriteFault, NoMemory}
+
+-- what a sink shows: what was written, where it tells it, the bytes that it took, and how many puts failed
+pub record SinkView : Type 0 where
+  pub written : Option (List ℕ)
+  pub took : List ℕ
+  pub faults : ℕ
+
+abbrev pub sink_view : {K : Type 0} → (K → Option (List ℕ)) → (K → List ℕ) → (K → ℕ) → K → SinkView
+sink_view written took faults sink = record { written = written sink; took = took sink; faults = faults sink }
+
+-- what is told of every name that none of these writes has stays, and whether the files tell stays too
+abbrev pub OthersStay : Told → Told → List NamedBytes → Type 0
+OthersStay None new all = new ≡ None
+OthersStay (Some files) new all = IsSomeAnd new (λ files'. (other : List ℕ) → All (λ w. other ≢ w.name) all → files' other ≡ files other)
+
+-- nothing was read, and no file was touched but by these writes
+pub record TouchesOnly (all : List NamedBytes) (old new : FilesView) : Type 0 where
+  pub answered : new.answered ≡ old.answered
+  pub reads : new.reads ≡ old.reads
+  pub others : OthersStay old.told new.told all
+
+-- these writes answered, in this order, and none failed
+pub record WroteAll (all : List NamedBytes) (old new : FilesView) : Type 0 where
+  pub touches : TouchesOnly all old new
+  pub wrote : new.wrote ≡ old.wrote ++ all
+  pub faults : new.writes ≡ old.writes
+
+-- the first of these writes answered, and no other
+pub record WroteFront (all : List NamedBytes) (old new : FilesView) : Type 0 where
+  pub touches : TouchesOnly all old new
+  pub front : List NamedBytes
+  pub rest : List NamedBytes
+  pub of_all : all ≡ front ++ rest
+  pub wrote : new.wrote ≡ old.wrote ++ front
+
+-- how these writes end: all were made, one failed, or memory was wanting
+abbrev pub FilesEnd : List NamedBytes → FilesView → FilesView → Result (Unit {0}) OutputFault → Type 0
+FilesEnd all old new (Ok _) = WroteAll all old new
+FilesEnd all old new (Err WriteFault) = WroteFront all old new × Rose old.writes new.writes
+FilesEnd all old new (Err NoMemory) = WroteFront all old new × (new.writes ≡ old.writes)
+
+-- the sink took this text, and no put failed
+pub record TookText (old new : SinkView) (text : List ℕ) : Type 0 where
+  pub took : new.took ≡ old.took ++ text
+  pub written : new.written ≡ option_map (λ written. written ++ text) old.written
+  pub faults : new.faults ≡ old.faults
+
+-- a part of this text was written, from its front
+abbrev pub WrotePart : Option (List ℕ) → Option (List ℕ) → List ℕ → Type 0
+WrotePart None new text = new ≡ None
+WrotePart (Some old) new text = (part : List ℕ) × (rest : List ℕ) × (text ≡ part ++ rest) × (new ≡ Some (old ++ part))
+
+-- the put of this text failed
+pub record PutFailed (old new : SinkView) (text : List ℕ) : Type 0 where
+  pub took : new.took ≡ old.took
+  pub written : WrotePart old.written new.written text
+  pub rose : Rose old.faults new.faults
+
+-- how the put of this text ends: the sink took it, failed, or memory was wanting before
+abbrev pub TextEnds : List ℕ → SinkView → SinkView → Result (Unit {0}) OutputFault → Type 0
+TextEnds text old new (Ok _) = TookText old new text
+TextEnds text old new (Err WriteFault) = PutFailed old new text
+TextEnds text old new (Err NoMemory) = new ≡ old
+
+-- how these writes and the put of this text behind them end: all was written; a write failed, and then the sink is as it was, or the put did; or memory was wanting
+abbrev pub OutputEnds : List NamedBytes → List ℕ → FilesView → FilesView → SinkView → SinkView → Result (Unit {0}) OutputFault → Type 0
+OutputEnds all text files files' sink sink' (Ok _) = WroteAll all files files' × TookText sink sink' text
+OutputEnds all text files files' sink sink' (Err WriteFault) =
+    (FilesEnd all files files' (Err WriteFault) × (sink' ≡ sink)) ⊎ (WroteAll all files files' × PutFailed sink sink' text)
+OutputEnds all text files files' sink sink' (Err NoMemory) = FilesEnd all files files' (Err NoMemory) × (sink' ≡ sink)

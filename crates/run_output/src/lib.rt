@@ -1,0 +1,8 @@
+//! What a run left becomes its report, and is written: the data that is saved, the journal, and the text of the report.
+#![tactic(auto)]
+
+mod reporting;
+mod writing;
+
+pub use reporting::report_of;
+pub use writing::{OutputFault, write_output};

@@ -1,0 +1,28 @@
+-- What each process of a script does.
+use Rattle.std.specs.Prelude.{◌≡◌, ℕ, ◌<◌, ◌==◌, List, length, map, filter, is_some, slice_index_or}
+use Rattle.std.specs.List.{zip}
+use Rattle.script_plan.specs.declared.step.Step.{Step}
+use Rattle.run_seats.specs.declared.plans.Program.{Program}
+use Rattle.script_input.specs.Contents.{file_of}
+
+-- the steps of a process, in their order
+abbrev pub steps_of : ℕ → List Step → List Step
+steps_of process steps = filter (λ s. s.process == process) steps
+
+-- the steps that send a file
+abbrev pub sending : List Step → List Step
+sending steps = filter (λ s. is_some (file_of s.act)) steps
+
+-- the contents of the files that the process sends, in the order of its steps, where these are the contents of all that are sent
+abbrev pub files_of : ℕ → List Step → List (List ℕ) → List (List ℕ)
+files_of process steps contents = map (λ p. p.1) (filter (λ p. p.0.process == process) (zip (sending steps) contents))
+
+-- the program is that of this process
+pub record IsProgramOf (steps : List Step) (contents : List (List ℕ)) (process : ℕ) (program : Program) : Type 0 where
+  pub steps_are : program.steps.items ≡ steps_of process steps
+  pub files_are : program.files.items ≡ files_of process steps contents
+
+-- there is a program for each of so many processes
+pub record AreProgramsOf (processes : ℕ) (steps : List Step) (contents : List (List ℕ)) (programs : List Program) : Type 0 where
+  pub many : length programs ≡ processes
+  pub each : (process : ℕ) (p : Program) → process < processes → IsProgramOf steps contents process (slice_index_or programs process p)

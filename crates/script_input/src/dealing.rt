@@ -1,0 +1,73 @@
+ghost use Rattle.std.specs.Prelude.{◌≡◌, ◌<◌, ◌≤◌, ◌++◌, [], ◌∷◌, All, IfOk, OnOk, is_some, length, true, ◌+◌};
+ghost use Rattle.std.specs.Vec.Iter.{into_iter_items, into_iter_len};
+ghost use Rattle.std.specs.Option.{option_to_list};
+ghost use Rattle.script_input.specs.Contents.{file_of};
+ghost use Rattle.script_input.specs.Programs.{sending, AreProgramsOf};
+
+use io_vector::Piece;
+use no_memory::NoMemory;
+use run_lanes::next_of;
+use run_seats::Program;
+use script_plan::{Act, Step};
+use std::alloc::Global;
+use std::collections::VecDeque;
+use std::vec::IntoIter;
+
+/// So many processes that do nothing.
+fn idle_programs(alloc: Global, processes: usize) -> Result<Vec<Program>, NoMemory>
+    ensures { IfOk result (λ programs. AreProgramsOf processes [] [] programs.items) }
+{
+    let mut programs = Vec::new(alloc);
+    for _process in 0..processes {
+        programs.push(Program {
+            steps: VecDeque::new(alloc),
+            files: VecDeque::new(alloc),
+        })?;
+    }
+    Ok(programs)
+}
+
+/// The content of the file that a step sends, if it sends one: the next of what is left.
+fn next_content(step: &Step, contents: &mut IntoIter<Piece>) -> Option<Piece>
+    requires { is_some (file_of step.now.act) ≡ true → 0 < into_iter_len contents.old }
+    ensures content { into_iter_items contents.old ≡ option_to_list result ++ into_iter_items contents.new }
+    ensures len { into_iter_len contents.old ≡ length (option_to_list result) + into_iter_len contents.new }
+    ensures sends { is_some result ≡ is_some (file_of step.now.act) }
+{
+    match step.act {
+        Act::File { .. } => Some(next_of(contents)),
+        _ => None,
+    }
+}
+
+/// One more step of a process, with the content of the file that it sends.
+fn add_step(program: &mut Program, step: Step, content: Option<Piece>) -> Result<(), NoMemory>
+    ensures steps { OnOk result (program.new.steps.items ≡ program.old.steps.items ++ step ∷ []) }
+    ensures files { OnOk result (program.new.files.items ≡ program.old.files.items ++ option_to_list content) }
+{
+    if let Some(content) = content {
+        program.files.push_back(content)?;
+    }
+    program.steps.push_back(step)?;
+    Ok(())
+}
+
+/// The programs of so many processes, by the steps of all and the contents of the files that they send, each in the order of the script.
+pub(crate) fn deal_steps(
+    alloc: Global,
+    processes: usize,
+    steps: Vec<Step>,
+    contents: Vec<Piece>,
+) -> Result<Vec<Program>, NoMemory>
+    requires senders { All (λ s. s.process < processes) steps.items }
+    requires many { length contents.items ≡ length (sending steps.items) }
+    ensures { IfOk result (λ programs. AreProgramsOf processes steps.items contents.items programs.items) }
+{
+    let mut programs = idle_programs(alloc, processes)?;
+    let mut contents = contents.into_iter();
+    for step in steps {
+        let content = next_content(&step, &mut contents);
+        add_step(&mut programs[step.process as usize], step, content)?;
+    }
+    Ok(programs)
+}

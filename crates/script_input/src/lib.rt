@@ -1,0 +1,16 @@
+//! What a run needs before it begins: the words that ask for it, the script, and the files that the script's steps send.
+#![tactic(auto)]
+
+mod dealing;
+mod input;
+mod loading;
+mod naming;
+mod reading;
+mod words;
+
+pub use input::{InputFault, PortName, RunInput, RunNames, RunWrites};
+pub use loading::load_programs;
+pub use reading::read_run_script;
+pub use run_seats::Program;
+pub use run_setting::RunScript;
+pub use words::{RunWords, run_words};

@@ -1,6 +1,0 @@
-pub mod Kept
-pub mod Numbers
-pub mod SoFar
-pub mod Found
-pub mod Again
-pub mod Shallow
