@@ -3,42 +3,60 @@
 #
 #     name n total_us ns_each growth
 #
-# where n counts parts (tuples, segments, bytes or commands), and growth is in percent of the row before, which has half as many parts.
-# `bench/run.sh NAME [N]` makes one work alone; the names are those that `bench/run.sh` prints. Nothing checks a figure.
+# where n counts parts (tuples, segments, bytes or commands), and growth is in percent of the row before, which has half as many parts. Nothing checks
+# a figure.
 #
-# Of the rows of `body_echo`, `body_waits` and `body_freed` the second has eight times as many parts as the first.
+# `bench/run.sh` makes all works, and `bench/run.sh NAME [N]` one alone, with N parts in its first row. The names are
 #
-# The rows of `bench/run.sh schedulers` are of 1, 2 and 4 schedulers, each of as many commands, and have more words at their end. The row of
-# `bench/run.sh schedulers_idle` has its own form. crates/port_bench/src/main.rt tells both.
+#     terms_encode terms_decode                                     terms: a list of so many tuples
+#     vector_skip queue_deq queue_pushq                             vectors and driver queues of so many segments
+#     unframe_packets unframe_lines unframe_stream                  so many bytes are unframed, in large chunks; with `_bytewise` behind
+#                                                                   the name byte by byte
+#     script_read                                                   a script of so many bytes is read
+#     body_echo body_waits body_freed                               the body of a port on one thread; the second row has eight times as
+#                                                                   many parts as the first
+#     schedulers schedulers_idle                                    schedulers under a load, and with nothing to do for N milliseconds
+#     program_cat                                                   bytes through `cat`, and then, as cat_alone, what `cat` takes by itself
+#     gateway_run                                                   whole runs of the program
+#
+# The rows of `schedulers` are of 1, 2 and 4 schedulers, each of as many commands, and have more words at their end. The row of `schedulers_idle` has its
+# own form. crates/port_bench/src/main.rt tells both.
+#
+# `bench/run.sh gateway_run N SCHEDULERS WORKERS` hands the last two on to the program; without them it has its own numbers, 4 and 2. The program is `./gateway`,
+# or the one that the variable GATEWAY names: a gate leaves one in crates/gateway_cli/out/gateway_cli. A time of `./gateway` has in it its look for newer sources.
 set -u
 here=$(cd "$(dirname "$0")/.." && pwd)
+program=${GATEWAY:-$here/gateway}
 
-# A script of so many commands of 8 bytes.
+# A script of so many commands of 8 bytes. Its process is never suspended, and waits for all that comes back.
 write_script() {
-    printf 'process a\nport p a echo\n'
+    printf 'process a\nport p a echo msgq off\n'
     for ((i = 0; i < $1; i++)); do printf 'a command p "abcdefgh"\n'; done
+    printf 'a expect p %d\n' "$1"
 }
 
-# The best time of five runs of a script, in microseconds.
+# The best time of five runs of a script with these further words, in microseconds.
 best_run() {
     local best='' from to
     for _ in 1 2 3 4 5; do
         from=$(date +%s%N)
-        "$here/gateway" run "$1" >/dev/null || return 1
+        "$program" run "$@" >/dev/null || return 1
         to=$(date +%s%N)
         if [ -z "$best" ] || [ $(((to - from) / 1000)) -lt "$best" ]; then best=$(((to - from) / 1000)); fi
     done
     echo "$best"
 }
 
-# Whole runs of the program, from its start to its end, with so many commands and two, four and eight times as many.
+# Whole runs of the program, from its start to its end, with so many commands and two, four and eight times as many, and with these further words.
 time_program() (
     before=''
+    first=$1
+    shift
     folder=$(mktemp -d)
     trap 'rm -rf "$folder"' EXIT
-    for count in "$1" $(($1 * 2)) $(($1 * 4)) $(($1 * 8)); do
+    for count in "$first" $((first * 2)) $((first * 4)) $((first * 8)); do
         write_script "$count" >"$folder/script.txt"
-        time=$(best_run "$folder/script.txt") || return 1
+        time=$(best_run "$folder/script.txt" "$@") || return 1
         growth=-
         [ -n "$before" ] && growth=$((time * 100 / before))
         echo "gateway_run $count $time $((time * 1000 / count)) $growth"
@@ -85,9 +103,14 @@ built() {
 }
 
 case "${1:-all}" in
-gateway_run) time_program "${2:-2000}" ;;
+gateway_run) time_program "${2:-2000}" "${@:3}" ;;
 program_cat) built program_bench "${2:-8388608}" && time_cat "${2:-8388608}" ;;
 body_echo | body_waits | body_freed | schedulers | schedulers_idle) built port_bench "$@" ;;
 all) built bench all && built port_bench all && built program_bench 8388608 && time_cat 8388608 && time_program 2000 ;;
-*) built bench "$@" ;;
+terms_encode | terms_decode | vector_skip | queue_deq | queue_pushq | script_read) built bench "$@" ;;
+unframe_packets | unframe_lines | unframe_stream | unframe_packets_bytewise | unframe_lines_bytewise | unframe_stream_bytewise) built bench "$@" ;;
+*)
+    echo "bench/run.sh: no work has the name $1" >&2
+    exit 1
+    ;;
 esac
