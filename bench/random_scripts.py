@@ -3,8 +3,8 @@
 
   bench/random_scripts.py COUNT [SEED]
 
-Each script has up to six processes and six ports, and all steps but those that wait for data and those that send files. It is run with 1, 2, 4 and
-16 schedulers. The reference follows the rows of the journal: docs/PORT_RULES.md has the rules that it knows, docs/JOURNAL.md the text, docs/SCRIPT.md
+Each script has up to six processes and six ports, and all steps but those that wait for data and those that send files. It is run once, with 1, 2, 4
+or 16 schedulers by turns. The reference follows the rows of the journal: docs/PORT_RULES.md has the rules that it knows, docs/JOURNAL.md the text, docs/SCRIPT.md
 the report. The first difference is printed with its script, and the status is then 1.
 """
 import hashlib
