@@ -1,11 +1,12 @@
 #!/usr/bin/env python3
 """Runs the whole gate in this checkout, with what it prints in the file that is named, and prints how many processor seconds each crate took.
 
-  bench/gate_times.py gate.log
+  bench/gate_times.py gate.log [WORD..]
 
-The gate is `rt ci --anew`, which proves and tries all: `rt ci` alone takes what an earlier run on this machine passed as it is, and spends no time on it.
-While it runs, each check of it is looked at once a second: which crate it checks, and whether that is the crate's proof, the proof of its
-tests, or its must-fail edits with the check that they begin with. The table stands behind the gate's last lines; the status is the gate's.
+The gate is `rt ci` with these words. A kit that keeps what an earlier run on this machine passed spends no time on that: there the word `--anew` has it prove and
+try all. Other kits keep nothing, and take no word. While the gate runs, each check of it is looked at once a second: which crate it checks, and whether that is
+the crate's proof, the proof of its tests, or its must-fail edits with the check that they begin with. The table stands behind the gate's last lines; the status
+is the gate's.
 """
 import os
 import subprocess
@@ -60,10 +61,10 @@ def last_lines(log):
     return [line for line in lines[-20:-1] if line.startswith(("rt: ok", "rt: FAILED"))] + lines[-1:]
 
 
-def main(log):
+def main(log, words):
     began, spent = time.time(), {}
     with open(log, "w", encoding="utf-8") as out:
-        gate = subprocess.Popen(["rt", "ci", "--anew"], stdout=out, stderr=subprocess.STDOUT)
+        gate = subprocess.Popen(["rt", "ci", *words], stdout=out, stderr=subprocess.STDOUT)
         while gate.poll() is None:
             for pid, name, part, seconds in checks(gate.pid):
                 spent[pid, name, part] = name, part, seconds
@@ -75,6 +76,6 @@ def main(log):
 
 
 if __name__ == "__main__":
-    if len(sys.argv) != 2:
+    if len(sys.argv) < 2:
         sys.exit(__doc__)
-    sys.exit(main(sys.argv[1]))
+    sys.exit(main(sys.argv[1], sys.argv[2:]))

@@ -1,13 +1,13 @@
 -- What ports and processes have of each other, by what the run was set up with.
 use Rattle.std.proofs.Common.{◌≡◌, ◌<◌, ℕ, List, [], length, map, get_or, sym, ap, ◌∙◌, subst, arith, All}
 use Rattle.std.proofs.lemmas.List.{get_or-map, length-map}
-use Rattle.port_body.specs.Body.{BodyName}
-use Rattle.port_mail.specs.Ends.{MailEnd}
+use Rattle.run_setting.specs.port_body.Body.{BodyName}
+use Rattle.run_end.specs.port_mail.Ends.{MailEnd}
 use Rattle.port_words.specs.busy.Known.{PortKnown, SendKnown, setup_of}
 use Rattle.port_words.specs.declared.busy.view.BusySetup.{BusySetup}
 use Rattle.port_words.specs.declared.busy.view.BusyView.{BusyView}
-use Rattle.process_end.specs.Mailbox.{Mailbox}
-use Rattle.process_end.specs.Views.{ProcView}
+use Rattle.run_end.specs.process_end.Mailbox.{Mailbox}
+use Rattle.run_end.specs.process_end.Views.{ProcView}
 use Rattle.run_end.specs.Mailboxes.{AreMailRows, IsMailEndOf}
 use Rattle.run_end.specs.Ran.{RanProcess}
 use Rattle.run_end.specs.Rows.{AreSeatRows}
@@ -15,12 +15,12 @@ use Rattle.run_end.specs.Tell.{HaveRunWhole}
 use Rattle.run_end.specs.Whole.{HasJoinedNone}
 use Rattle.run_end.proofs.Merges.{first_of}
 use Rattle.run_end.proofs.Tells.{rows_stay, tells}
-use Rattle.run_lanes.specs.declared.parts.PortLanes.{PortLanes}
-use Rattle.run_lanes.specs.declared.parts.ProcessLanes.{ProcessLanes}
-use Rattle.run_lanes.specs.Ends.{made_by, new_end}
-use Rattle.run_lanes.specs.Opened.{HasPort}
-use Rattle.run_opening.specs.Opened.{limits_of}
-use Rattle.run_seats.specs.declared.plans.Program.{Program}
+use Rattle.run_end.specs.run_lanes.declared.parts.PortLanes.{PortLanes}
+use Rattle.run_end.specs.run_lanes.declared.parts.ProcessLanes.{ProcessLanes}
+use Rattle.run_end.specs.run_lanes.Ends.{made_by, new_end}
+use Rattle.run_end.specs.run_lanes.Opened.{HasPort}
+use Rattle.run_setting.specs.run_opening.Opened.{limits_of}
+use Rattle.run_setting.specs.run_seats.declared.plans.Program.{Program}
 use Rattle.run_setting.specs.Jobs.{HaveRunIn, IsSetUp}
 use Rattle.run_setting.specs.Setting.{Setting, IsSetting, AreNamedIn, IsNamedIn}
 use Rattle.script_plan.specs.declared.decl.PortDecl.{PortDecl}

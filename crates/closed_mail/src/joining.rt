@@ -1,5 +1,5 @@
 ghost use Rattle.std.specs.Prelude.{List, map, IfOk};
-ghost use Rattle.port_body.specs.Body.{BodyName};
+ghost use Rattle.run_setting.specs.port_body.Body.{BodyName};
 ghost use Rattle.run_end.specs.Ran.{RanProcess};
 ghost use Rattle.run_setting.specs.Setting.{Setting, IsSetting, AreNamedIn};
 ghost use Rattle.run_setting.specs.Jobs.{HaveRunIn};

@@ -4,11 +4,11 @@ use Rattle.std.specs.Prelude.{reverse, slice_index}
 use Rattle.task_queue.specs.Ends.{Taking}
 use Rattle.driver_model.specs.Calls.{Kind, Own}
 use Rattle.driver_model.specs.Programs.{ToldProgram}
-use Rattle.port_driver.specs.declared.life.Life.{Life}
+use Rattle.driver_hosts.specs.port_driver.declared.life.Life.{Life}
 use Rattle.port_lanes.specs.Keys.{Key}
 use Rattle.port_lanes.specs.Parcels.{ParcelView}
-use Rattle.port_body.specs.Body.{BodyView, name_of}
-use Rattle.port_body.specs.Ends.{IsLeftByCalls}
+use Rattle.driver_hosts.specs.port_body.Body.{BodyView, name_of}
+use Rattle.driver_hosts.specs.port_body.Ends.{IsLeftByCalls}
 use Rattle.driver_hosts.specs.declared.ending.EndedPort.{EndedPort}
 use Rattle.driver_hosts.specs.declared.hosted.Hosted.{Hosted}
 use Rattle.driver_hosts.specs.Returning.{AreReturned, HasLeft, HasReturned, LeaveAll}

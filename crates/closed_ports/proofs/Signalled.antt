@@ -7,8 +7,8 @@ use Rattle.port_lanes.specs.Keys.{Key, EndsAreNumbered, end_of, sender_at}
 use Rattle.port_lanes.specs.Parcels.{ParcelView}
 use Rattle.port_model.specs.declared.row.Row.{Row}
 use Rattle.port_model.specs.declared.signal.Sender.TheVariants.{Process, Timer}
-use Rattle.port_body.specs.Body.{BodyView, name_of}
-use Rattle.port_body.specs.LanePort.{rows_from}
+use Rattle.driver_hosts.specs.port_body.Body.{BodyView, name_of}
+use Rattle.driver_hosts.specs.port_body.LanePort.{rows_from}
 use Rattle.run_end.specs.Tell.{CallsTell}
 use Rattle.run_end.proofs.Tells.{tells}
 use Rattle.settled_ports.specs.Ends.{LaneEnd}

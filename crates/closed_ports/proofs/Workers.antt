@@ -12,10 +12,10 @@ use Rattle.port_model.specs.declared.row.Row.TheVariants.{Handled, Late, Listed,
 use Rattle.port_model.specs.declared.signal.Sender.{Sender}
 use Rattle.port_model.specs.declared.signal.Sender.TheVariants.{Process, Poller, Worker, Timer}
 use Rattle.port_model.specs.Tasks.{TaskView}
-use Rattle.port_body.specs.Body.{BodyView, BodyName, name_of}
-use Rattle.port_body.specs.LanePort.{HasEnd, rows_from, task_from}
+use Rattle.driver_hosts.specs.port_body.Body.{BodyView, BodyName, name_of}
+use Rattle.driver_hosts.specs.port_body.LanePort.{HasEnd, rows_from, task_from}
 use Rattle.driver_hosts.specs.declared.ending.EndedPort.{EndedPort}
-use Rattle.served_port.specs.View.{EndName, end_name, end_names}
+use Rattle.driver_hosts.specs.served_port.View.{EndName, end_name, end_names}
 use Rattle.settled_ports.specs.Ends.{LaneEnd}
 use Rattle.settled_ports.specs.Laws.{RowsAreSent, ends_at}
 use Rattle.settled_ports.specs.Senders.{IsOfAnEnd}

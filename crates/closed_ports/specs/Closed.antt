@@ -2,14 +2,14 @@
 use Rattle.std.specs.Prelude.{◌≡◌, ◌<◌, ℕ, List, length, reverse, All, Option, Some, slice_index, slice_index_or}
 use Rattle.driver_model.specs.Calls.{Kind, Own}
 use Rattle.driver_model.specs.Programs.{ToldProgram}
-use Rattle.port_driver.specs.declared.life.Life.{Life}
+use Rattle.driver_hosts.specs.port_driver.declared.life.Life.{Life}
 use Rattle.port_history.specs.Lawful.{IsFinished}
-use Rattle.port_body.specs.Body.{BodyView, BodyName, name_of}
-use Rattle.port_body.specs.Ends.{IsLeftByCalls, IsSentBy}
+use Rattle.driver_hosts.specs.port_body.Body.{BodyView, BodyName, name_of}
+use Rattle.driver_hosts.specs.port_body.Ends.{IsLeftByCalls, IsSentBy}
 use Rattle.driver_hosts.specs.declared.ending.EndedPort.{EndedPort}
 use Rattle.driver_hosts.specs.declared.hosted.Hosted.{Hosted}
 use Rattle.driver_hosts.specs.Returning.{AreReturned}
-use Rattle.served_port.specs.View.{end_name, end_names}
+use Rattle.driver_hosts.specs.served_port.View.{end_name, end_names}
 use Rattle.settled_ports.specs.Ends.{AreOfBodies, LaneEnd}
 use Rattle.settled_ports.specs.Laws.{AreAllColumns, RowsAreSent, ends_at}
 use Rattle.settled_ports.specs.Senders.{IsOfAnEnd}

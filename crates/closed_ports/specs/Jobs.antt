@@ -2,9 +2,9 @@
 use Rattle.std.specs.Prelude.{◌≡◌, ◌<◌, ◌+◌, ℕ, List, length, reverse, slice_index_or}
 use Rattle.async_jobs.specs.Pool.{PoolEnd}
 use Rattle.port_history.specs.Lawful.{Lawful}
-use Rattle.port_body.specs.Body.{BodyView, BodyName, name_of}
+use Rattle.driver_hosts.specs.port_body.Body.{BodyView, BodyName, name_of}
 use Rattle.driver_hosts.specs.declared.ending.EndedPort.{EndedPort}
-use Rattle.served_port.specs.View.{EndName}
+use Rattle.driver_hosts.specs.served_port.View.{EndName}
 use Rattle.settled_ports.specs.Ends.{LaneEnd}
 use Rattle.settled_ports.specs.Laws.{AreAllColumns}
 use Rattle.told_jobs.specs.Runs.{HasSettled, WorkerRun}

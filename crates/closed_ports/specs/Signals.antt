@@ -1,11 +1,11 @@
 -- What the processes of a run sent to ports that are closed, and what these sent to them.
 use Rattle.std.specs.Prelude.{◌≡◌, ◌<◌, ℕ, List, length, reverse, All, slice_index_or}
-use Rattle.port_mail.specs.Ends.{MailEnd}
+use Rattle.run_end.specs.port_mail.Ends.{MailEnd}
 use Rattle.port_model.specs.declared.signal.Sender.TheVariants.{Process}
 use Rattle.port_history.specs.Mail.{mails}
-use Rattle.process_receipts.specs.Receipts.{accepted}
-use Rattle.port_body.specs.Body.{BodyView, name_of}
-use Rattle.port_body.specs.LanePort.{rows_from}
+use Rattle.run_end.specs.process_receipts.Receipts.{accepted}
+use Rattle.driver_hosts.specs.port_body.Body.{BodyView, name_of}
+use Rattle.driver_hosts.specs.port_body.LanePort.{rows_from}
 use Rattle.driver_hosts.specs.declared.ending.EndedPort.{EndedPort}
 use Rattle.run_end.specs.Ran.{RanProcess, HasRunWhole, calls_made}
 use Rattle.settled_ports.specs.Ends.{LaneEnd}

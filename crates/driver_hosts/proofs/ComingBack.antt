@@ -2,8 +2,8 @@
 use Rattle.std.proofs.Common.{inl, inr, arith, ◌≡◌, ◌≢◌, ℕ, zero, suc, ◌<◌, ◌⊎◌, List, [], ◌∷◌, length, Option, Some, None, refl, subst, sym, ap, ◌∙◌}
 use Rattle.std.specs.Prelude.{All, IsSomeAnd, slice_index, slice_index_or}
 use Rattle.std.proofs.lemmas.Bool.{cases_lt, cases_eq}
-use Rattle.driver_model.specs.Calls.{Kind, Own}
-use Rattle.driver_model.specs.Programs.{ToldProgram}
+use Rattle.port_driver.specs.driver_model.Calls.{Kind, Own}
+use Rattle.port_driver.specs.driver_model.Programs.{ToldProgram}
 use Rattle.port_driver.specs.declared.life.Life.{Life}
 use Rattle.port_driver.specs.declared.life.Life.TheVariants.{Fresh}
 use Rattle.port_driver.specs.declared.life.StartRefusal.{StartRefusal}

@@ -3,8 +3,8 @@ use Rattle.std.proofs.Common.{inl, inr, arith, ◌≡◌, ◌≢◌, ℕ, ◌<�
 use Rattle.std.specs.Prelude.{All, slice_index, slice_index_or, slice_set}
 use Rattle.std.proofs.lemmas.Bool.{cases_lt}
 use Rattle.std.proofs.lemmas.List.{get_or_append_left, get_or_push, get_or_read, get_or-take, get_or-set_same, get_or-set_other, length-set, length_push}
-use Rattle.driver_model.specs.Calls.{Kind, Own}
-use Rattle.driver_model.specs.Programs.{ToldProgram}
+use Rattle.port_driver.specs.driver_model.Calls.{Kind, Own}
+use Rattle.port_driver.specs.driver_model.Programs.{ToldProgram}
 use Rattle.port_driver.specs.declared.life.Life.{Life}
 use Rattle.port_driver.specs.declared.life.StartRefusal.{StartRefusal}
 use Rattle.script_plan.specs.declared.decl.PortDecl.{PortDecl}

@@ -10,8 +10,8 @@ use Rattle.std.proofs.lemmas.Bool.{cases_lt, cases_Bool}
 use Rattle.std.proofs.lemmas.List.{get_or_append_left, get_or_push, get_or_default, get_or_read, length_push}
 use Rattle.std.proofs.lemmas.List.Sums.{count_by_more_yes, count_by_more_no}
 use Rattle.std.proofs.lemmas.Slice.Eq.{bytes_eq-Decides}
-use Rattle.driver_model.specs.Calls.{Kind}
-use Rattle.driver_model.specs.Drivers.{kind_name}
+use Rattle.port_driver.specs.driver_model.Calls.{Kind}
+use Rattle.port_driver.specs.driver_model.Drivers.{kind_name}
 use Rattle.script_plan.specs.declared.decl.PortDecl.{PortDecl}
 use Rattle.driver_hosts.specs.declared.hosted.Hosted.{Hosted}
 use Rattle.driver_hosts.specs.Hosts.{is_named, named_count}

@@ -1,7 +1,7 @@
 -- How the drivers that are handed to a run come back.
 use Rattle.std.specs.Prelude.{◌≡◌, ◌≢◌, ℕ, ◌<◌, ◌≤◌, ◌⊎◌, List, length, Option, Some, None, slice_index, slice_index_or}
-use Rattle.driver_model.specs.Calls.{Kind}
-use Rattle.port_config.specs.declared.config.Config.{Config}
+use Rattle.port_driver.specs.driver_model.Calls.{Kind}
+use Rattle.port_driver.specs.port_config.declared.config.Config.{Config}
 use Rattle.port_driver.specs.Starting.{Refuses}
 use Rattle.port_driver.specs.declared.life.Life.{Life}
 use Rattle.port_driver.specs.declared.life.Life.TheVariants.{Fresh, Stopped}

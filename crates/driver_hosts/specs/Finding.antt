@@ -3,7 +3,7 @@ use Rattle.std.specs.Prelude.{◌≡◌, ◌≢◌, ℕ, ◌<◌, List, length, 
 use Rattle.std.specs.HashMap.{HashMap, get_by}
 use Rattle.std.specs.Str.{bytes_eq}
 use denote.Ref.{Bor}
-use Rattle.driver_model.specs.Calls.{Kind}
+use Rattle.port_driver.specs.driver_model.Calls.{Kind}
 use Rattle.script_plan.specs.declared.decl.PortDecl.{PortDecl}
 use Rattle.driver_hosts.specs.declared.hosted.Hosted.{Hosted}
 use Rattle.driver_hosts.specs.declared.finding.Lacking.{Lacking}

@@ -2,8 +2,8 @@
 use Rattle.std.specs.Prelude.{◌≡◌, ℕ, List, Bool, false, None, count_by, IsSomeAnd}
 use Rattle.std.specs.Option.{option_map_or}
 use Rattle.std.specs.Str.{bytes_eq}
-use Rattle.driver_model.specs.Calls.{Kind}
-use Rattle.driver_model.specs.Drivers.{kind_name}
+use Rattle.port_driver.specs.driver_model.Calls.{Kind}
+use Rattle.port_driver.specs.driver_model.Drivers.{kind_name}
 use Rattle.port_driver.specs.declared.life.Life.{Life}
 use Rattle.port_driver.specs.declared.life.Life.TheVariants.{Fresh}
 use Rattle.driver_hosts.specs.declared.hosted.Hosted.{Hosted}

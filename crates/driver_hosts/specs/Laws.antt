@@ -1,7 +1,7 @@
 -- What follows for all drivers that were handed in.
 use Rattle.std.specs.Prelude.{◌≡◌, ℕ, ◌<◌, List, length, All, Option, slice_index_or}
-use Rattle.driver_model.specs.Calls.{Kind, Own}
-use Rattle.driver_model.specs.Programs.{ToldProgram}
+use Rattle.port_driver.specs.driver_model.Calls.{Kind, Own}
+use Rattle.port_driver.specs.driver_model.Programs.{ToldProgram}
 use Rattle.port_driver.specs.declared.life.Life.{Life}
 use Rattle.port_driver.specs.declared.life.StartRefusal.{StartRefusal}
 use Rattle.script_plan.specs.declared.decl.PortDecl.{PortDecl}

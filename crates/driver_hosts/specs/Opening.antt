@@ -1,10 +1,10 @@
 -- The ports of a script are opened, each with its driver and in its room.
 use Rattle.std.specs.Prelude.{◌≡◌, ◌≢◌, ℕ, ◌<◌, List, length, Some, None, IsSomeAnd, slice_index, slice_index_or}
-use Rattle.driver_model.specs.Calls.{Kind}
-use Rattle.driver_model.specs.Drivers.{refusal_of}
+use Rattle.port_driver.specs.driver_model.Calls.{Kind}
+use Rattle.port_driver.specs.driver_model.Drivers.{refusal_of}
 use Rattle.script_plan.specs.declared.decl.PortDecl.{PortDecl}
-use Rattle.served_port.specs.declared.ends.PortPlace.{PortPlace}
-use Rattle.recorded_port.specs.Openings.{AreUnused}
+use Rattle.port_body.specs.served_port.declared.ends.PortPlace.{PortPlace}
+use Rattle.port_body.specs.recorded_port.Openings.{AreUnused}
 use Rattle.port_body.specs.Body.{BodyView}
 use Rattle.port_body.specs.Openings.{FitsPlace, IsOpenedBody}
 use Rattle.driver_hosts.specs.declared.hosted.Hosted.{Hosted}

@@ -1,10 +1,10 @@
 -- The ports have ended, and their drivers are back.
 use Rattle.std.specs.Prelude.{◌≡◌, ◌≢◌, ℕ, ◌<◌, ◌≤◌, List, length, reverse, true, false, Option, Some, slice_index, slice_index_or}
-use Rattle.driver_model.specs.Calls.{Kind, Own}
-use Rattle.driver_model.specs.Programs.{ToldProgram}
+use Rattle.port_driver.specs.driver_model.Calls.{Kind, Own}
+use Rattle.port_driver.specs.driver_model.Programs.{ToldProgram}
 use Rattle.port_driver.specs.declared.life.Life.{Life}
 use Rattle.port_driver.specs.declared.life.Life.TheVariants.{Stopped}
-use Rattle.served_port.specs.View.{end_name, end_names}
+use Rattle.port_body.specs.served_port.View.{end_name, end_names}
 use Rattle.port_body.specs.Body.{BodyView, name_of}
 use Rattle.port_body.specs.Ends.{IsEndOf, IsLeftByCalls, IsWholeEnd}
 use Rattle.driver_hosts.specs.declared.ending.EndedPort.{EndedPort}

@@ -3,10 +3,9 @@ ghost use Rattle.std.specs.Prelude.{◌≡◌, ◌<◌, ◌≢◌, ◌++◌, ◌
 ghost use Rattle.driver_hosts.specs.Returning.{AreReturned, HasReturned, HasLeft, LeaveAll};
 
 use crate::{Driver, Hosted, NoMemory, PortOutlets};
-use port_body::{Body, BodyEnd, Parcel};
+use port_body::{Body, BodyEnd, Parcel, PortEnd};
 use port_driver::Config;
 use port_model::Journal;
-use recorded_port::PortEnd;
 use std::alloc::Global;
 use task_queue::TakeEnd;
 

@@ -5,10 +5,8 @@ ghost use Rattle.driver_hosts.specs.Hosts.{IsUnused};
 ghost use Rattle.driver_hosts.specs.Opening.{AreOpened, Fit, FitsPort, HasOpened, IsUnopened, Starts};
 
 use crate::{Driver, Hosted, PortDecl, PortRoom, take_back};
-use port_body::{Body, BodyParts};
+use port_body::{Body, BodyParts, PortParts, PortPlace};
 use port_driver::StartRefusal;
-use recorded_port::PortParts;
-use served_port::PortPlace;
 use std::alloc::Global;
 use std::sync::Wait;
 

@@ -1,4 +1,4 @@
-use recorded_port::{Parcel, PortOutlets};
+use port_body::{Parcel, PortOutlets};
 use task_queue::TakeEnd;
 
 /// Where a port of a run with so many processes and workers takes its tasks from, and where it puts what it sends and what it marks.

@@ -5,7 +5,7 @@ use Rattle.std.proofs.lemmas.List.Elements.{All-head, All-tail}
 use Rattle.outside.specs.Causes.{Rose}
 use Rattle.ready_select.specs.declared.ask.Polled.TheVariants as polled
 use Rattle.ready_select.specs.Polling.{Poller, IsRound}
-use Rattle.run_jobs.specs.Rounds.{FoundRound, WasRound, RoundsTo, EndsWith}
+use Rattle.run_seats.specs.run_jobs.Rounds.{FoundRound, WasRound, RoundsTo, EndsWith}
 
 -- rounds that waited once leave it as it was
 waits_keep : (rounds : List FoundRound) (old new : Poller) → RoundsTo old rounds new → All WasRound rounds → new.faults ≡ old.faults

@@ -10,11 +10,11 @@ use Rattle.process_job.specs.declared.job.ProcessJob.{ProcessJob}
 use Rattle.process_job.specs.declared.job.ProcessWork.{ProcessWork}
 use Rattle.process_job.specs.Jobs.{CanMakeSteps, CanRun, EndsAs, HasRun, IsFreshProcess, IsWorkOf}
 use Rattle.process_job.specs.Steps.{HasRunToEnd}
-use Rattle.run_end.specs.Ran.{HasRunWhole}
-use Rattle.run_jobs.specs.declared.worker.WorkerEnd.TheVariants.{Finished}
-use Rattle.run_jobs.specs.declared.worker.WorkerJob.{WorkerJob}
-use Rattle.run_jobs.specs.Working.{HasWorked, WorksTo}
-use Rattle.run_lanes.specs.declared.parts.WorkerLanes.{WorkerLanes}
+use Rattle.run_setting.specs.run_end.Ran.{HasRunWhole}
+use Rattle.run_seats.specs.run_jobs.declared.worker.WorkerEnd.TheVariants.{Finished}
+use Rattle.run_seats.specs.run_jobs.declared.worker.WorkerJob.{WorkerJob}
+use Rattle.run_seats.specs.run_jobs.Working.{HasWorked, WorksTo}
+use Rattle.run_seats.specs.run_lanes.declared.parts.WorkerLanes.{WorkerLanes}
 use Rattle.run_seats.specs.declared.plans.ProcessPlan.{ProcessPlan}
 use Rattle.run_seats.specs.Dealt.{AreDealtProcesses, AreDealtWorkers, IsDealtProcess, IsDealtWorker, proc_of}
 use Rattle.run_seats.proofs.Whole.{was-of}

@@ -3,15 +3,15 @@ use Rattle.std.proofs.Common.{◌≡◌, ℕ, List, Some, [], option_map, refl, 
 use Rattle.std.proofs.lemmas.Option.{same_Some}
 use Rattle.port_sched.specs.declared.body.PortBody.{Ghosts}
 use Rattle.ready_select.specs.declared.ask.PollAsk.TheVariants as ask
-use Rattle.run_jobs.specs.declared.finish.FinishEnd.TheVariants.{Told}
-use Rattle.run_jobs.specs.declared.finish.FinishJob.{FinishJob}
-use Rattle.run_jobs.specs.declared.poller.PollerEnd.{PollerEnd}
-use Rattle.run_jobs.specs.declared.poller.PollerEnd.TheVariants as poller
-use Rattle.run_jobs.specs.declared.poller.PollerJob.{PollerJob}
-use Rattle.run_jobs.specs.Finishing.{HasToldEnd, SendsOne, TellsBy, TellsWorkers}
-use Rattle.run_jobs.specs.Rounds.{HasPolled, PollsTo, poller_of}
-use Rattle.run_lanes.specs.declared.parts.FinishEnds.{FinishEnds}
-use Rattle.run_lanes.specs.declared.parts.PollerLanes.{PollerLanes}
+use Rattle.run_seats.specs.run_jobs.declared.finish.FinishEnd.TheVariants.{Told}
+use Rattle.run_seats.specs.run_jobs.declared.finish.FinishJob.{FinishJob}
+use Rattle.run_seats.specs.run_jobs.declared.poller.PollerEnd.{PollerEnd}
+use Rattle.run_seats.specs.run_jobs.declared.poller.PollerEnd.TheVariants as poller
+use Rattle.run_seats.specs.run_jobs.declared.poller.PollerJob.{PollerJob}
+use Rattle.run_seats.specs.run_jobs.Finishing.{HasToldEnd, SendsOne, TellsBy, TellsWorkers}
+use Rattle.run_seats.specs.run_jobs.Rounds.{HasPolled, PollsTo, poller_of}
+use Rattle.run_seats.specs.run_lanes.declared.parts.FinishEnds.{FinishEnds}
+use Rattle.run_seats.specs.run_lanes.declared.parts.PollerLanes.{PollerLanes}
 use Rattle.run_seats.specs.Seated.{IsDealtFinish, IsDealtPoller}
 use Rattle.threaded_jobs.specs.declared.ended.Stop.{Stop}
 use Rattle.threaded_jobs.specs.declared.ended.Stop.TheVariants.{PollFault, NoMemory}

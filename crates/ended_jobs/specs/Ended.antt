@@ -1,15 +1,15 @@
 -- What a seated run leaves once all its jobs have ended.
 use Rattle.std.specs.Prelude.{◌≡◌, ◌<◌, ℕ, List, [], length, slice_index_or}
 use Rattle.outside.specs.Causes.{Rose}
-use Rattle.run_end.specs.Ran.{RanProcess, HasRunWhole}
-use Rattle.run_jobs.specs.declared.finish.FinishEnd.TheVariants.{Told}
-use Rattle.run_jobs.specs.declared.poller.PollerEnd.TheVariants as poller
-use Rattle.run_jobs.specs.Finishing.{SendsOne, TellsWorkers}
-use Rattle.run_jobs.specs.Rounds.{PollsTo, poller_of}
+use Rattle.run_setting.specs.run_end.Ran.{RanProcess, HasRunWhole}
+use Rattle.run_seats.specs.run_jobs.declared.finish.FinishEnd.TheVariants.{Told}
+use Rattle.run_seats.specs.run_jobs.declared.poller.PollerEnd.TheVariants as poller
+use Rattle.run_seats.specs.run_jobs.Finishing.{SendsOne, TellsWorkers}
+use Rattle.run_seats.specs.run_jobs.Rounds.{PollsTo, poller_of}
 use Rattle.ready_select.specs.declared.ask.PollAsk.TheVariants as ask
-use Rattle.run_lanes.specs.declared.parts.FinishEnds.{FinishEnds}
-use Rattle.run_lanes.specs.declared.parts.PollerLanes.{PollerLanes}
-use Rattle.run_lanes.specs.declared.parts.WorkerLanes.{WorkerLanes}
+use Rattle.run_seats.specs.run_lanes.declared.parts.FinishEnds.{FinishEnds}
+use Rattle.run_seats.specs.run_lanes.declared.parts.PollerLanes.{PollerLanes}
+use Rattle.run_seats.specs.run_lanes.declared.parts.WorkerLanes.{WorkerLanes}
 use Rattle.process_job.specs.declared.job.EndedProcess.{EndedProcess}
 use Rattle.threaded_jobs.specs.declared.ended.EndedJobs.{EndedJobs}
 use Rattle.threaded_jobs.specs.declared.ended.Stop.{Stop}

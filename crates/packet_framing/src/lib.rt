@@ -16,7 +16,7 @@ mod sent;
 mod unframer;
 
 pub use fault::{FrameFault, UnframeFault};
-pub use io_vector::Flag;
+pub use io_vector::{Flag, Piece};
 pub use message::Message;
 pub use mode::Mode;
 pub use sent::frame;

@@ -10,12 +10,12 @@ use Rattle.port_lanes.specs.Parcels.{ParcelView}
 use Rattle.port_model.specs.declared.signal.Sender.TheVariants.{Process, Timer}
 use Rattle.port_model.specs.Tasks.{TaskView}
 use Rattle.std.proofs.lemmas.Bool.{le-leb}
-use Rattle.port_links.specs.Table.{IsAmong}
+use Rattle.port_state.specs.port_links.Table.{IsAmong}
 use Rattle.port_model.specs.declared.row.Row.TheVariants.{Listed}
-use Rattle.port_history.specs.Laws.{count_of}
-use Rattle.port_history.specs.Opening.{same_sender}
-use Rattle.port_history.specs.State.{state}
-use Rattle.port_history.specs.Suspension.{Entry, entry, same_entry, has_entry}
+use Rattle.port_events.specs.port_history.Laws.{count_of}
+use Rattle.port_events.specs.port_history.Opening.{same_sender}
+use Rattle.port_events.specs.port_history.State.{state}
+use Rattle.port_events.specs.port_history.Suspension.{Entry, entry, same_entry, has_entry}
 use Rattle.recorded_port.specs.View.{RecordedView, IsSettled, state_of}
 use Rattle.recorded_port.specs.Taking.{IsSameRecorded}
 use Rattle.recorded_port.specs.Resuming.{MayList}

@@ -2,16 +2,16 @@
 use Rattle.std.proofs.Common.{◌≡◌, ◌||◌, ℕ, Bool, true, false, List, [], ◌∷◌, ◌++◌, Option, Some, None, IfSome, refl, ap, ◌∙◌}
 use Rattle.std.specs.List.{AllByRecursion}
 use Rattle.std.specs.Prelude.{if◌then◌else◌}
-use Rattle.driver_model.specs.Calls as driver
-use Rattle.driver_model.specs.Calls.{Callback, DriverCall, Kind, Own, call_of}
-use Rattle.driver_model.specs.Drivers.{holds, own_of, read_event_of, write_event_of}
-use Rattle.driver_model.specs.Programs.{Tells, ToldProgram}
-use Rattle.driver_model.specs.Spawn.{read_after, read_event, write_after, write_event}
-use Rattle.port_config.specs.declared.config.Config.{Config}
-use Rattle.port_history.specs.Opening.{Opening, Taken, is_process, taken_of}
-use Rattle.port_history.specs.Service.{calls_by, callback_of, caller_of, exit_callback, flush_calls, is_drained, stop_calls}
-use Rattle.port_history.specs.State.{State, closing_reason, flushed_calls, row_calls, signal_calls, start_call, state, stops}
-use Rattle.port_history.specs.Ties.{Ties}
+use Rattle.port_driver.specs.driver_model.Calls as driver
+use Rattle.port_driver.specs.driver_model.Calls.{Callback, DriverCall, Kind, Own, call_of}
+use Rattle.port_driver.specs.driver_model.Drivers.{holds, own_of, read_event_of, write_event_of}
+use Rattle.port_driver.specs.driver_model.Programs.{Tells, ToldProgram}
+use Rattle.port_driver.specs.driver_model.Spawn.{read_after, read_event, write_after, write_event}
+use Rattle.port_driver.specs.port_config.declared.config.Config.{Config}
+use Rattle.port_events.specs.port_history.Opening.{Opening, Taken, is_process, taken_of}
+use Rattle.port_events.specs.port_history.Service.{calls_by, callback_of, caller_of, exit_callback, flush_calls, is_drained, stop_calls}
+use Rattle.port_events.specs.port_history.State.{State, closing_reason, flushed_calls, row_calls, signal_calls, start_call, state, stops}
+use Rattle.port_events.specs.port_history.Ties.{Ties}
 use Rattle.port_model.specs.declared.event.Dir.TheVariants.{Read, Write}
 use Rattle.port_model.specs.declared.row.Row.{Row}
 use Rattle.port_model.specs.declared.row.Row.TheVariants.{Handled, Late, Listed, Resumed, Mark}
@@ -19,8 +19,8 @@ use Rattle.port_model.specs.declared.signal.Sender.{Sender}
 use Rattle.port_model.specs.declared.signal.Sender.TheVariants.{Process, Poller, Worker, Timer}
 use Rattle.port_model.specs.declared.signal.Signal.{Signal}
 use Rattle.port_model.specs.declared.signal.Signal.TheVariants as signal
-use Rattle.port_signal.specs.Links.{has}
-use Rattle.port_signal.specs.Reasons.{is_kill}
+use Rattle.port_model.specs.port_signal.Links.{has}
+use Rattle.port_model.specs.port_signal.Reasons.{is_kill}
 use Rattle.recorded_port.specs.View.{HasEvents}
 use Rattle.port_body.specs.Ends.{IsLeftByCalls}
 use Rattle.port_body.proofs.Holding.{all-append}

@@ -6,7 +6,7 @@ use Rattle.std.proofs.lemmas.List.{reverse-append}
 use Rattle.port_model.specs.declared.event.Dir.{Dir}
 use Rattle.port_model.specs.declared.event.Dir.TheVariants.{Read, Write}
 use Rattle.port_model.specs.declared.effect.Effect.{Effect}
-use Rattle.port_signal.specs.declared.row.Outside.{Outside}
+use Rattle.port_model.specs.port_signal.declared.row.Outside.{Outside}
 use Rattle.port_model.specs.declared.row.Row.{Row}
 use Rattle.port_model.specs.declared.row.Row.TheVariants.{Handled, Late, Listed, Resumed, Mark}
 use Rattle.port_model.specs.declared.signal.Sender.{Sender}
@@ -14,15 +14,15 @@ use Rattle.port_model.specs.declared.signal.Sender.TheVariants.{Process, Poller,
 use Rattle.port_model.specs.declared.signal.Signal.{Signal}
 use Rattle.port_model.specs.declared.signal.Signal.TheVariants as signal
 use Rattle.port_model.specs.Tasks.{TaskView}
-use Rattle.port_history.specs.Events.{Event, change, disarm, event_of, is_selected, told_of, unused}
-use Rattle.port_history.specs.Jobs.{Submitted, done_by, is_done, is_submitted}
-use Rattle.port_history.specs.Laws.{all_resumed, is_given_back, is_ready, keeps_end}
-use Rattle.port_history.specs.Lawful.{IsFinished}
-use Rattle.port_history.specs.Marks.{none_due}
-use Rattle.port_history.specs.Opening.{Opening}
-use Rattle.port_history.specs.State.{State, after, is_open, state}
-use Rattle.port_history.specs.Suspension.{Entry}
-use Rattle.served_port.specs.View.{IsAt}
+use Rattle.port_events.specs.port_history.Events.{Event, change, disarm, event_of, is_selected, told_of, unused}
+use Rattle.port_events.specs.port_history.Jobs.{Submitted, done_by, is_done, is_submitted}
+use Rattle.port_events.specs.port_history.Laws.{all_resumed, is_given_back, is_ready, keeps_end}
+use Rattle.port_events.specs.port_history.Lawful.{IsFinished}
+use Rattle.port_events.specs.port_history.Marks.{none_due}
+use Rattle.port_events.specs.port_history.Opening.{Opening}
+use Rattle.port_events.specs.port_history.State.{State, after, is_open, state}
+use Rattle.port_events.specs.port_history.Suspension.{Entry}
+use Rattle.recorded_port.specs.served_port.View.{IsAt}
 use Rattle.recorded_port.specs.Laws.{IsLawful, KeepsPortLaws}
 use Rattle.recorded_port.specs.View.{RecordedView, is_finished, state_of}
 use Rattle.port_body.specs.LanePort.{LanePortView, IsBody, IsSameLanePort}

@@ -10,13 +10,13 @@ use Rattle.task_queue.specs.Items.{items_of}
 use Rattle.port_lanes.specs.Keys.{Key, end_of, sender_at}
 use Rattle.port_lanes.specs.Parcels.{ParcelView, FitsLane}
 use Rattle.port_model.specs.declared.signal.Sender.{Sender}
-use Rattle.port_links.specs.Table.{IsAmong}
+use Rattle.port_state.specs.port_links.Table.{IsAmong}
 use Rattle.port_model.specs.declared.signal.Sender.TheVariants.{Process, Poller, Worker, Timer}
 use Rattle.port_model.specs.Tasks.{TaskView}
-use Rattle.port_history.specs.Laws.{is_listed_right, may_send}
-use Rattle.port_history.specs.Opening.{same_sender}
-use Rattle.port_history.specs.State.{State, state}
-use Rattle.port_history.specs.Suspension.{entry, has_entry}
+use Rattle.port_events.specs.port_history.Laws.{is_listed_right, may_send}
+use Rattle.port_events.specs.port_history.Opening.{same_sender}
+use Rattle.port_events.specs.port_history.State.{State, state}
+use Rattle.port_events.specs.port_history.Suspension.{entry, has_entry}
 use Rattle.waiting_parcels.specs.Waiting.{Waiting, GoesFirst, has_sender}
 use Rattle.recorded_port.specs.View.{RecordedView, IsSettled, state_of}
 use Rattle.recorded_port.specs.Taking.{Takes, IsSameRecorded}

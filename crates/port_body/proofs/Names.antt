@@ -4,7 +4,7 @@ use Rattle.task_queue.specs.Ends.{Taking}
 use Rattle.port_events.specs.Table.{EventTable}
 use Rattle.port_lanes.specs.Keys.{Key}
 use Rattle.port_lanes.specs.Parcels.{ParcelView}
-use Rattle.served_port.specs.View.{end_name}
+use Rattle.recorded_port.specs.served_port.View.{end_name}
 use Rattle.port_body.specs.Body.{BodyView, BodyName, name_of}
 use Rattle.port_sched.specs.declared.body.Turn.{Turn}
 use Rattle.port_sched.specs.declared.body.Turn.TheVariants.{Idle, More, NoMemory}

@@ -4,7 +4,7 @@ use Rattle.std.specs.Prelude.{nat_lt}
 use Rattle.std.proofs.lemmas.Bool.{cases_order, lt-ltb, ltb-true}
 use Rattle.port_model.specs.declared.signal.Sender.TheVariants.{Process, Poller, Worker, Timer}
 use Rattle.port_lanes.specs.Keys.{Key, end_of, sender_at}
-use Rattle.port_history.specs.Opening.{same_sender}
+use Rattle.port_events.specs.port_history.Opening.{same_sender}
 
 pub not-lt : (n m : ℕ) → nat_lt n m ≡ false → m ≤ n
 not-lt n m e = elim (cases_order n m) [

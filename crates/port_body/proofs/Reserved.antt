@@ -4,8 +4,8 @@ use Rattle.std.specs.Prelude.{nat_lt, if◌then◌else◌}
 use Rattle.task_queue.specs.declared.item.Item.{Item}
 use Rattle.port_lanes.specs.Parcels.{ParcelView}
 use Rattle.waiting_parcels.specs.Waiting.{Waiting, GoesFirst, NoneGoes, has_sender}
-use Rattle.port_history.specs.Laws.{waits_where_busy}
-use Rattle.port_history.specs.State.{is_open}
+use Rattle.port_events.specs.port_history.Laws.{waits_where_busy}
+use Rattle.port_events.specs.port_history.State.{is_open}
 use Rattle.recorded_port.specs.View.{RecordedView, IsSettled, state_of}
 use Rattle.recorded_port.specs.Taking.{IsSameRecorded}
 use Rattle.recorded_port.proofs.Same.{same-refl}

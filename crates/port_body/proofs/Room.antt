@@ -4,17 +4,17 @@ use Rattle.std.specs.Prelude.{reverse}
 use Rattle.std.proofs.lemmas.List.{length-map}
 use Rattle.task_queue.specs.declared.item.Item.{Item}
 use Rattle.port_lanes.specs.Parcels.{ParcelView}
-use Rattle.port_signal.specs.declared.row.MarkKind.{MarkKind}
+use Rattle.port_model.specs.port_signal.declared.row.MarkKind.{MarkKind}
 use Rattle.port_model.specs.declared.row.Row.{Row}
 use Rattle.port_model.specs.declared.row.Row.TheVariants.{Listed, Mark, Resumed}
 use Rattle.port_model.specs.declared.signal.Sender.{Sender}
 use Rattle.port_model.specs.declared.signal.Sender.TheVariants.{Process}
 use Rattle.port_model.specs.Tasks.{TaskView}
-use Rattle.port_history.specs.State.{state}
-use Rattle.port_history.specs.Suspension.{Entry, entry}
+use Rattle.port_events.specs.port_history.State.{state}
+use Rattle.port_events.specs.port_history.Suspension.{Entry, entry}
 use Rattle.port_suspension.specs.Listed.{listed_as}
 use Rattle.waiting_parcels.specs.Waiting.{GoesFirst}
-use Rattle.served_port.specs.Outcomes.{is_handled}
+use Rattle.recorded_port.specs.served_port.Outcomes.{is_handled}
 use Rattle.recorded_port.specs.View.{RecordedView, IsSettled, state_of}
 use Rattle.recorded_port.specs.Taking.{IsSameRecorded, Takes, UsesRoom}
 use Rattle.recorded_port.specs.Resuming.{Resumes, may_go, resumed_rows}

@@ -5,15 +5,15 @@ use Rattle.std.specs.List.{list_all}
 use Rattle.std.proofs.lemmas.List.{append_assoc, reverse-append}
 use Rattle.std.proofs.lemmas.List.Sums.{sum_by-cons}
 use Rattle.std.proofs.lemmas.List.Folds.{list_all-append}
-use Rattle.port_signal.specs.declared.row.MarkKind.{MarkKind}
+use Rattle.port_model.specs.port_signal.declared.row.MarkKind.{MarkKind}
 use Rattle.port_model.specs.declared.row.Row.{Row}
 use Rattle.port_model.specs.declared.row.Row.TheVariants.{Handled, Late, Listed, Resumed, Mark}
 use Rattle.port_model.specs.declared.signal.Sender.{Sender}
 use Rattle.port_model.specs.Tasks.{TaskView}
-use Rattle.port_history.specs.Laws.{count_of}
-use Rattle.port_history.specs.Opening.{Opening, same_sender}
-use Rattle.port_history.specs.State.{state}
-use Rattle.port_history.specs.Suspension.{Entry}
+use Rattle.port_events.specs.port_history.Laws.{count_of}
+use Rattle.port_events.specs.port_history.Opening.{Opening, same_sender}
+use Rattle.port_events.specs.port_history.State.{state}
+use Rattle.port_events.specs.port_history.Suspension.{Entry}
 use Rattle.recorded_port.specs.Taking.{TellsOf}
 use Rattle.recorded_port.specs.Resuming.{resumed_rows}
 use Rattle.port_body.specs.LanePort.{rows_from, task_from}

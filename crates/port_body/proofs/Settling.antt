@@ -3,24 +3,24 @@ use Rattle.std.proofs.Common.{◌≡◌, ℕ, ◌+◌, ◌<◌, arith, cond, map
 use Rattle.std.specs.Prelude.{not, reverse, IfOk, IfSome, Result, Ok, Err, OnOk}
 use Rattle.std.proofs.lemmas.Bool.{lt-ltb}
 use Rattle.waiting_parcels.specs.Waiting.{Waiting}
-use Rattle.served_port.specs.Outcomes.{is_handled}
+use Rattle.recorded_port.specs.served_port.Outcomes.{is_handled}
 use Rattle.std.proofs.lemmas.List.{append-nil, append_assoc}
 use Rattle.task_queue.specs.declared.item.Item.{Item}
 use Rattle.task_queue.specs.Items.{items_of}
 use Rattle.port_lanes.specs.Keys.{Key, sender_at}
 use Rattle.port_lanes.specs.Parcels.{ParcelView}
-use Rattle.port_links.specs.Table.{IsAmong}
+use Rattle.port_state.specs.port_links.Table.{IsAmong}
 use Rattle.port_model.specs.declared.row.Row.{Row}
 use Rattle.port_model.specs.declared.row.Row.TheVariants.{Mark}
 use Rattle.port_model.specs.declared.signal.Sender.{Sender}
 use Rattle.port_model.specs.declared.signal.Sender.TheVariants.{Process}
 use Rattle.port_model.specs.Tasks.{TaskView}
-use Rattle.port_history.specs.Marks.{is_busy}
-use Rattle.port_history.specs.Laws.{count_of}
-use Rattle.port_history.specs.Opening.{Opening}
-use Rattle.port_history.specs.Service.{first_reason}
-use Rattle.port_history.specs.State.{State, state, is_open}
-use Rattle.port_history.specs.Suspension.{is_queue_busy}
+use Rattle.port_events.specs.port_history.Marks.{is_busy}
+use Rattle.port_events.specs.port_history.Laws.{count_of}
+use Rattle.port_events.specs.port_history.Opening.{Opening}
+use Rattle.port_events.specs.port_history.Service.{first_reason}
+use Rattle.port_events.specs.port_history.State.{State, state, is_open}
+use Rattle.port_events.specs.port_history.Suspension.{is_queue_busy}
 use Rattle.port_words.specs.busy.Known.{PortKnown}
 use Rattle.recorded_port.specs.View.{RecordedView, IsSettled, state_of}
 use Rattle.recorded_port.specs.Taking.{MayTake, Takes, TellsOf, IsSameRecorded, UsesRoom}

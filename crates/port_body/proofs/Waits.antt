@@ -11,10 +11,10 @@ use Rattle.port_model.specs.declared.signal.Sender.TheVariants.{Poller, Worker}
 use Rattle.port_model.specs.declared.signal.Signal.{Signal}
 use Rattle.port_model.specs.declared.signal.Signal.TheVariants as signal
 use Rattle.port_model.specs.Signals.{is_command}
-use Rattle.port_history.specs.Laws.{may_send, waits_where_busy}
-use Rattle.port_history.specs.State.{is_open}
+use Rattle.port_events.specs.port_history.Laws.{may_send, waits_where_busy}
+use Rattle.port_events.specs.port_history.State.{is_open}
 use Rattle.waiting_parcels.specs.Waiting.{Waiting, GoesFirst, NoneGoes, has_sender}
-use Rattle.served_port.specs.Outcomes.{is_handled}
+use Rattle.recorded_port.specs.served_port.Outcomes.{is_handled}
 use Rattle.recorded_port.specs.View.{RecordedView, state_of}
 use Rattle.recorded_port.specs.Taking.{TellsOf}
 use Rattle.port_body.specs.LanePort.{LanePortView, Holds, IsBody, OwnItems}

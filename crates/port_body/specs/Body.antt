@@ -3,11 +3,11 @@ use Rattle.std.specs.Prelude.{◌≡◌, ◌≢◌, ◌≤◌, ℕ, List, Bool, 
 use Rattle.atomic_table.specs.Seated.{TableId}
 use Rattle.task_queue.specs.Ends.{LaneId}
 use Rattle.port_driver.specs.declared.life.Life.TheVariants.{Fresh}
-use Rattle.port_history.specs.Opening.{Opening}
+use Rattle.port_events.specs.port_history.Opening.{Opening}
 use Rattle.port_lanes.specs.Keys.{Key}
 use Rattle.port_words.specs.declared.busy.view.BusySetup.{BusySetup}
 use Rattle.port_words.specs.declared.busy.view.SenderView.{SenderView}
-use Rattle.served_port.specs.View.{EndName, end_name, end_names}
+use Rattle.recorded_port.specs.served_port.View.{EndName, end_name, end_names}
 use Rattle.recorded_port.specs.View.{is_finished, state_of}
 use Rattle.port_body.specs.LanePort.{LanePortView, IsBody}
 

@@ -2,20 +2,20 @@
 use Rattle.std.specs.Prelude.{◌≡◌, ◌<◌, ◌≤◌, ℕ, List, [], ◌++◌, length, slice_index_or, reverse, All, Contains, true, false, Option, IfSome}
 use Rattle.std.specs.List.{AllByRecursion}
 use Rattle.task_queue.specs.Ends.{Taking}
-use Rattle.driver_model.specs.Calls.{Own}
-use Rattle.driver_model.specs.Drivers.{holds, read_event_of, write_event_of}
-use Rattle.driver_model.specs.Programs.{Tells, ToldProgram}
-use Rattle.port_config.specs.declared.config.Config.{Config}
+use Rattle.port_driver.specs.driver_model.Calls.{Own}
+use Rattle.port_driver.specs.driver_model.Drivers.{holds, read_event_of, write_event_of}
+use Rattle.port_driver.specs.driver_model.Programs.{Tells, ToldProgram}
+use Rattle.port_driver.specs.port_config.declared.config.Config.{Config}
 use Rattle.port_driver.specs.declared.life.Life.TheVariants.{Stopped}
-use Rattle.port_history.specs.Lawful.{IsFinished}
-use Rattle.port_history.specs.Mail.{mails}
-use Rattle.port_history.specs.Opening.{Opening}
-use Rattle.port_history.specs.State.{is_open, state}
+use Rattle.port_events.specs.port_history.Lawful.{IsFinished}
+use Rattle.port_events.specs.port_history.Mail.{mails}
+use Rattle.port_events.specs.port_history.Opening.{Opening}
+use Rattle.port_events.specs.port_history.State.{is_open, state}
 use Rattle.port_lanes.specs.Keys.{Key, end_of, sender_at}
 use Rattle.port_lanes.specs.Parcels.{ParcelView}
 use Rattle.port_model.specs.declared.row.Row.{Row}
 use Rattle.port_model.specs.declared.signal.Sender.TheVariants.{Timer}
-use Rattle.port_mail.specs.Ends.{MailEnd}
+use Rattle.port_state.specs.port_mail.Ends.{MailEnd}
 use Rattle.recorded_port.specs.Asks.{GaveJobs, asks, removals, resumed_words}
 use Rattle.recorded_port.specs.Laws.{IsLawful}
 use Rattle.recorded_port.specs.View.{removed_sizes, stat_marks, state_of}

@@ -11,10 +11,10 @@ use Rattle.port_model.specs.declared.row.Row.TheVariants.{Handled, Late}
 use Rattle.port_model.specs.declared.signal.Sender.{Sender}
 use Rattle.port_model.specs.declared.signal.Sender.TheVariants.{Timer}
 use Rattle.port_model.specs.Tasks.{TaskView}
-use Rattle.port_history.specs.Laws.{is_listed_right}
-use Rattle.port_history.specs.Opening.{same_sender}
-use Rattle.port_history.specs.State.{is_open}
-use Rattle.port_history.specs.Suspension.{Entry}
+use Rattle.port_events.specs.port_history.Laws.{is_listed_right}
+use Rattle.port_events.specs.port_history.Opening.{same_sender}
+use Rattle.port_events.specs.port_history.State.{is_open}
+use Rattle.port_events.specs.port_history.Suspension.{Entry}
 use Rattle.waiting_parcels.specs.Waiting.{Waiting}
 use Rattle.recorded_port.specs.Taking.{IsSameRecorded}
 use Rattle.recorded_port.specs.View.{RecordedView, IsSettled, history, state_of}

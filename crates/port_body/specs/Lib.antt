@@ -1,3 +1,7 @@
+-- What crates above name of the definitions below.
+pub use Rattle.port_lanes.specs as port_lanes
+pub use Rattle.recorded_port.specs as recorded_port
+pub use Rattle.recorded_port.specs.served_port as served_port
 pub mod LanePort
 pub mod Steps
 pub mod Openings

@@ -1,13 +1,13 @@
 -- A lane for a port that is to be opened, and a body that was just opened.
 use Rattle.std.specs.Prelude.{◌≡◌, ℕ, [], false}
 use Rattle.task_queue.specs.Ends.{Taking}
-use Rattle.driver_model.specs.Calls.{Kind}
-use Rattle.driver_model.specs.Drivers.{read_event_of, write_event_of}
-use Rattle.port_config.specs.declared.config.Config.{Config}
+use Rattle.port_driver.specs.driver_model.Calls.{Kind}
+use Rattle.port_driver.specs.driver_model.Drivers.{read_event_of, write_event_of}
+use Rattle.port_driver.specs.port_config.declared.config.Config.{Config}
 use Rattle.port_lanes.specs.Keys.{Key}
 use Rattle.port_lanes.specs.Parcels.{ParcelView}
-use Rattle.served_port.specs.declared.ends.PortPlace.{PortPlace}
-use Rattle.served_port.specs.View.{end_name, end_names}
+use Rattle.recorded_port.specs.served_port.declared.ends.PortPlace.{PortPlace}
+use Rattle.recorded_port.specs.served_port.View.{end_name, end_names}
 use Rattle.recorded_port.specs.declared.parts.PortOutlets.{PortOutlets}
 use Rattle.port_body.specs.Body.{BodyView, BodyName, name_of}
 

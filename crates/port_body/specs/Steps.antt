@@ -5,12 +5,12 @@ use Rattle.task_queue.specs.Ends.{KeepsOrder, TookAll, WasEmpty}
 use Rattle.port_lanes.specs.Keys.{sender_at}
 use Rattle.port_lanes.specs.Parcels.{ParcelView, FitsLane}
 use Rattle.port_model.specs.declared.row.Row.{Row}
-use Rattle.port_history.specs.Laws.{waits_where_busy}
-use Rattle.port_history.specs.Marks.{is_busy}
-use Rattle.port_history.specs.State.{is_open}
-use Rattle.port_history.specs.Suspension.{is_queue_busy}
+use Rattle.port_events.specs.port_history.Laws.{waits_where_busy}
+use Rattle.port_events.specs.port_history.Marks.{is_busy}
+use Rattle.port_events.specs.port_history.State.{is_open}
+use Rattle.port_events.specs.port_history.Suspension.{is_queue_busy}
 use Rattle.waiting_parcels.specs.Waiting.{has_sender, GoesFirst, NoneGoes}
-use Rattle.served_port.specs.Outcomes.{is_handled}
+use Rattle.recorded_port.specs.served_port.Outcomes.{is_handled}
 use Rattle.recorded_port.specs.View.{RecordedView, state_of}
 use Rattle.recorded_port.specs.Taking.{TellsOf}
 use Rattle.task_queue.specs.Items.{of}

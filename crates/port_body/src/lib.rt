@@ -19,4 +19,4 @@ pub use port_driver::{Driver, StartRefusal};
 pub use port_lanes::Parcel;
 pub use port_model::{NoMemory, Sender};
 pub use port_sched::Turn;
-pub use recorded_port::RecordedPort;
+pub use recorded_port::{PortEnd, PortEnds, PortOutlets, PortParts, PortPlace, RecordedPort};

@@ -1,15 +1,14 @@
 //! How a body is opened.
 ghost use Rattle.std.specs.Prelude.{◌≡◌, ◌≤◌, ◌<◌, ◌⊎◌, None, IfOk, IfErr, OnOk};
-ghost use Rattle.driver_model.specs.Drivers.{refusal_of};
+ghost use Rattle.port_driver.specs.driver_model.Drivers.{refusal_of};
 ghost use Rattle.port_driver.specs.Starting.{Refuses};
 ghost use Rattle.recorded_port.specs.Openings.{AreUnused};
 ghost use Rattle.port_body.specs.Openings.{FitsPlace, IsOpenedBody};
 
 use crate::body::Body;
 use crate::lane_port::LanePort;
-use crate::{BodyParts, Driver, RecordedPort, StartRefusal};
+use crate::{BodyParts, Driver, PortPlace, RecordedPort, StartRefusal};
 use port_driver::Life;
-use served_port::PortPlace;
 use std::alloc::Global;
 use std::snapshot::Snapshot;
 use std::sync::Wait;

@@ -1,6 +1,6 @@
 //! One step: a task that waits and may go, or else the next one of the lane.
 ghost use Rattle.std.specs.Prelude.{◌≡◌, ◌<◌, ◌+◌, ◌∷◌, ◌++◌, [], length, false, IfOk, OnOk};
-ghost use Rattle.port_history.specs.State.{is_open};
+ghost use Rattle.port_events.specs.port_history.State.{is_open};
 ghost use Rattle.port_lanes.specs.Keys.{sender_at};
 ghost use Rattle.recorded_port.specs.View.{state_of};
 ghost use Rattle.port_body.specs.LanePort.{HasRoom, Holds, IsBody, IsSameBut, IsSameLanePort, OwnItems};

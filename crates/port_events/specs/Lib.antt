@@ -1,3 +1,5 @@
+-- What crates above name of the definitions below.
+pub use Rattle.port_history.specs as port_history
 pub mod Table
 pub mod Asks
 pub mod Parts

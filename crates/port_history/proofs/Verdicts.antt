@@ -1,6 +1,6 @@
 -- That the verdict on a history and its laws say the same.
 use Rattle.std.proofs.Common.{arith, ◌≡◌, ℕ, ◌+◌, List, [], ◌∷◌, length, Bool, true, false, Option, Some, None, refl}
-use Rattle.port_model.specs.declared.row.Row.{Row}
+use Rattle.driver_model.specs.port_model.declared.row.Row.{Row}
 use Rattle.port_history.specs.Opening.{Opening}
 use Rattle.port_history.specs.Marks.{none_due}
 use Rattle.port_history.specs.State.{State, state}

@@ -2,14 +2,14 @@
 use Rattle.std.specs.Prelude.{ℕ, ◌==◌, List, [], ◌∷◌, ◌++◌, length, Bool, true, false, Option, Some, None, if◌then◌else◌}
 use Rattle.std.specs.List.{count_by, sum_by, flat_map, range_with_len}
 use Rattle.std.specs.Option.{option_map}
-use Rattle.io_vector.specs.declared.flag.Flag.{Flag}
-use Rattle.io_vector.specs.declared.flag.Flag.TheVariants.{Eol}
-use Rattle.port_signal.specs.Reasons.{told_reason}
-use Rattle.port_model.specs.Signals.{is_command}
-use Rattle.port_model.specs.declared.row.Row.{Row}
-use Rattle.port_model.specs.declared.row.Row.TheVariants.{Late}
-use Rattle.port_model.specs.declared.mail.Mail.{Mail}
-use Rattle.port_model.specs.declared.mail.Mail.TheVariants.{Message}
+use Rattle.async_jobs.specs.io_vector.declared.flag.Flag.{Flag}
+use Rattle.async_jobs.specs.io_vector.declared.flag.Flag.TheVariants.{Eol}
+use Rattle.driver_model.specs.port_signal.Reasons.{told_reason}
+use Rattle.driver_model.specs.port_model.Signals.{is_command}
+use Rattle.driver_model.specs.port_model.declared.row.Row.{Row}
+use Rattle.driver_model.specs.port_model.declared.row.Row.TheVariants.{Late}
+use Rattle.driver_model.specs.port_model.declared.mail.Mail.{Mail}
+use Rattle.driver_model.specs.port_model.declared.mail.Mail.TheVariants.{Message}
 use Rattle.driver_model.specs.Calls.{Callback, DriverCall, Outputv}
 use Rattle.port_history.specs.Opening.{Opening}
 use Rattle.port_history.specs.State.{state}

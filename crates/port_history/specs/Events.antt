@@ -3,12 +3,12 @@
 -- is armed waits for the poller to drop it.
 use Rattle.std.specs.Prelude.{ℕ, ◌==◌, List, [], ◌∷◌, ◌++◌, Bool, true, false, ◌&&◌, ◌||◌, not, nat_lt, if◌then◌else◌, map, filter}
 use Rattle.std.specs.List.{list_any}
-use Rattle.port_model.specs.declared.event.Dir.{Dir}
-use Rattle.port_model.specs.declared.event.Dir.TheVariants.{Read, Write}
-use Rattle.port_model.specs.declared.signal.Signal.{Signal}
-use Rattle.port_model.specs.declared.signal.Signal.TheVariants.{Ready, Dropped}
-use Rattle.port_model.specs.declared.effect.Effect.{Effect}
-use Rattle.port_model.specs.declared.effect.Effect.TheVariants.{Select, Unuse}
+use Rattle.driver_model.specs.port_model.declared.event.Dir.{Dir}
+use Rattle.driver_model.specs.port_model.declared.event.Dir.TheVariants.{Read, Write}
+use Rattle.driver_model.specs.port_model.declared.signal.Signal.{Signal}
+use Rattle.driver_model.specs.port_model.declared.signal.Signal.TheVariants.{Ready, Dropped}
+use Rattle.driver_model.specs.port_model.declared.effect.Effect.{Effect}
+use Rattle.driver_model.specs.port_model.declared.effect.Effect.TheVariants.{Select, Unuse}
 
 pub record Event : Type 0 where
   pub number : ℕ

@@ -2,16 +2,16 @@
 -- more; where the test has nothing to say of a row, it holds.
 use Rattle.std.specs.Prelude.{ℕ, ◌==◌, List, [], ◌∷◌, ◌++◌, Bool, true, false, ◌&&◌, ◌||◌, not, nat_le, if◌then◌else◌, Option, Some, None, is_some}
 use Rattle.std.specs.List.{list_all, list_any, count_by}
-use Rattle.port_signal.specs.declared.row.Outside.{Outside}
-use Rattle.port_model.specs.declared.event.Dir.{Dir}
-use Rattle.port_model.specs.declared.signal.Sender.{Sender}
-use Rattle.port_model.specs.declared.signal.Sender.TheVariants.{Process, Poller, Worker, Timer}
-use Rattle.port_model.specs.declared.signal.Signal.{Signal}
-use Rattle.port_model.specs.declared.signal.Signal.TheVariants.{Ready, Dropped, AsyncDone}
-use Rattle.port_model.specs.declared.row.Row.{Row}
-use Rattle.port_model.specs.declared.row.Row.TheVariants.{Handled, Late, Listed, Resumed, Mark}
-use Rattle.port_model.specs.Signals.{is_command}
-use Rattle.port_model.specs.Tasks.{TaskView}
+use Rattle.driver_model.specs.port_signal.declared.row.Outside.{Outside}
+use Rattle.driver_model.specs.port_model.declared.event.Dir.{Dir}
+use Rattle.driver_model.specs.port_model.declared.signal.Sender.{Sender}
+use Rattle.driver_model.specs.port_model.declared.signal.Sender.TheVariants.{Process, Poller, Worker, Timer}
+use Rattle.driver_model.specs.port_model.declared.signal.Signal.{Signal}
+use Rattle.driver_model.specs.port_model.declared.signal.Signal.TheVariants.{Ready, Dropped, AsyncDone}
+use Rattle.driver_model.specs.port_model.declared.row.Row.{Row}
+use Rattle.driver_model.specs.port_model.declared.row.Row.TheVariants.{Handled, Late, Listed, Resumed, Mark}
+use Rattle.driver_model.specs.port_model.Signals.{is_command}
+use Rattle.driver_model.specs.port_model.Tasks.{TaskView}
 use Rattle.driver_model.specs.Calls.{DriverCall}
 use Rattle.driver_model.specs.Same.{same_effects, same_bytes}
 use Rattle.driver_model.specs.Spawn.{is_none}

@@ -1,3 +1,5 @@
+-- What crates above name of the definitions below.
+pub use Rattle.driver_model.specs.port_model as port_model
 pub mod Opening
 pub mod Ties
 pub mod Marks

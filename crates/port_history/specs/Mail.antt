@@ -1,21 +1,21 @@
 -- The mail that a port's rows send, in their order: of a row the data of its effects, its answer, what its closing tells, and `closed`.
 use Rattle.std.specs.Prelude.{ℕ, ◌==◌, List, [], ◌∷◌, ◌++◌, Bool, true, false, ◌&&◌, not, if◌then◌else◌, Option, Some, None, is_some, map, filter, codes}
 use Rattle.std.specs.List.{flat_map}
-use Rattle.port_signal.specs.declared.monitor.Monitor.{Monitor as MonitorEntry}
-use Rattle.port_signal.specs.declared.mail.Answer.{Answer}
-use Rattle.port_signal.specs.declared.mail.Answer.TheVariants.{Bytes, True, Badarg}
-use Rattle.port_signal.specs.Links.{has}
-use Rattle.port_signal.specs.Reasons.{told_reason}
-use Rattle.port_model.specs.declared.signal.Sender.{Sender}
-use Rattle.port_model.specs.declared.signal.Sender.TheVariants.{Process}
-use Rattle.port_model.specs.declared.signal.Signal.{Signal}
-use Rattle.port_model.specs.declared.signal.Signal.TheVariants.{OwnerCommand, Control, Call, Close, OwnerClose, Connect, OwnerConnect, Link, Monitor}
-use Rattle.port_model.specs.declared.effect.Effect.{Effect}
-use Rattle.port_model.specs.declared.effect.Effect.TheVariants.{Message as Data, Eof as TellEof, Status as TellStatus, Reply as ReplyEffect, ReplyBadarg}
-use Rattle.port_model.specs.declared.row.Row.{Row}
-use Rattle.port_model.specs.declared.row.Row.TheVariants.{Handled, Late, Resumed}
-use Rattle.port_model.specs.declared.mail.Mail.{Mail}
-use Rattle.port_model.specs.declared.mail.Mail.TheVariants.{Message, Eof, Status, Closed, Connected, Exit, Down, Reply, Resume}
+use Rattle.driver_model.specs.port_signal.declared.monitor.Monitor.{Monitor as MonitorEntry}
+use Rattle.driver_model.specs.port_signal.declared.mail.Answer.{Answer}
+use Rattle.driver_model.specs.port_signal.declared.mail.Answer.TheVariants.{Bytes, True, Badarg}
+use Rattle.driver_model.specs.port_signal.Links.{has}
+use Rattle.driver_model.specs.port_signal.Reasons.{told_reason}
+use Rattle.driver_model.specs.port_model.declared.signal.Sender.{Sender}
+use Rattle.driver_model.specs.port_model.declared.signal.Sender.TheVariants.{Process}
+use Rattle.driver_model.specs.port_model.declared.signal.Signal.{Signal}
+use Rattle.driver_model.specs.port_model.declared.signal.Signal.TheVariants.{OwnerCommand, Control, Call, Close, OwnerClose, Connect, OwnerConnect, Link, Monitor}
+use Rattle.driver_model.specs.port_model.declared.effect.Effect.{Effect}
+use Rattle.driver_model.specs.port_model.declared.effect.Effect.TheVariants.{Message as Data, Eof as TellEof, Status as TellStatus, Reply as ReplyEffect, ReplyBadarg}
+use Rattle.driver_model.specs.port_model.declared.row.Row.{Row}
+use Rattle.driver_model.specs.port_model.declared.row.Row.TheVariants.{Handled, Late, Resumed}
+use Rattle.driver_model.specs.port_model.declared.mail.Mail.{Mail}
+use Rattle.driver_model.specs.port_model.declared.mail.Mail.TheVariants.{Message, Eof, Status, Closed, Connected, Exit, Down, Reply, Resume}
 use Rattle.port_history.specs.Opening.{Opening, Taken, taken_of}
 use Rattle.port_history.specs.Ties.{Ties, may_own, monitor_of, tied}
 use Rattle.port_history.specs.State.{State, state, after, is_open, closing_reason, stops, closer_after}

@@ -1,9 +1,9 @@
 -- The marks of a history: changes of the port's state that its STAT word shows.
 use Rattle.std.specs.Prelude.{ℕ, List, [], ◌∷◌, ◌++◌, Bool, true, false, Option, Some, None}
-use Rattle.port_signal.specs.declared.row.MarkKind.{MarkKind}
-use Rattle.port_signal.specs.declared.row.MarkKind.TheVariants.{Busy, Free, Closed}
-use Rattle.port_model.specs.declared.effect.Effect.{Effect}
-use Rattle.port_model.specs.declared.effect.Effect.TheVariants.{Busy as SetBusy}
+use Rattle.driver_model.specs.port_signal.declared.row.MarkKind.{MarkKind}
+use Rattle.driver_model.specs.port_signal.declared.row.MarkKind.TheVariants.{Busy, Free, Closed}
+use Rattle.driver_model.specs.port_model.declared.effect.Effect.{Effect}
+use Rattle.driver_model.specs.port_model.declared.effect.Effect.TheVariants.{Busy as SetBusy}
 
 -- whether the port is busy after these marks, newest first: the last of the marks busy and free is busy
 abbrev pub is_busy : List MarkKind → Bool

@@ -1,11 +1,11 @@
 -- What a history begins with, and what a row tells of a task.
 use Rattle.std.specs.Prelude.{ℕ, List, [], ◌==◌, Bool, true, false}
-use Rattle.port_config.specs.declared.config.Config.{Config}
-use Rattle.port_signal.specs.declared.row.Outside.{Outside}
-use Rattle.port_model.specs.declared.signal.Sender.{Sender}
-use Rattle.port_model.specs.declared.signal.Sender.TheVariants.{Process, Poller, Worker, Timer}
-use Rattle.port_model.specs.declared.effect.Effect.{Effect}
-use Rattle.port_model.specs.Tasks.{TaskView}
+use Rattle.driver_model.specs.port_config.declared.config.Config.{Config}
+use Rattle.driver_model.specs.port_signal.declared.row.Outside.{Outside}
+use Rattle.driver_model.specs.port_model.declared.signal.Sender.{Sender}
+use Rattle.driver_model.specs.port_model.declared.signal.Sender.TheVariants.{Process, Poller, Worker, Timer}
+use Rattle.driver_model.specs.port_model.declared.effect.Effect.{Effect}
+use Rattle.driver_model.specs.port_model.Tasks.{TaskView}
 use Rattle.driver_model.specs.Calls.{Kind}
 
 -- what was fixed when a port was opened: its number, how many processes there are, the kind of its driver, its config, its opener, who is

@@ -1,14 +1,14 @@
 -- The calls that a driver gets for a task: that of its signal, and where the port closes `flush` and `stop`.
 use Rattle.std.specs.Prelude.{ℕ, List, [], ◌∷◌, ◌++◌, Bool, true, false, ◌&&◌, ◌||◌, not, if◌then◌else◌, Option, Some, None, is_some}
 use Rattle.std.specs.List.{concat}
-use Rattle.port_signal.specs.Links.{has}
-use Rattle.port_signal.specs.Reasons.{is_kill}
-use Rattle.port_model.specs.declared.event.Dir.TheVariants.{Read, Write}
-use Rattle.port_model.specs.declared.signal.Sender.{Sender}
-use Rattle.port_model.specs.declared.signal.Sender.TheVariants.{Process}
-use Rattle.port_model.specs.declared.signal.Signal.{Signal}
-use Rattle.port_model.specs.declared.signal.Signal.TheVariants.{Command, OwnerCommand, Control, Call, Ready, AsyncDone, Gone}
-use Rattle.port_model.specs.declared.effect.Effect.{Effect}
+use Rattle.driver_model.specs.port_signal.Links.{has}
+use Rattle.driver_model.specs.port_signal.Reasons.{is_kill}
+use Rattle.driver_model.specs.port_model.declared.event.Dir.TheVariants.{Read, Write}
+use Rattle.driver_model.specs.port_model.declared.signal.Sender.{Sender}
+use Rattle.driver_model.specs.port_model.declared.signal.Sender.TheVariants.{Process}
+use Rattle.driver_model.specs.port_model.declared.signal.Signal.{Signal}
+use Rattle.driver_model.specs.port_model.declared.signal.Signal.TheVariants.{Command, OwnerCommand, Control, Call, Ready, AsyncDone, Gone}
+use Rattle.driver_model.specs.port_model.declared.effect.Effect.{Effect}
 use Rattle.driver_model.specs.Calls as driver
 use Rattle.driver_model.specs.Calls.{Callback, DriverCall, call_of, is_empty}
 use Rattle.driver_model.specs.Drivers.{queue_of, effects_of}

@@ -1,12 +1,12 @@
 -- What a history tells of its port: the state of the port after its rows.
 use Rattle.std.specs.Prelude.{ℕ, List, [], ◌∷◌, ◌++◌, drop, map, Bool, true, false, ◌&&◌, ◌||◌, not, Option, Some, None, is_some, if◌then◌else◌}
-use Rattle.port_signal.specs.declared.row.MarkKind.{MarkKind}
-use Rattle.port_model.specs.declared.signal.Sender.{Sender}
-use Rattle.port_model.specs.declared.signal.Sender.TheVariants.{Process}
-use Rattle.port_model.specs.declared.signal.Signal.{Signal}
-use Rattle.port_model.specs.declared.signal.Signal.TheVariants.{OwnerClose}
-use Rattle.port_model.specs.declared.row.Row.{Row}
-use Rattle.port_model.specs.declared.row.Row.TheVariants.{Handled, Late, Listed, Resumed, Mark}
+use Rattle.driver_model.specs.port_signal.declared.row.MarkKind.{MarkKind}
+use Rattle.driver_model.specs.port_model.declared.signal.Sender.{Sender}
+use Rattle.driver_model.specs.port_model.declared.signal.Sender.TheVariants.{Process}
+use Rattle.driver_model.specs.port_model.declared.signal.Signal.{Signal}
+use Rattle.driver_model.specs.port_model.declared.signal.Signal.TheVariants.{OwnerClose}
+use Rattle.driver_model.specs.port_model.declared.row.Row.{Row}
+use Rattle.driver_model.specs.port_model.declared.row.Row.TheVariants.{Handled, Late, Listed, Resumed, Mark}
 use Rattle.driver_model.specs.Calls as driver
 use Rattle.driver_model.specs.Calls.{DriverCall, call_of}
 use Rattle.driver_model.specs.Drivers.{effects_of}

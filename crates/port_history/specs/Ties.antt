@@ -1,13 +1,13 @@
 -- The owner of a port, the processes that are linked to it or have ended, its monitors, and why a signal closes it.
 use Rattle.std.specs.Prelude.{ℕ, ◌==◌, List, [], ◌∷◌, ◌++◌, Bool, ◌&&◌, ◌||◌, not, nat_lt, if◌then◌else◌, Option, Some, None, codes}
-use Rattle.port_signal.specs.declared.monitor.Monitor.{Monitor as MonitorEntry}
-use Rattle.port_signal.specs.Links.{has, with_process, without_process, with_monitor, without_monitor, without_watcher, exit_closes, end_closes}
-use Rattle.port_model.specs.declared.signal.Sender.{Sender}
-use Rattle.port_model.specs.declared.signal.Sender.TheVariants.{Process}
-use Rattle.port_model.specs.declared.signal.Signal.{Signal}
-use Rattle.port_model.specs.declared.signal.Signal.TheVariants.{Close, OwnerClose, Connect, OwnerConnect, Link, Unlink, Monitor, Demonitor, Exit, Gone}
-use Rattle.port_model.specs.declared.effect.Effect.{Effect}
-use Rattle.port_model.specs.declared.effect.Effect.TheVariants.{Watch, Fail}
+use Rattle.driver_model.specs.port_signal.declared.monitor.Monitor.{Monitor as MonitorEntry}
+use Rattle.driver_model.specs.port_signal.Links.{has, with_process, without_process, with_monitor, without_monitor, without_watcher, exit_closes, end_closes}
+use Rattle.driver_model.specs.port_model.declared.signal.Sender.{Sender}
+use Rattle.driver_model.specs.port_model.declared.signal.Sender.TheVariants.{Process}
+use Rattle.driver_model.specs.port_model.declared.signal.Signal.{Signal}
+use Rattle.driver_model.specs.port_model.declared.signal.Signal.TheVariants.{Close, OwnerClose, Connect, OwnerConnect, Link, Unlink, Monitor, Demonitor, Exit, Gone}
+use Rattle.driver_model.specs.port_model.declared.effect.Effect.{Effect}
+use Rattle.driver_model.specs.port_model.declared.effect.Effect.TheVariants.{Watch, Fail}
 use Rattle.port_history.specs.Opening.{Opening}
 
 -- the linked processes and those that have ended in rising order, the monitors by process and number

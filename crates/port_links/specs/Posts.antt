@@ -1,6 +1,6 @@
 -- What the program sends, as the definitions of a history say it.
 use Rattle.std.specs.Prelude.{ℕ, List}
-use Rattle.port_signal.specs.declared.monitor.Monitor.{Monitor}
+use Rattle.port_model.specs.port_signal.declared.monitor.Monitor.{Monitor}
 use Rattle.port_model.specs.declared.mail.Mail.TheVariants.{Exit, Down}
 use Rattle.port_history.specs.Mail.{Sent, send}
 use Rattle.port_links.specs.declared.post.Post.{Post}

@@ -4,12 +4,12 @@ use Rattle.std.specs.Prelude.{map, filter, Result, Ok, Err, IsErr}
 use Rattle.std.proofs.lemmas.List.{append-nil, map-append}
 use Rattle.std.proofs.lemmas.List.Elements.{filter-append}
 use Rattle.std.proofs.lemmas.Bool.{cases_eq, eq-eqb, ne_eqb}
-use Rattle.port_signal.specs.Links.{has}
+use Rattle.port_model.specs.port_signal.Links.{has}
 use Rattle.port_model.specs.declared.mail.Mail.{Mail}
 use Rattle.port_model.specs.declared.row.Row.{Row}
-use Rattle.port_history.specs.Opening.{Opening}
-use Rattle.port_history.specs.State.{state}
-use Rattle.port_history.specs.Mail.{Sent, send, mail_for, mails, row_mail}
+use Rattle.port_links.specs.port_history.Opening.{Opening}
+use Rattle.port_links.specs.port_history.State.{state}
+use Rattle.port_links.specs.port_history.Mail.{Sent, send, mail_for, mails, row_mail}
 use Rattle.port_mail.specs.Ends.{MailEnd, end_after, mail_got, Posts, Grows, Puts, SendsAt}
 
 mail_for-append : (process : ℕ) (xs ys : List Sent) → mail_for process (xs ++ ys) ≡ mail_for process xs ++ mail_for process ys

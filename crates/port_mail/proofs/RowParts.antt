@@ -4,9 +4,9 @@ use Rattle.std.specs.Prelude.{map, Result}
 use Rattle.std.specs.List.{flat_map}
 use Rattle.port_model.specs.declared.effect.Effect.{Effect}
 use Rattle.port_model.specs.declared.signal.Signal.{Signal}
-use Rattle.port_history.specs.Opening.{Opening, Taken}
-use Rattle.port_history.specs.State.{State, stops}
-use Rattle.port_history.specs.Mail.{Sent, effect_mail, answers, closed_mail, handled_mail}
+use Rattle.port_links.specs.port_history.Opening.{Opening, Taken}
+use Rattle.port_links.specs.port_history.State.{State, stops}
+use Rattle.port_links.specs.port_history.Mail.{Sent, effect_mail, answers, closed_mail, handled_mail}
 use Rattle.port_links.specs.Posts.{sent_of}
 use Rattle.port_mail.specs.declared.handling.Handling.{Handling}
 use Rattle.port_mail.specs.declared.handling.Closing.{Closing}

@@ -3,7 +3,7 @@ use Rattle.std.proofs.Common.{◌≡◌, ℕ, ◌+◌, ◌<◌, ◌≤◌, List,
 use Rattle.std.specs.List.{flat_map}
 use Rattle.std.proofs.lemmas.List.{at_drop_more, at_drop_all}
 use Rattle.port_model.specs.declared.effect.Effect.{Effect}
-use Rattle.port_history.specs.Mail.{Sent}
+use Rattle.port_links.specs.port_history.Mail.{Sent}
 use Rattle.port_links.specs.declared.post.Post.{Post}
 use Rattle.port_links.specs.Posts.{sent_of}
 use Rattle.port_mail.specs.Ends.{MailEnd, Posts, Grows}

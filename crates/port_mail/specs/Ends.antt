@@ -1,9 +1,9 @@
 -- A port's sending ends into the mailboxes of all processes, by the processes' numbers, and what mail does to them.
 use Rattle.std.specs.Prelude.{◌≡◌, ◌≢◌, ℕ, ◌<◌, List, [], ◌∷◌, ◌++◌, length, slice_index_or, Result, Ok, Err, if◌then◌else◌}
 use Rattle.task_queue.specs.Ends.{Sending}
-use Rattle.port_signal.specs.Links.{has}
+use Rattle.port_model.specs.port_signal.Links.{has}
 use Rattle.port_model.specs.declared.mail.Mail.{Mail}
-use Rattle.port_history.specs.Mail.{Sent, mail_for}
+use Rattle.port_links.specs.port_history.Mail.{Sent, mail_for}
 
 -- what a sending end into the mailbox of a process shows
 abbrev pub MailEnd : Type 0

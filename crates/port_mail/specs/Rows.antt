@@ -3,10 +3,10 @@ use Rattle.std.specs.Prelude.{◌≡◌, List, [], ◌∷◌, map, Bool, false, 
 use Rattle.port_model.specs.declared.effect.Effect.{Effect}
 use Rattle.port_model.specs.declared.signal.Signal.{Signal}
 use Rattle.port_model.specs.declared.signal.Signal.TheVariants.{Connect, OwnerConnect}
-use Rattle.port_history.specs.Opening.{Opening, Taken}
-use Rattle.port_history.specs.Ties.{Ties, may_own, tied}
-use Rattle.port_history.specs.State.{State, closing_reason, stops, closer_after}
-use Rattle.port_history.specs.Mail.{Sent, closing_mail}
+use Rattle.port_links.specs.port_history.Opening.{Opening, Taken}
+use Rattle.port_links.specs.port_history.Ties.{Ties, may_own, tied}
+use Rattle.port_links.specs.port_history.State.{State, closing_reason, stops, closer_after}
+use Rattle.port_links.specs.port_history.Mail.{Sent, closing_mail}
 use Rattle.port_links.specs.declared.post.Post.{Post}
 use Rattle.port_links.specs.Posts.{sent_of}
 use Rattle.port_mail.specs.declared.handling.Handling.{Handling}

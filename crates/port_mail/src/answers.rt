@@ -1,8 +1,8 @@
 //! What a signal or an effect sends, as posts that are still to be put.
 ghost use Rattle.std.specs.Prelude.{◌≡◌, ◌∷◌, [], codes, if◌then◌else◌, IfOk};
-ghost use Rattle.port_history.specs.Opening.{Opening};
-ghost use Rattle.port_history.specs.Ties.{Ties};
-ghost use Rattle.port_history.specs.Mail.{send, effect_mail, answer_of, answer_mail, answers, late_mail, closed_mail};
+ghost use Rattle.port_links.specs.port_history.Opening.{Opening};
+ghost use Rattle.port_links.specs.port_history.Ties.{Ties};
+ghost use Rattle.port_links.specs.port_history.Mail.{send, effect_mail, answer_of, answer_mail, answers, late_mail, closed_mail};
 ghost use Rattle.port_links.specs.Posts.{sent_of, exit_of};
 ghost use Rattle.port_mail.specs.Rows.{sent_by, IsHandling};
 

@@ -1,5 +1,5 @@
 ghost use Rattle.std.specs.Prelude.{◌≡◌};
-ghost use Rattle.port_history.specs.Opening.{Opening};
+ghost use Rattle.port_links.specs.port_history.Opening.{Opening};
 ghost use Rattle.port_mail.specs.Rows.{may_connect, IsHandling};
 
 use crate::{Links, Post, Sender, Signal};

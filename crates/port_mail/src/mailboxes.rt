@@ -1,5 +1,5 @@
 ghost use Rattle.std.specs.Prelude.{◌≡◌, ◌∷◌, ◌<◌, [], length, map, OnOk, OnErr};
-ghost use Rattle.port_history.specs.Mail.{send};
+ghost use Rattle.port_links.specs.port_history.Mail.{send};
 ghost use Rattle.port_links.specs.Posts.{sent_of};
 ghost use Rattle.port_mail.specs.Ends.{Puts, SendsAt};
 ghost use Rattle.port_mail.specs.Rows.{sent_by};

@@ -1,9 +1,9 @@
 //! The parts of a row's mail.
 ghost use Rattle.std.specs.Prelude.{◌≡◌};
 ghost use Rattle.std.specs.List.{flat_map};
-ghost use Rattle.port_history.specs.Opening.{Opening};
-ghost use Rattle.port_history.specs.Ties.{Ties};
-ghost use Rattle.port_history.specs.Mail.{effect_mail, answers, late_mail, closed_mail};
+ghost use Rattle.port_links.specs.port_history.Opening.{Opening};
+ghost use Rattle.port_links.specs.port_history.Ties.{Ties};
+ghost use Rattle.port_links.specs.port_history.Mail.{effect_mail, answers, late_mail, closed_mail};
 ghost use Rattle.port_mail.specs.Ends.{Puts};
 ghost use Rattle.port_mail.specs.Rows.{IsHandling};
 

@@ -2,9 +2,9 @@
 ghost use Rattle.std.specs.Prelude.{◌≡◌, not};
 ghost use Rattle.port_model.specs.Tasks.{TaskView};
 ghost use Rattle.port_model.specs.declared.row.Row.TheVariants.{Late, Resumed};
-ghost use Rattle.port_history.specs.Opening.{Opening, Taken};
-ghost use Rattle.port_history.specs.State.{State, is_open};
-ghost use Rattle.port_history.specs.Mail.{handled_mail, row_mail};
+ghost use Rattle.port_links.specs.port_history.Opening.{Opening, Taken};
+ghost use Rattle.port_links.specs.port_history.State.{State, is_open};
+ghost use Rattle.port_links.specs.port_history.Mail.{handled_mail, row_mail};
 ghost use Rattle.port_mail.specs.Ends.{Puts};
 ghost use Rattle.port_mail.specs.Rows.{IsRowOf};
 

@@ -1,11 +1,11 @@
 -- A driver that just began to serve a port.
 use Rattle.std.proofs.Common.{◌≡◌, ◌≤◌, ℕ, List, [], ◌∷◌, ◌++◌, length, Option, refl, sym, ap, ◌∙◌, subst}
-use Rattle.port_config.specs.declared.config.Config.{Config}
+use Rattle.port_driver.specs.port_config.declared.config.Config.{Config}
 use Rattle.port_model.specs.declared.effect.Effect.{Effect}
-use Rattle.driver_model.specs.Calls as driver
-use Rattle.driver_model.specs.Calls.{call_of, cut_of, Own, Kind, Echo, Tally, Valve, Store, Digest, Spawn, Refuse1, Refuse2, Refuse3}
-use Rattle.driver_model.specs.Drivers.{effects_of, read_event_of, write_event_of, start_of}
-use Rattle.driver_model.specs.Programs.{ToldProgram}
+use Rattle.port_driver.specs.driver_model.Calls as driver
+use Rattle.port_driver.specs.driver_model.Calls.{call_of, cut_of, Own, Kind, Echo, Tally, Valve, Store, Digest, Spawn, Refuse1, Refuse2, Refuse3}
+use Rattle.port_driver.specs.driver_model.Drivers.{effects_of, read_event_of, write_event_of, start_of}
+use Rattle.port_driver.specs.driver_model.Programs.{ToldProgram}
 use Rattle.port_driver.specs.Context.{Context}
 use Rattle.port_driver.specs.Driven.{Began, Stands}
 use Rattle.port_history.specs.Opening.{Opening}

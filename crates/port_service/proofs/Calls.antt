@@ -1,15 +1,15 @@
 -- What the callbacks of a row leave.
 use Rattle.std.proofs.Common.{◌≡◌, ℕ, List, [], ◌∷◌, ◌++◌, Bool, true, false, ◌&&◌, ◌||◌, not, Option, Some, None, refl, sym, ap, ◌∙◌, append_assoc, subst}
 use Rattle.std.proofs.lemmas.List.{append-nil}
-use Rattle.port_config.specs.declared.config.Config.{Config}
-use Rattle.port_signal.specs.declared.row.Outside.{Outside}
-use Rattle.port_signal.specs.Reasons.{is_kill}
+use Rattle.port_driver.specs.port_config.declared.config.Config.{Config}
+use Rattle.port_model.specs.port_signal.declared.row.Outside.{Outside}
+use Rattle.port_model.specs.port_signal.Reasons.{is_kill}
 use Rattle.port_model.specs.declared.effect.Effect.{Effect}
-use Rattle.driver_model.specs.Calls as driver
-use Rattle.driver_model.specs.Calls.{Callback, DriverCall, call_of, cut_of, is_empty, Own, Kind, Echo, Tally, Valve, Store, Digest, Spawn, Refuse1, Refuse2, Refuse3}
-use Rattle.driver_model.specs.Spawn.{is_none}
-use Rattle.driver_model.specs.Drivers.{effects_of, call_answered}
-use Rattle.driver_model.specs.Programs.{ToldProgram}
+use Rattle.port_driver.specs.driver_model.Calls as driver
+use Rattle.port_driver.specs.driver_model.Calls.{Callback, DriverCall, call_of, cut_of, is_empty, Own, Kind, Echo, Tally, Valve, Store, Digest, Spawn, Refuse1, Refuse2, Refuse3}
+use Rattle.port_driver.specs.driver_model.Spawn.{is_none}
+use Rattle.port_driver.specs.driver_model.Drivers.{effects_of, call_answered}
+use Rattle.port_driver.specs.driver_model.Programs.{ToldProgram}
 use Rattle.port_driver.specs.Context.{Context, did}
 use Rattle.port_driver.specs.Driven.{Did, Ended, Stands}
 use Rattle.port_history.specs.Opening.{Opening}

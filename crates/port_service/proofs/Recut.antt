@@ -2,13 +2,13 @@
 use Rattle.std.proofs.Common.{◌≡◌, ℕ, ◌+◌, List, [], ◌∷◌, Option, Some, None, refl, sym, ap, ◌∙◌, subst}
 use Rattle.std.specs.Prelude.{IfSome}
 use Rattle.std.proofs.lemmas.List.Sums.{sum_by-cons}
-use Rattle.port_config.specs.declared.config.Config.{Config}
-use Rattle.port_signal.specs.declared.row.Outside.{Outside}
+use Rattle.port_driver.specs.port_config.declared.config.Config.{Config}
+use Rattle.port_model.specs.port_signal.declared.row.Outside.{Outside}
 use Rattle.port_model.specs.declared.effect.Effect.{Effect}
-use Rattle.driver_model.specs.Calls.{Callback, DriverCall, call_of, cut_of, Own, Counted, Kind, Echo, Tally, Valve, Store, Digest, Spawn, Refuse1, Refuse2, Refuse3}
-use Rattle.driver_model.specs.Tally.{commands, command_bytes, command_count, command_length}
-use Rattle.driver_model.specs.Drivers.{holds, effects_of, call_answered, job_count, jobs_by, held_events, held_by}
-use Rattle.driver_model.specs.Programs.{ToldProgram, Tells}
+use Rattle.port_driver.specs.driver_model.Calls.{Callback, DriverCall, call_of, cut_of, Own, Counted, Kind, Echo, Tally, Valve, Store, Digest, Spawn, Refuse1, Refuse2, Refuse3}
+use Rattle.port_driver.specs.driver_model.Tally.{commands, command_bytes, command_count, command_length}
+use Rattle.port_driver.specs.driver_model.Drivers.{holds, effects_of, call_answered, job_count, jobs_by, held_events, held_by}
+use Rattle.port_driver.specs.driver_model.Programs.{ToldProgram, Tells}
 use Rattle.port_driver.specs.Context.{Context, SameEvents}
 use Rattle.port_driver.specs.Driven.{held_of, Stands}
 

@@ -2,8 +2,8 @@
 use Rattle.std.proofs.Common.{◌≡◌, ◌≤◌, ℕ, length, List, [], ◌∷◌, ◌++◌, Bool, true, false, ◌&&◌, ◌||◌, Option, Some, None, is_some, refl, sym, ap, ◌∙◌, append_assoc, subst}
 use Rattle.std.specs.Prelude.{IsSomeAnd, not, if◌then◌else◌}
 use Rattle.std.proofs.lemmas.List.{append-nil}
-use Rattle.port_signal.specs.declared.row.Outside.{Outside}
-use Rattle.port_signal.specs.Reasons.{is_kill}
+use Rattle.port_model.specs.port_signal.declared.row.Outside.{Outside}
+use Rattle.port_model.specs.port_signal.Reasons.{is_kill}
 use Rattle.port_model.specs.declared.effect.Effect.{Effect}
 use Rattle.port_model.specs.declared.effect.Effect.TheVariants as effect
 use Rattle.port_model.specs.declared.signal.Sender.{Sender}
@@ -12,10 +12,10 @@ use Rattle.port_model.specs.declared.signal.Signal.{Signal}
 use Rattle.port_model.specs.declared.signal.Signal.TheVariants as signal
 use Rattle.port_model.specs.declared.event.Dir.TheVariants.{Read, Write}
 use Rattle.port_model.specs.Tasks.{TaskView}
-use Rattle.driver_model.specs.Calls as driver
-use Rattle.driver_model.specs.Calls.{Callback, DriverCall, call_of, cut_of, is_empty, Own, Kind, Echo, Tally, Valve, Store, Digest, Spawn, Refuse1, Refuse2, Refuse3}
-use Rattle.driver_model.specs.Drivers.{effects_of}
-use Rattle.driver_model.specs.Programs.{ToldProgram}
+use Rattle.port_driver.specs.driver_model.Calls as driver
+use Rattle.port_driver.specs.driver_model.Calls.{Callback, DriverCall, call_of, cut_of, is_empty, Own, Kind, Echo, Tally, Valve, Store, Digest, Spawn, Refuse1, Refuse2, Refuse3}
+use Rattle.port_driver.specs.driver_model.Drivers.{effects_of}
+use Rattle.port_driver.specs.driver_model.Programs.{ToldProgram}
 use Rattle.port_driver.specs.Context.{Context}
 use Rattle.port_driver.specs.Driven.{Stands}
 use Rattle.port_history.specs.Opening.{Opening, Taken, taken_of, is_process}

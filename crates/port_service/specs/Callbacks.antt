@@ -1,14 +1,14 @@
 -- The callback of a signal, by what a port knows of its sender.
 use Rattle.std.specs.Prelude.{ℕ, List, Bool, false, Option, Some, None, if◌then◌else◌, slice_index_or}
 use Rattle.std.specs.List.{concat}
-use Rattle.port_signal.specs.Links.{has}
+use Rattle.port_model.specs.port_signal.Links.{has}
 use Rattle.port_model.specs.declared.event.Dir.TheVariants.{Read, Write}
 use Rattle.port_model.specs.declared.signal.Sender.{Sender}
 use Rattle.port_model.specs.declared.signal.Sender.TheVariants.{Process}
 use Rattle.port_model.specs.declared.signal.Signal.{Signal}
 use Rattle.port_model.specs.declared.signal.Signal.TheVariants.{Command, OwnerCommand, Control, Call, Ready, AsyncDone, Gone}
-use Rattle.driver_model.specs.Calls as driver
-use Rattle.driver_model.specs.Calls.{Callback}
+use Rattle.port_driver.specs.driver_model.Calls as driver
+use Rattle.port_driver.specs.driver_model.Calls.{Callback}
 
 -- the callback of a signal: whether the owner sent it, whether the driver is told of the sender's end, and the sender's number
 abbrev pub callback_by : Bool → Bool → ℕ → Signal → Option Callback

@@ -1,9 +1,9 @@
 -- What the callback of a signal left.
 use Rattle.std.specs.Prelude.{◌≡◌, ◌≤◌, ℕ, List, [], ◌∷◌, ◌++◌, length, true, Option, Some, None}
-use Rattle.port_signal.specs.declared.row.Outside.{Outside}
+use Rattle.port_model.specs.port_signal.declared.row.Outside.{Outside}
 use Rattle.port_model.specs.declared.effect.Effect.{Effect}
-use Rattle.driver_model.specs.Calls.{Callback, DriverCall, call_of, Own, Kind}
-use Rattle.driver_model.specs.Programs.{ToldProgram}
+use Rattle.port_driver.specs.driver_model.Calls.{Callback, DriverCall, call_of, Own, Kind}
+use Rattle.port_driver.specs.driver_model.Programs.{ToldProgram}
 use Rattle.port_driver.specs.Context.{Context}
 use Rattle.port_driver.specs.declared.life.Life.{Life}
 use Rattle.port_driver.specs.declared.life.Life.TheVariants.{Started}

@@ -1,8 +1,8 @@
 -- What flushing and stopping the driver of a port left.
 use Rattle.std.specs.Prelude.{◌≡◌, ℕ, List, [], ◌++◌, Bool, false, not, ◌&&◌, ◌||◌, Option, Some, None}
-use Rattle.port_signal.specs.Reasons.{is_kill}
-use Rattle.driver_model.specs.Calls.{DriverCall, Own, Kind}
-use Rattle.driver_model.specs.Programs.{ToldProgram}
+use Rattle.port_model.specs.port_signal.Reasons.{is_kill}
+use Rattle.port_driver.specs.driver_model.Calls.{DriverCall, Own, Kind}
+use Rattle.port_driver.specs.driver_model.Programs.{ToldProgram}
 use Rattle.port_driver.specs.Context.{Context}
 use Rattle.port_driver.specs.Driven.{Stands}
 use Rattle.port_history.specs.Opening.{Opening}

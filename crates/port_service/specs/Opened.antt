@@ -1,9 +1,9 @@
 -- A driver that just began to serve a port.
 use Rattle.std.specs.Prelude.{◌≡◌, ◌≤◌, ℕ, List, [], ◌∷◌, length}
-use Rattle.port_config.specs.declared.config.Config.{Config}
+use Rattle.port_driver.specs.port_config.declared.config.Config.{Config}
 use Rattle.port_model.specs.declared.effect.Effect.{Effect}
-use Rattle.driver_model.specs.Calls.{Kind, Own}
-use Rattle.driver_model.specs.Drivers.{read_event_of, write_event_of, effects_of}
+use Rattle.port_driver.specs.driver_model.Calls.{Kind, Own}
+use Rattle.port_driver.specs.driver_model.Drivers.{read_event_of, write_event_of, effects_of}
 use Rattle.port_driver.specs.declared.life.Life.{Life}
 use Rattle.port_driver.specs.declared.life.Life.TheVariants.{Started, Stopped}
 use Rattle.port_driver.specs.Driven.{Stands}

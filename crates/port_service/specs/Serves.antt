@@ -1,9 +1,9 @@
 -- What handling a task left, as a history says it.
 use Rattle.std.specs.Prelude.{◌≡◌, ℕ, ◌<◌, ◌≤◌, List, [], ◌++◌, Bool, true, false, Option, None, IsSomeAnd, length, slice_index_or}
-use Rattle.port_signal.specs.Links.{has}
-use Rattle.port_signal.specs.Reasons.{is_kill}
-use Rattle.driver_model.specs.Calls.{Own}
-use Rattle.driver_model.specs.Programs.{ToldProgram}
+use Rattle.port_model.specs.port_signal.Links.{has}
+use Rattle.port_model.specs.port_signal.Reasons.{is_kill}
+use Rattle.port_driver.specs.driver_model.Calls.{Own}
+use Rattle.port_driver.specs.driver_model.Programs.{ToldProgram}
 use Rattle.port_driver.specs.Context.{Context}
 use Rattle.port_driver.specs.Driven.{Stands}
 use Rattle.port_model.specs.declared.signal.Sender.{Sender}

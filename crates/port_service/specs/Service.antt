@@ -1,7 +1,7 @@
 -- The driver that serves a port, as contracts see it.
 use Rattle.std.specs.Prelude.{ℕ, List, Bool, Option}
-use Rattle.driver_model.specs.Calls.{Kind, Own}
-use Rattle.driver_model.specs.Programs.{ToldProgram}
+use Rattle.port_driver.specs.driver_model.Calls.{Kind, Own}
+use Rattle.port_driver.specs.driver_model.Programs.{ToldProgram}
 use Rattle.port_driver.specs.declared.life.Life.{Life}
 
 -- its kind, what it keeps, where it stands in its life, its program, how often its outside failed, the bytes of its queue, the number of

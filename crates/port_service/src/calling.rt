@@ -1,7 +1,7 @@
 //! The callback of a signal.
 ghost use Rattle.std.specs.Prelude.{Some, None, OnOk, if◌then◌else◌};
 ghost use Rattle.std.specs.List.{concat};
-ghost use Rattle.driver_model.specs.Calls.{Outputv, ProcessExit};
+ghost use Rattle.port_driver.specs.driver_model.Calls.{Outputv, ProcessExit};
 ghost use Rattle.port_service.specs.Callbacks.{callback_by};
 ghost use Rattle.port_service.specs.Called.{Called, IsUncalled, KeepsFew};
 

@@ -1,6 +1,6 @@
 //! How a row ends the service of a port's driver.
 ghost use Rattle.std.specs.Prelude.{◌≡◌, ◌≤◌, ◌+◌, true, false, length, OnOk, if◌then◌else◌};
-ghost use Rattle.driver_model.specs.Calls.{is_empty};
+ghost use Rattle.port_driver.specs.driver_model.Calls.{is_empty};
 ghost use Rattle.port_driver.specs.Driven.{Keeps, MayCall};
 ghost use Rattle.port_history.specs.Ties.{failure};
 ghost use Rattle.port_service.specs.Closing.{ends_driver, is_flushed, Flushed, Halted};

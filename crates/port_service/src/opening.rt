@@ -1,6 +1,6 @@
 //! How a driver begins to serve a port.
 ghost use Rattle.std.specs.Prelude.{◌≡◌, ◌≤◌, ◌⊎◌, [], IfOk, IfErr, OnErr, OnOk, None};
-ghost use Rattle.driver_model.specs.Drivers.{refusal_of};
+ghost use Rattle.port_driver.specs.driver_model.Drivers.{refusal_of};
 ghost use Rattle.port_driver.specs.Driven.{Began};
 ghost use Rattle.port_driver.specs.Starting.{Refuses};
 

@@ -6,7 +6,7 @@ ghost use Rattle.port_history.specs.Service.{first_reason};
 ghost use Rattle.port_history.specs.Ties.{failure, signal_reason, watched_by};
 ghost use Rattle.port_history.specs.State.{State};
 ghost use Rattle.port_model.specs.Tasks.{TaskView};
-ghost use Rattle.driver_model.specs.Drivers.{read_event_of, refusal_of, write_event_of};
+ghost use Rattle.port_driver.specs.driver_model.Drivers.{read_event_of, refusal_of, write_event_of};
 ghost use Rattle.port_driver.specs.Starting.{Refuses};
 ghost use Rattle.port_service.specs.Opened.{Opened, ended};
 ghost use Rattle.port_service.specs.Serves.{IsCaller, IsFlagged, IsServed, Served, Watches, standing};

@@ -23,3 +23,4 @@ pub use no_memory::NoMemory;
 pub use row::{Effect, Journal, MarkKind, Outside, Row, Rows};
 pub use signal::{Sender, Signal, Task};
 pub use spelling::reason;
+pub use task_queue::Fits;

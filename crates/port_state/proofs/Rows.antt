@@ -1,27 +1,27 @@
 -- The state after the row of a handled task.
 use Rattle.std.proofs.Common.{◌≡◌, ℕ, List, [], ◌∷◌, ◌++◌, length, Bool, true, false, ◌&&◌, ◌||◌, Option, Some, None, is_some, refl, sym, ap, ◌∙◌, subst}
 use Rattle.std.specs.Prelude.{◌<◌, not, if◌then◌else◌, IsSomeAnd}
-use Rattle.port_signal.specs.Reasons.{is_kill}
-use Rattle.port_signal.specs.declared.row.MarkKind.{MarkKind}
-use Rattle.port_signal.specs.declared.row.MarkKind.TheVariants.{Closed}
-use Rattle.driver_model.specs.Calls.{DriverCall}
-use Rattle.driver_model.specs.Drivers.{held_events}
-use Rattle.driver_model.specs.Same.{same_effects}
+use Rattle.port_model.specs.port_signal.Reasons.{is_kill}
+use Rattle.port_model.specs.port_signal.declared.row.MarkKind.{MarkKind}
+use Rattle.port_model.specs.port_signal.declared.row.MarkKind.TheVariants.{Closed}
+use Rattle.port_driver.specs.driver_model.Calls.{DriverCall}
+use Rattle.port_driver.specs.driver_model.Drivers.{held_events}
+use Rattle.port_driver.specs.driver_model.Same.{same_effects}
 use Rattle.port_driver.specs.Driven.{Stands}
 use Rattle.port_driver.specs.declared.life.Life.{Life}
 use Rattle.port_driver.specs.declared.life.Life.TheVariants.{Fresh, Started, Stopped}
-use Rattle.port_history.specs.Opening.{Opening, Taken, taken_of}
-use Rattle.port_history.specs.Marks.{busy_after, busy_marks, closed_marks, is_busy}
-use Rattle.port_history.specs.Service.{callback_of, caller_of, calls_by, effects_after, first_reason, flush_calls, must_stop, stop_calls}
-use Rattle.port_history.specs.Ties.{failure, signal_reason, tied, untied, watched_by}
-use Rattle.port_history.specs.Mail.{closing_mail}
+use Rattle.port_links.specs.port_history.Opening.{Opening, Taken, taken_of}
+use Rattle.port_links.specs.port_history.Marks.{busy_after, busy_marks, closed_marks, is_busy}
+use Rattle.port_links.specs.port_history.Service.{callback_of, caller_of, calls_by, effects_after, first_reason, flush_calls, must_stop, stop_calls}
+use Rattle.port_links.specs.port_history.Ties.{failure, signal_reason, tied, untied, watched_by}
+use Rattle.port_links.specs.port_history.Mail.{closing_mail}
 use Rattle.port_model.specs.declared.signal.Sender.{Sender}
 use Rattle.port_model.specs.declared.signal.Sender.TheVariants.{Process, Poller, Worker, Timer}
 use Rattle.port_model.specs.declared.signal.Signal.TheVariants.{Dropped}
 use Rattle.port_model.specs.Tasks.{TaskView}
-use Rattle.port_history.specs.State.{State, closing_reason, closer_after, closer_of, flushed_calls, row_calls, signal_calls, stops, after_handled}
-use Rattle.port_history.specs.Laws.{has_effects, is_answered_by}
-use Rattle.driver_model.specs.Spawn.{is_none}
+use Rattle.port_links.specs.port_history.State.{State, closing_reason, closer_after, closer_of, flushed_calls, row_calls, signal_calls, stops, after_handled}
+use Rattle.port_links.specs.port_history.Laws.{has_effects, is_answered_by}
+use Rattle.port_driver.specs.driver_model.Spawn.{is_none}
 use Rattle.port_driver.specs.Context.{SameEvents}
 use Rattle.port_links.specs.Table.{IsAmong}
 use Rattle.port_service.specs.Callbacks.{is_flagged, is_told_of}

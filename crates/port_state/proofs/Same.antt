@@ -3,13 +3,13 @@ use Rattle.std.proofs.Common.{◌≡◌, ℕ, List, [], ◌∷◌, Bool, true, f
 use Rattle.std.specs.Prelude.{◌==◌}
 use Rattle.std.proofs.lemmas.Bool.Decides.{Decides-eqb, Decides-int_eq}
 use Rattle.std.proofs.lemmas.Slice.Eq.{slice_eq-Decides}
-use Rattle.io_vector.specs.declared.flag.Flag.{Flag}
-use Rattle.io_vector.specs.declared.flag.Flag.TheVariants.{Plain, Eol, Noeol}
+use Rattle.port_model.specs.io_vector.declared.flag.Flag.{Flag}
+use Rattle.port_model.specs.io_vector.declared.flag.Flag.TheVariants.{Plain, Eol, Noeol}
 use Rattle.port_model.specs.declared.event.Dir.{Dir}
 use Rattle.port_model.specs.declared.event.Dir.TheVariants.{Read, Write}
 use Rattle.port_model.specs.declared.effect.Effect.{Effect}
 use Rattle.port_model.specs.declared.effect.Effect.TheVariants.{Message, Eof, Status, Busy, Select, Unuse, Async, Watch, Reply, ReplyBadarg, Fail}
-use Rattle.driver_model.specs.Same.{same_bytes, same_bool, same_flag, same_dir, same_effect, same_effects}
+use Rattle.port_driver.specs.driver_model.Same.{same_bytes, same_bool, same_flag, same_dir, same_effect, same_effects}
 
 both : {a b : Bool} → a ≡ true → b ≡ true → (a && b) ≡ true
 both e f = rw (e, f) refl

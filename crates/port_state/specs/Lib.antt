@@ -1,2 +1,6 @@
+-- What crates above name of the definitions below.
+pub use Rattle.port_links.specs as port_links
+pub use Rattle.port_mail.specs as port_mail
+pub use Rattle.port_service.specs as port_service
 pub mod View
 pub mod Served

@@ -1,22 +1,22 @@
 -- The state of a port, as contracts see it, and what it says of a history.
 use Rattle.std.specs.Prelude.{◌≡◌, ℕ, List, [], ◌∷◌, ◌++◌, length, Bool, true, false, Option, Some, None, IfSome, is_some, ◌&&◌, ◌||◌, not, if◌then◌else◌}
-use Rattle.port_signal.specs.Reasons.{is_kill}
-use Rattle.port_signal.specs.declared.row.MarkKind.{MarkKind}
-use Rattle.port_signal.specs.declared.row.MarkKind.TheVariants.{Busy, Free, Closed}
+use Rattle.port_model.specs.port_signal.Reasons.{is_kill}
+use Rattle.port_model.specs.port_signal.declared.row.MarkKind.{MarkKind}
+use Rattle.port_model.specs.port_signal.declared.row.MarkKind.TheVariants.{Busy, Free, Closed}
 use Rattle.port_links.specs.Table.{LinkTable}
-use Rattle.driver_model.specs.Drivers.{held_events}
+use Rattle.port_driver.specs.driver_model.Drivers.{held_events}
 use Rattle.port_driver.specs.Driven.{Stands}
 use Rattle.port_driver.specs.declared.life.Life.TheVariants.{Started, Stopped}
-use Rattle.port_config.specs.declared.config.Config.{Config}
-use Rattle.driver_model.specs.Calls.{Kind}
+use Rattle.port_driver.specs.port_config.declared.config.Config.{Config}
+use Rattle.port_driver.specs.driver_model.Calls.{Kind}
 use Rattle.port_service.specs.Opened.{IsOpening}
 use Rattle.port_service.specs.Service.{ServiceView}
 use Rattle.port_service.specs.Serves.{Watches, standing}
-use Rattle.port_history.specs.Opening.{Opening}
-use Rattle.port_history.specs.Marks.{is_busy}
-use Rattle.port_history.specs.Service.{first_reason}
-use Rattle.port_history.specs.State.{State, closer_of}
-use Rattle.port_history.specs.Ties.{Ties, failure}
+use Rattle.port_links.specs.port_history.Opening.{Opening}
+use Rattle.port_links.specs.port_history.Marks.{is_busy}
+use Rattle.port_links.specs.port_history.Service.{first_reason}
+use Rattle.port_links.specs.port_history.State.{State, closer_of}
+use Rattle.port_links.specs.port_history.Ties.{Ties, failure}
 use Rattle.port_model.specs.declared.signal.Sender.{Sender}
 use Rattle.port_model.specs.declared.signal.Signal.{Signal}
 use Rattle.port_service.specs.declared.handling.Handled.{Handled}

@@ -1,9 +1,9 @@
 //! How a port's state begins and ends.
 ghost use Rattle.std.specs.Prelude.{◌≡◌, ◌≢◌, ◌≤◌, ◌<◌, ◌⊎◌, ◌∷◌, [], IfOk, IfErr, OnOk};
-ghost use Rattle.driver_model.specs.Drivers.{effects_of, read_event_of, refusal_of, write_event_of};
+ghost use Rattle.port_driver.specs.driver_model.Drivers.{effects_of, read_event_of, refusal_of, write_event_of};
 ghost use Rattle.port_driver.specs.Starting.{Refuses};
-ghost use Rattle.port_history.specs.Opening.{Opening};
-ghost use Rattle.port_history.specs.State.{start_call, state_at_start};
+ghost use Rattle.port_links.specs.port_history.Opening.{Opening};
+ghost use Rattle.port_links.specs.port_history.State.{start_call, state_at_start};
 ghost use Rattle.port_service.specs.Opened.{ended};
 ghost use Rattle.port_state.specs.View.{IsStateOf, IsOpeningOf, IsSamePort};
 

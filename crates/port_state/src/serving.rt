@@ -1,18 +1,18 @@
 //! A task that the port handles.
 ghost use Rattle.std.specs.Prelude.{◌≡◌, ◌≢◌, ◌≤◌, ◌&&◌, true, [], length, map, not, is_some, if◌then◌else◌, IfOk, OnOk};
 ghost use Rattle.port_driver.specs.Context.{SameEvents};
-ghost use Rattle.driver_model.specs.Drivers.{held_events};
+ghost use Rattle.port_driver.specs.driver_model.Drivers.{held_events};
 ghost use Rattle.port_links.specs.Posts.{sent_of};
 ghost use Rattle.port_links.specs.Table.{IsAmong};
 ghost use Rattle.port_model.specs.Tasks.{TaskView};
 ghost use Rattle.port_model.specs.declared.signal.Sender.TheVariants.{Poller};
 ghost use Rattle.port_model.specs.declared.signal.Signal.TheVariants.{Dropped};
-ghost use Rattle.port_history.specs.Mail.{closing_mail};
-ghost use Rattle.port_history.specs.Marks.{busy_after, busy_marks};
-ghost use Rattle.port_history.specs.Opening.{Opening, is_process, taken_of};
-ghost use Rattle.port_history.specs.Service.{caller_of, first_reason};
-ghost use Rattle.port_history.specs.State.{State, closer_of};
-ghost use Rattle.port_history.specs.Ties.{failure, Ties};
+ghost use Rattle.port_links.specs.port_history.Mail.{closing_mail};
+ghost use Rattle.port_links.specs.port_history.Marks.{busy_after, busy_marks};
+ghost use Rattle.port_links.specs.port_history.Opening.{Opening, is_process, taken_of};
+ghost use Rattle.port_links.specs.port_history.Service.{caller_of, first_reason};
+ghost use Rattle.port_links.specs.port_history.State.{State, closer_of};
+ghost use Rattle.port_links.specs.port_history.Ties.{failure, Ties};
 ghost use Rattle.port_state.specs.View.{IsStateOf, IsSamePort, change_marks, state_after};
 ghost use Rattle.port_state.specs.Served.{IsServed, untied_for};
 

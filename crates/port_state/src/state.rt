@@ -1,6 +1,6 @@
 ghost use Rattle.std.specs.Prelude.{◌≡◌, ◌≤◌, ◌⊎◌, ◌<◌, IfOk, IfErr, OnOk, is_some, not};
-ghost use Rattle.port_history.specs.State.{State};
-ghost use Rattle.port_history.specs.Opening.{Opening};
+ghost use Rattle.port_links.specs.port_history.State.{State};
+ghost use Rattle.port_links.specs.port_history.Opening.{Opening};
 ghost use Rattle.port_state.specs.View.{IsStateOf};
 
 use crate::{Driver, Reason};

@@ -5,7 +5,7 @@ use Rattle.std.specs.List.{AllByRecursion, IsDistinct}
 use Rattle.std.proofs.lemmas.Bool.{and_from, eq-eqb, not-false, true≢false}
 use Rattle.suspend_list.specs.declared.list.Entry.{Entry as ListEntry}
 use Rattle.suspend_list.specs.Entries.{Suspended, processes_of, is_listed, EachOnce}
-use Rattle.port_model.specs.declared.signal.Sender.TheVariants.{Process}
+use Rattle.port_history.specs.port_model.declared.signal.Sender.TheVariants.{Process}
 use Rattle.port_history.specs.Suspension.{Entry, same_entry, has_sender, is_first, without_entry}
 use Rattle.port_suspension.specs.Listed.{listed_as, AgreesListed}
 

@@ -2,7 +2,7 @@
 use Rattle.std.specs.Prelude.{◌≡◌, List, map}
 use Rattle.suspend_list.specs.declared.list.Entry.{Entry as ListEntry}
 use Rattle.suspend_list.specs.Entries.{Suspended}
-use Rattle.port_model.specs.declared.signal.Sender.TheVariants.{Process}
+use Rattle.port_history.specs.port_model.declared.signal.Sender.TheVariants.{Process}
 use Rattle.port_history.specs.Suspension.{Entry, entry}
 
 -- an entry of the list as a history has it

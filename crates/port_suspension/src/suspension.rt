@@ -1,5 +1,5 @@
 ghost use Rattle.std.specs.Prelude.{◌≡◌, ◌<◌, ◌≤◌, ◌++◌, ◌∷◌, ◌↔◌, [], List, true, false, not, IsTrue, IfOk, IfSome, IfNone, length, slice_get};
-ghost use Rattle.port_model.specs.declared.signal.Sender.TheVariants.{Process};
+ghost use Rattle.port_history.specs.port_model.declared.signal.Sender.TheVariants.{Process};
 ghost use Rattle.port_history.specs.Suspension.{Entry as HistoryEntry, entry, has_sender, is_first, without_entry};
 ghost use Rattle.suspend_list.specs.Entries.{suspended};
 ghost use Rattle.port_suspension.specs.Listed.{AgreesListed};

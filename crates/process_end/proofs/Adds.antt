@@ -16,7 +16,7 @@ use Rattle.port_words.specs.declared.busy.view.SenderView.{SenderView}
 use Rattle.port_words.specs.busy.Queue.{period_of, Climbs, is_left_at}
 use Rattle.port_words.specs.busy.Stat.{tells_closed}
 use Rattle.port_words.specs.busy.Steps.{adding, heard, next_add, next_name}
-use Rattle.port_history.specs.Suspension.{is_queue_busy}
+use Rattle.port_lanes.specs.port_history.Suspension.{is_queue_busy}
 use Rattle.process_receipts.specs.Ledgers.{is_undone, kept_adds, is_plain, plain_in, OncePlain, ArePlaced, saw_closed, saw_later, is_stopping_add, IsOver, IsFree, IsWaiting}
 
 pub split : {X : Type 0} (b : Bool) → (b ≡ true → X) → (b ≡ false → X) → X

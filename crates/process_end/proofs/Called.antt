@@ -8,7 +8,7 @@ use Rattle.port_words.specs.busy.Known.{SendKnown}
 use Rattle.port_model.specs.declared.mail.Mail.{Mail}
 use Rattle.port_model.specs.declared.signal.Sender.TheVariants.{Process}
 use Rattle.port_model.specs.Signals.{is_command}
-use Rattle.port_history.specs.Laws.{may_send}
+use Rattle.port_lanes.specs.port_history.Laws.{may_send}
 use Rattle.port_lanes.specs.Parcels.{names_below}
 use Rattle.suspend_list.specs.declared.note.StopNote.{StopNote}
 use Rattle.process_receipts.specs.declared.receipt.Outcome.{Outcome}

@@ -10,7 +10,7 @@ use Rattle.port_words.specs.declared.busy.view.SenderView.{SenderView}
 use Rattle.port_words.specs.busy.Known.{SendKnown}
 use Rattle.port_words.specs.busy.Queue.{period_of, Climbs}
 use Rattle.port_words.specs.busy.Stat.{tells_closed}
-use Rattle.port_history.specs.Suspension.{is_queue_busy}
+use Rattle.port_lanes.specs.port_history.Suspension.{is_queue_busy}
 use Rattle.suspend_list.specs.declared.note.StopNote.{StopNote}
 use Rattle.suspend_list.specs.Notes.{MustWait}
 use Rattle.process_receipts.specs.Asks.{Asked}

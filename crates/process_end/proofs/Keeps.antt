@@ -12,7 +12,7 @@ use Rattle.port_words.specs.busy.Queue.{period_of, Climbs}
 use Rattle.port_words.specs.busy.Stat.{tells_closed, tells_busy}
 use Rattle.port_words.specs.busy.Steps.{saw, adding, heard, undoing, next_add, next_name}
 use Rattle.port_model.specs.Signals.{data_size, is_command}
-use Rattle.port_history.specs.Suspension.{is_queue_busy}
+use Rattle.port_lanes.specs.port_history.Suspension.{is_queue_busy}
 use Rattle.process_receipts.specs.declared.how.How.{How}
 use Rattle.process_receipts.specs.declared.how.How.TheVariants.{Plain, Owner, NoSuspend, Force, ForceNoSuspend}
 use Rattle.process_receipts.specs.declared.receipt.Outcome.{Outcome}

@@ -4,7 +4,7 @@ use Rattle.port_words.specs.busy.Known.{SendKnown, FindsBusy}
 use Rattle.port_model.specs.declared.signal.Signal.{Signal}
 use Rattle.port_model.specs.Signals.{data_size}
 use Rattle.port_model.specs.Tasks.{TaskView}
-use Rattle.port_history.specs.Suspension.{is_queue_busy}
+use Rattle.port_lanes.specs.port_history.Suspension.{is_queue_busy}
 use Rattle.process_receipts.specs.declared.how.How.{How}
 use Rattle.process_receipts.specs.declared.receipt.Outcome.{Outcome}
 use Rattle.process_receipts.specs.declared.receipt.Outcome.TheVariants.{Accepted, Suspended, Dropped}

@@ -6,7 +6,7 @@ use Rattle.port_words.specs.declared.busy.view.SenderView.{SenderView}
 use Rattle.port_words.specs.busy.Queue.{period_of, Climbs}
 use Rattle.port_words.specs.busy.Stat.{Rises}
 use Rattle.port_words.specs.busy.Steps.{adding, heard}
-use Rattle.port_history.specs.Suspension.{is_queue_busy}
+use Rattle.port_lanes.specs.port_history.Suspension.{is_queue_busy}
 use Rattle.process_receipts.specs.Receipts.{IsSublist}
 use Rattle.process_receipts.specs.Ledgers.{saw_closed, is_plain, ArePlaced, IsFree, IsWaiting, OncePlain}
 

@@ -8,7 +8,7 @@ use Rattle.port_model.specs.declared.signal.Signal.{Signal}
 use Rattle.port_model.specs.Signals.{data_size, is_command}
 use Rattle.port_model.specs.Tasks.{TaskView}
 use Rattle.port_model.specs.declared.signal.Sender.TheVariants.{Process}
-use Rattle.port_history.specs.Laws.{may_send}
+use Rattle.port_lanes.specs.port_history.Laws.{may_send}
 use Rattle.port_lanes.specs.Parcels.{names_below}
 use Rattle.process_receipts.specs.declared.how.How.{How}
 use Rattle.process_receipts.specs.declared.receipt.Outcome.{Outcome}

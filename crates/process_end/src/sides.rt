@@ -3,7 +3,7 @@ ghost use Rattle.std.specs.Prelude.{◌≡◌, ◌<◌, ◌≤◌, ◌^◌, ℕ,
 ghost use Rattle.port_words.specs.busy.Known.{SendKnown};
 ghost use Rattle.port_model.specs.declared.signal.Sender.TheVariants.{Process};
 ghost use Rattle.port_model.specs.Signals.{data_size, is_command};
-ghost use Rattle.port_history.specs.Laws.{may_send};
+ghost use Rattle.port_lanes.specs.port_history.Laws.{may_send};
 ghost use Rattle.port_lanes.specs.Parcels.{names_below};
 ghost use Rattle.suspend_list.specs.declared.note.StopNote.{StopNote};
 ghost use Rattle.process_receipts.specs.Asks.{asked, is_forcing, is_suspended};

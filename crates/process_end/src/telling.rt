@@ -1,7 +1,7 @@
 // How the receipts of calls are told to their callers.
 ghost use Rattle.std.specs.Prelude.{◌≡◌, ℕ, true, false, unwrap_or};
 ghost use Rattle.port_words.specs.busy.Stat.{marks_told};
-ghost use Rattle.port_history.specs.Laws.{may_send};
+ghost use Rattle.port_lanes.specs.port_history.Laws.{may_send};
 ghost use Rattle.port_model.specs.Signals.{is_command};
 ghost use Rattle.port_model.specs.declared.signal.Sender.TheVariants.{Process};
 ghost use Rattle.suspend_list.specs.declared.note.StopNote.{StopNote};

@@ -3,9 +3,9 @@ use Rattle.std.proofs.Common.{◌≡◌, ℕ, ◌+◌, List, [], ◌∷◌, ◌+
 use Rattle.std.specs.Prelude.{map, reverse}
 use Rattle.std.proofs.lemmas.List.{append-nil, reverse-append, reverse-reverse}
 use Rattle.port_model.specs.declared.mail.Mail.{Mail}
-use Rattle.process_receipts.specs.declared.receipt.Receipt.{Receipt}
-use Rattle.process_receipts.specs.Asks.{Asked}
-use Rattle.process_receipts.specs.Receipts.{is_put}
+use Rattle.process_end.specs.process_receipts.declared.receipt.Receipt.{Receipt}
+use Rattle.process_end.specs.process_receipts.Asks.{Asked}
+use Rattle.process_end.specs.process_receipts.Receipts.{is_put}
 use Rattle.process_end.specs.declared.answers.ProcEnd.{ProcEnd}
 use Rattle.process_end.specs.Views.{ProcView}
 use Rattle.process_end.specs.Calls.{HasAsked}

@@ -3,8 +3,8 @@ use Rattle.std.proofs.Common.{◌≡◌, ℕ, ◌+◌, ◌<◌, List, [], ◌∷
 use Rattle.std.specs.Prelude.{map}
 use Rattle.std.proofs.lemmas.List.{append-nil, map-append, length-append}
 use Rattle.port_model.specs.declared.mail.Mail.{Mail}
-use Rattle.process_receipts.specs.declared.receipt.Receipt.{Receipt}
-use Rattle.process_receipts.specs.Asks.{Asked}
+use Rattle.process_end.specs.process_receipts.declared.receipt.Receipt.{Receipt}
+use Rattle.process_end.specs.process_receipts.Asks.{Asked}
 use Rattle.process_end.specs.Views.{ProcView, StoppedView}
 use Rattle.process_end.specs.Calls.{HasAsked, HasMade}
 use Rattle.process_end.specs.Looked.{HasLookedAt}

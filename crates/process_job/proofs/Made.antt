@@ -4,11 +4,11 @@ use Rattle.std.specs.Prelude.{◌↔◌, IsTrue, map, reverse, take, drop, unwra
 use Rattle.std.proofs.lemmas.Bool.{false≢true}
 use Rattle.std.proofs.lemmas.List.{append-nil, reverse-append, length-drop}
 use Rattle.port_model.specs.declared.mail.Mail.{Mail}
-use Rattle.process_receipts.specs.declared.how.How.{How}
-use Rattle.process_receipts.specs.declared.how.How.TheVariants.{Plain, Owner, NoSuspend, Force, ForceNoSuspend}
-use Rattle.process_receipts.specs.declared.receipt.Receipt.{Receipt}
-use Rattle.process_receipts.specs.Asks.{Asked, asked}
-use Rattle.process_receipts.specs.Receipts.{is_put}
+use Rattle.process_end.specs.process_receipts.declared.how.How.{How}
+use Rattle.process_end.specs.process_receipts.declared.how.How.TheVariants.{Plain, Owner, NoSuspend, Force, ForceNoSuspend}
+use Rattle.process_end.specs.process_receipts.declared.receipt.Receipt.{Receipt}
+use Rattle.process_end.specs.process_receipts.Asks.{Asked, asked}
+use Rattle.process_end.specs.process_receipts.Receipts.{is_put}
 use Rattle.port_model.specs.declared.signal.Signal.{Signal}
 use Rattle.port_model.specs.Signals.{data_size}
 use Rattle.process_end.specs.declared.answers.Commanded.{Commanded}
@@ -16,7 +16,7 @@ use Rattle.process_end.specs.declared.answers.Commanded.TheVariants as commanded
 use Rattle.process_end.specs.declared.answers.SendRefusal.{SendRefusal}
 use Rattle.process_end.specs.declared.answers.SendRefusal.TheVariants as refused
 use Rattle.process_end.specs.Commanded.{command_of, proc_in, HasCommanded, IsCommanded, HasSignalled, IsRefusal}
-use Rattle.process_receipts.specs.declared.receipt.Outcome.TheVariants.{Accepted}
+use Rattle.process_end.specs.process_receipts.declared.receipt.Outcome.TheVariants.{Accepted}
 use Rattle.process_end.proofs.Adds.{split}
 use Rattle.process_end.specs.Views.{ProcView}
 use Rattle.process_end.specs.Calls.{HasMade}

@@ -3,12 +3,12 @@ use Rattle.std.proofs.Common.{◌≡◌, ℕ, ◌+◌, List, [], ◌∷◌, ◌+
 use Rattle.std.specs.Prelude.{map, filter, not, Contains}
 use Rattle.std.proofs.lemmas.List.{append-nil, map-append, length-append}
 use Rattle.std.proofs.lemmas.List.Elements.{filter-append, Contains-append_left}
-use Rattle.task_queue.specs.declared.item.Item.{Item}
-use Rattle.task_queue.specs.Items.{of}
+use Rattle.process_end.specs.task_queue.declared.item.Item.{Item}
+use Rattle.process_end.specs.task_queue.Items.{of}
 use Rattle.port_model.specs.declared.mail.Mail.{Mail}
 use Rattle.port_model.specs.Signals.{is_command}
-use Rattle.process_receipts.specs.declared.receipt.Receipt.{Receipt}
-use Rattle.process_receipts.specs.Asks.{Asked}
+use Rattle.process_end.specs.process_receipts.declared.receipt.Receipt.{Receipt}
+use Rattle.process_end.specs.process_receipts.Asks.{Asked}
 use Rattle.process_end.specs.Mailbox.{Mailbox, TookMail}
 use Rattle.process_end.proofs.Adds.{split}
 use Rattle.process_job.specs.Mails.{Came, came_from, mail_from, is_source, readable, resumes, own_mails, is_closed, noproc_mail, HasReply, AreReplied}

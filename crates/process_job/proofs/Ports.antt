@@ -6,11 +6,11 @@ use Rattle.std.proofs.lemmas.List.{append-nil}
 use Rattle.std.proofs.lemmas.List.Folds.{list_any-append}
 use Rattle.port_words.specs.busy.Known.{SendKnown, AddsTo, FindsBusy}
 use Rattle.port_words.specs.busy.Stat.{tells_closed}
-use Rattle.process_receipts.specs.declared.receipt.Outcome.{Outcome}
-use Rattle.process_receipts.specs.declared.receipt.Outcome.TheVariants.{Accepted, Suspended, Dropped, Closed, NotSupported, TooLong, SentOut}
-use Rattle.process_receipts.specs.declared.receipt.Receipt.{Receipt}
-use Rattle.process_receipts.specs.Asks.{Asked}
-use Rattle.process_receipts.specs.Ledgers.{saw_closed}
+use Rattle.process_end.specs.process_receipts.declared.receipt.Outcome.{Outcome}
+use Rattle.process_end.specs.process_receipts.declared.receipt.Outcome.TheVariants.{Accepted, Suspended, Dropped, Closed, NotSupported, TooLong, SentOut}
+use Rattle.process_end.specs.process_receipts.declared.receipt.Receipt.{Receipt}
+use Rattle.process_end.specs.process_receipts.Asks.{Asked}
+use Rattle.process_end.specs.process_receipts.Ledgers.{saw_closed}
 use Rattle.process_end.specs.Views.{LaneEnd, ProcView}
 use Rattle.process_end.specs.Steps.{looked, HasAdded, HasSent, HasStepped}
 use Rattle.process_end.specs.Calls.{TouchesPort, HasMade}

@@ -8,9 +8,9 @@ use Rattle.port_model.specs.declared.mail.Mail.{Mail}
 use Rattle.port_model.specs.declared.mail.Mail.TheVariants as mail
 use Rattle.port_words.specs.busy.Known.{SendKnown}
 use Rattle.port_words.specs.busy.Stat.{tells_closed}
-use Rattle.suspend_list.specs.declared.note.StopNote.{StopNote}
-use Rattle.process_receipts.specs.Asks.{Asked}
-use Rattle.process_receipts.specs.Ledgers.{saw_closed}
+use Rattle.process_end.specs.suspend_list.declared.note.StopNote.{StopNote}
+use Rattle.process_end.specs.process_receipts.Asks.{Asked}
+use Rattle.process_end.specs.process_receipts.Ledgers.{saw_closed}
 use Rattle.process_end.specs.declared.answers.NotYet.{NotYet}
 use Rattle.process_end.specs.declared.answers.NotYet.TheVariants as notyet
 use Rattle.process_end.specs.Views.{ProcView, StoppedView}

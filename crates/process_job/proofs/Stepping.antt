@@ -6,11 +6,11 @@ use Rattle.std.proofs.lemmas.List.Elements.{filter-append}
 use Rattle.std.proofs.lemmas.List.Sums.{sum_by-append}
 use Rattle.std.proofs.lemmas.Bool.Decides.{nat_tests}
 use Rattle.std.proofs.Math.Seq.{drop-append_seam}
-use Rattle.port_lanes.specs.Parcels.{names_below}
+use Rattle.process_end.specs.port_lanes.Parcels.{names_below}
 use Rattle.port_model.specs.declared.mail.Mail.{Mail}
 use Rattle.port_words.specs.busy.Known.{SendKnown}
-use Rattle.process_receipts.specs.declared.receipt.Receipt.{Receipt}
-use Rattle.process_receipts.specs.Asks.{Asked}
+use Rattle.process_end.specs.process_receipts.declared.receipt.Receipt.{Receipt}
+use Rattle.process_end.specs.process_receipts.Asks.{Asked}
 use Rattle.script_plan.specs.declared.step.Step.{Step}
 use Rattle.script_plan.specs.declared.step.Act.{Act}
 use Rattle.script_plan.specs.declared.step.Act.TheVariants.{Command, File, Send, Control, Call, Close, Connect, SendClose, SendConnect, Link, Unlink, Monitor, Demonitor, Exit, Expect, Bytes, Die}

@@ -1,9 +1,9 @@
 -- What a step comes to.
 use Rattle.std.specs.Prelude.{◌≡◌, ◌⊎◌, ℕ, ◌<◌, ◌≤◌, Bool, true, false, List, [], ◌∷◌, map, Result, Ok, Err}
-use Rattle.process_receipts.specs.declared.how.How.{How}
-use Rattle.process_receipts.specs.declared.how.How.TheVariants as how
-use Rattle.process_receipts.specs.Asks.{Asked, asked}
-use Rattle.port_lanes.specs.Parcels.{names_below}
+use Rattle.process_end.specs.process_receipts.declared.how.How.{How}
+use Rattle.process_end.specs.process_receipts.declared.how.How.TheVariants as how
+use Rattle.process_end.specs.process_receipts.Asks.{Asked, asked}
+use Rattle.process_end.specs.port_lanes.Parcels.{names_below}
 use Rattle.port_model.specs.declared.mail.Mail.{Mail}
 use Rattle.port_words.specs.busy.Known.{SendKnown}
 use Rattle.process_end.specs.declared.answers.Ask.{Ask}

@@ -3,12 +3,12 @@ use Rattle.std.specs.Prelude.{ℕ, ◌+◌, List, [], ◌∷◌, ◌++◌, Bool,
 use Rattle.std.proofs.Common.{zero, suc}
 use Rattle.port_model.specs.declared.signal.Signal.{Signal}
 use Rattle.port_model.specs.declared.signal.Signal.TheVariants as signal
-use Rattle.process_receipts.specs.declared.how.How.{How}
-use Rattle.process_receipts.specs.declared.how.How.TheVariants as how
-use Rattle.process_receipts.specs.declared.receipt.Outcome.{Outcome}
-use Rattle.process_receipts.specs.declared.receipt.Outcome.TheVariants as outcome
-use Rattle.process_receipts.specs.declared.receipt.Receipt.{Receipt}
-use Rattle.process_receipts.specs.Asks.{Asked, asked}
+use Rattle.process_end.specs.process_receipts.declared.how.How.{How}
+use Rattle.process_end.specs.process_receipts.declared.how.How.TheVariants as how
+use Rattle.process_end.specs.process_receipts.declared.receipt.Outcome.{Outcome}
+use Rattle.process_end.specs.process_receipts.declared.receipt.Outcome.TheVariants as outcome
+use Rattle.process_end.specs.process_receipts.declared.receipt.Receipt.{Receipt}
+use Rattle.process_end.specs.process_receipts.Asks.{Asked, asked}
 use Rattle.process_end.specs.Commanded.{command_of}
 use Rattle.process_end.specs.Ended.{gone_asks}
 use Rattle.script_plan.specs.declared.step.Step.{Step}

@@ -1,11 +1,11 @@
 -- What a process does from one moment to a later one.
 use Rattle.std.specs.Prelude.{◌≡◌, ℕ, ◌<◌, List, [], ◌++◌, length, map, true, Option, Some, None, slice_index_or}
-use Rattle.task_queue.specs.Items.{of}
+use Rattle.process_end.specs.task_queue.Items.{of}
 use Rattle.port_model.specs.declared.mail.Mail.{Mail}
 use Rattle.port_words.specs.busy.Known.{SendKnown}
-use Rattle.process_receipts.specs.declared.receipt.Receipt.{Receipt}
-use Rattle.process_receipts.specs.Asks.{Asked}
-use Rattle.process_receipts.specs.Ledgers.{saw_closed}
+use Rattle.process_end.specs.process_receipts.declared.receipt.Receipt.{Receipt}
+use Rattle.process_end.specs.process_receipts.Asks.{Asked}
+use Rattle.process_end.specs.process_receipts.Ledgers.{saw_closed}
 use Rattle.process_end.specs.Views.{LaneEnd, ProcView}
 use Rattle.process_end.specs.Calls.{HasAsked}
 use Rattle.process_end.specs.Mailbox.{Mailbox}

@@ -1,15 +1,15 @@
 -- The mail of a process: what the ports sent it, and what it adds of its own.
 use Rattle.std.specs.Prelude.{◌≡◌, ℕ, ◌+◌, ◌==◌, List, [], ◌∷◌, ◌++◌, Bool, true, false, not, ◌&&◌, Option, Some, None, length, map, filter, sum_by, Contains, codes, if◌then◌else◌}
-use Rattle.port_signal.specs.declared.mail.Answer.{Answer}
+use Rattle.port_model.specs.port_signal.declared.mail.Answer.{Answer}
 use Rattle.port_model.specs.declared.mail.Mail.{Mail}
 use Rattle.port_model.specs.declared.mail.Mail.TheVariants as mail
 use Rattle.port_model.specs.declared.signal.Signal.{Signal}
 use Rattle.port_model.specs.declared.signal.Signal.TheVariants as signal
-use Rattle.process_receipts.specs.declared.receipt.Outcome.{Outcome}
-use Rattle.process_receipts.specs.declared.receipt.Outcome.TheVariants as outcome
-use Rattle.process_receipts.specs.declared.receipt.Receipt.{Receipt}
-use Rattle.process_receipts.specs.Asks.{Asked}
-use Rattle.process_receipts.specs.Receipts.{is_put}
+use Rattle.process_end.specs.process_receipts.declared.receipt.Outcome.{Outcome}
+use Rattle.process_end.specs.process_receipts.declared.receipt.Outcome.TheVariants as outcome
+use Rattle.process_end.specs.process_receipts.declared.receipt.Receipt.{Receipt}
+use Rattle.process_end.specs.process_receipts.Asks.{Asked}
+use Rattle.process_end.specs.process_receipts.Receipts.{is_put}
 
 -- a mail of a process and the port whose end put it, or none where the process added it itself
 pub record Came : Type 0 where

@@ -2,9 +2,9 @@
 use Rattle.std.specs.Prelude.{◌≡◌, ℕ, List, [], ◌∷◌, ◌++◌, Bool, true, not, length, map, reverse, None, slice_index_or}
 use Rattle.port_model.specs.declared.mail.Mail.{Mail}
 use Rattle.port_words.specs.busy.Known.{SendKnown}
-use Rattle.process_receipts.specs.declared.receipt.Receipt.{Receipt}
-use Rattle.process_receipts.specs.Asks.{Asked}
-use Rattle.process_receipts.specs.Ledgers.{saw_closed}
+use Rattle.process_end.specs.process_receipts.declared.receipt.Receipt.{Receipt}
+use Rattle.process_end.specs.process_receipts.Asks.{Asked}
+use Rattle.process_end.specs.process_receipts.Ledgers.{saw_closed}
 use Rattle.process_end.specs.declared.answers.ProcEnd.{ProcEnd}
 use Rattle.process_end.specs.Views.{ProcView}
 use Rattle.process_end.specs.Ports.{ArePorts}

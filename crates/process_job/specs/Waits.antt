@@ -2,7 +2,7 @@
 use Rattle.std.specs.Prelude.{◌≡◌, ◌⊎◌, ℕ, ◌≤◌, List, [], ◌∷◌, true, false, slice_index_or}
 use Rattle.port_model.specs.declared.mail.Mail.{Mail}
 use Rattle.port_words.specs.busy.Known.{SendKnown}
-use Rattle.process_receipts.specs.Ledgers.{saw_closed}
+use Rattle.process_end.specs.process_receipts.Ledgers.{saw_closed}
 use Rattle.script_plan.specs.declared.step.Step.{Step}
 use Rattle.script_plan.specs.declared.step.Act.{Act}
 use Rattle.script_plan.specs.declared.step.Act.TheVariants.{Expect, Bytes}

@@ -1,10 +1,10 @@
 // The calls of a process: each is made, its port is woken where something was put, and what has to be waited for is.
 ghost use Rattle.std.specs.Prelude.{◌≡◌, ◌≢◌, if◌then◌else◌, not, false, ℕ, ◌<◌, ◌≤◌, [], ◌∷◌, ◌++◌, length, take, drop, true, Option, option_to_list, OnOk, IfOk, slice_index_or};
-ghost use Rattle.port_lanes.specs.Parcels.{names_below};
+ghost use Rattle.process_end.specs.port_lanes.Parcels.{names_below};
 ghost use Rattle.port_sched.specs.Homes.{AreHomes};
-ghost use Rattle.process_receipts.specs.declared.receipt.Receipt.{Receipt as TheReceipt};
-ghost use Rattle.process_receipts.specs.Asks.{asked};
-ghost use Rattle.process_receipts.specs.Receipts.{is_put};
+ghost use Rattle.process_end.specs.process_receipts.declared.receipt.Receipt.{Receipt as TheReceipt};
+ghost use Rattle.process_end.specs.process_receipts.Asks.{asked};
+ghost use Rattle.process_end.specs.process_receipts.Receipts.{is_put};
 ghost use Rattle.process_end.specs.Views.{LaneEnd};
 ghost use Rattle.process_end.specs.Commanded.{command_of, signal_of, IsRefusal};
 ghost use Rattle.process_job.specs.Asks.{ends_file, vector_of};

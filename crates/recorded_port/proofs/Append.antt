@@ -5,21 +5,21 @@ use Rattle.std.proofs.lemmas.List.{append-nil, reverse-append}
 use Rattle.std.proofs.lemmas.List.Elements.{All-cons, All-weaker, Contains-append_left}
 use Rattle.port_words.specs.busy.Known.{PortKnown}
 use Rattle.port_words.specs.declared.busy.view.AddName.{AddName}
-use Rattle.port_signal.specs.declared.row.MarkKind.{MarkKind}
-use Rattle.port_signal.specs.declared.row.MarkKind.TheVariants.{Busy, Free, Closed}
+use Rattle.port_model.specs.port_signal.declared.row.MarkKind.{MarkKind}
+use Rattle.port_model.specs.port_signal.declared.row.MarkKind.TheVariants.{Busy, Free, Closed}
 use Rattle.port_model.specs.declared.row.Row.{Row}
 use Rattle.port_model.specs.declared.row.Row.TheVariants.{Handled, Late, Listed, Resumed, Mark}
 use Rattle.port_model.specs.declared.signal.Sender.{Sender}
 use Rattle.port_model.specs.declared.signal.Sender.TheVariants.{Process}
 use Rattle.port_model.specs.Tasks.{TaskView}
-use Rattle.port_history.specs.Laws.{is_next, is_listed_right, waits_where_busy, count_of, may_send}
-use Rattle.port_history.specs.Mail.{handled_mail, row_mail}
-use Rattle.port_history.specs.Marks.{is_busy, is_due, none_due, busy_after}
-use Rattle.port_history.specs.Opening.{Opening, taken_of}
-use Rattle.port_history.specs.State.{state, after, closing_reason}
-use Rattle.port_history.specs.Suspension.{entry, has_entry, has_sender, is_first, without_entry}
+use Rattle.port_lanes.specs.port_history.Laws.{is_next, is_listed_right, waits_where_busy, count_of, may_send}
+use Rattle.port_lanes.specs.port_history.Mail.{handled_mail, row_mail}
+use Rattle.port_lanes.specs.port_history.Marks.{is_busy, is_due, none_due, busy_after}
+use Rattle.port_lanes.specs.port_history.Opening.{Opening, taken_of}
+use Rattle.port_lanes.specs.port_history.State.{state, after, closing_reason}
+use Rattle.port_lanes.specs.port_history.Suspension.{entry, has_entry, has_sender, is_first, without_entry}
 use Rattle.port_mail.specs.Ends.{Posts}
-use Rattle.port_state.specs.declared.served.Served.{Served}
+use Rattle.served_port.specs.port_state.declared.served.Served.{Served}
 use Rattle.port_suspension.specs.Listed.{AgreesListed}
 use Rattle.served_port.specs.View.{ServedView, IsAt}
 use Rattle.served_port.specs.Outcomes.{is_handled, IsHandledRow, IsLateRow}

@@ -3,26 +3,26 @@ use Rattle.std.proofs.Common.{◌≡◌, ℕ, ◌<◌, map, Bool, true, false, L
 use Rattle.std.specs.Prelude.{reverse, slice_index_or, if◌then◌else◌}
 use Rattle.std.proofs.lemmas.List.{append-nil, map-append, reverse-append}
 use Rattle.std.proofs.lemmas.List.Elements.{All-append}
-use Rattle.async_jobs.specs.declared.job.Job.{Job}
-use Rattle.async_jobs.specs.Pool.{Lanes}
-use Rattle.async_jobs.specs.Order.{AllSubmitted}
-use Rattle.port_signal.specs.Links.{has}
-use Rattle.port_signal.specs.declared.row.MarkKind.{MarkKind}
-use Rattle.port_signal.specs.declared.row.MarkKind.TheVariants.{Busy, Free, Closed}
+use Rattle.served_port.specs.async_jobs.declared.job.Job.{Job}
+use Rattle.served_port.specs.async_jobs.Pool.{Lanes}
+use Rattle.served_port.specs.async_jobs.Order.{AllSubmitted}
+use Rattle.port_model.specs.port_signal.Links.{has}
+use Rattle.port_model.specs.port_signal.declared.row.MarkKind.{MarkKind}
+use Rattle.port_model.specs.port_signal.declared.row.MarkKind.TheVariants.{Busy, Free, Closed}
 use Rattle.port_words.specs.busy.Stat.{marked_busy, busy_after}
 use Rattle.port_words.specs.declared.busy.view.StatMark.{StatMark}
 use Rattle.port_words.specs.declared.busy.view.StatMark.TheVariants as stat
 use Rattle.port_model.specs.declared.effect.Effect.{Effect}
 use Rattle.port_model.specs.declared.mail.Mail.{Mail}
 use Rattle.port_model.specs.declared.row.Row.{Row}
-use Rattle.port_history.specs.Jobs.{submitted_by}
-use Rattle.port_history.specs.Mail.{mails, mail_for, row_mail}
-use Rattle.port_history.specs.Marks.{is_busy, busy_marks, closed_marks}
-use Rattle.port_history.specs.Opening.{Opening}
-use Rattle.port_history.specs.State.{state}
-use Rattle.port_jobs.specs.Jobs.{submitted_as}
+use Rattle.port_lanes.specs.port_history.Jobs.{submitted_by}
+use Rattle.port_lanes.specs.port_history.Mail.{mails, mail_for, row_mail}
+use Rattle.port_lanes.specs.port_history.Marks.{is_busy, busy_marks, closed_marks}
+use Rattle.port_lanes.specs.port_history.Opening.{Opening}
+use Rattle.port_lanes.specs.port_history.State.{state}
+use Rattle.served_port.specs.port_jobs.Jobs.{submitted_as}
 use Rattle.port_mail.specs.Ends.{MailEnd, mail_got, Posts}
-use Rattle.port_state.specs.View.{due_marks}
+use Rattle.served_port.specs.port_state.View.{due_marks}
 use Rattle.served_port.specs.Outcomes.{SubmitsJobs}
 use Rattle.recorded_port.specs.Asks.{GaveJobs}
 use Rattle.recorded_port.specs.View.{IsChange, stat_mark, stat_marks}

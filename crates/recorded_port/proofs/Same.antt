@@ -2,13 +2,13 @@
 use Rattle.std.proofs.Common.{◌≡◌, ℕ, Bool, true, false, List, [], ◌∷◌, ◌++◌, ◌+◌, length, length-append, Some, None, refl, sym, ap, ◌∙◌, subst, arith}
 use Rattle.std.specs.Prelude.{Result, Ok, Err, OnOk, not, if◌then◌else◌}
 use Rattle.std.proofs.lemmas.List.{append-nil, append_assoc}
-use Rattle.driver_model.specs.Calls.{Kind}
+use Rattle.port_driver.specs.driver_model.Calls.{Kind}
 use Rattle.port_model.specs.declared.row.Row.{Row}
 use Rattle.port_words.specs.busy.Known.{PortKnown}
-use Rattle.port_events.specs.Table.{EventTable}
-use Rattle.port_history.specs.Mail.{Sent}
-use Rattle.port_history.specs.Opening.{Opening}
-use Rattle.port_history.specs.State.{State, state_at_start, is_open}
+use Rattle.served_port.specs.port_events.Table.{EventTable}
+use Rattle.port_lanes.specs.port_history.Mail.{Sent}
+use Rattle.port_lanes.specs.port_history.Opening.{Opening}
+use Rattle.port_lanes.specs.port_history.State.{State, state_at_start, is_open}
 use Rattle.port_mail.specs.Ends.{MailEnd, Puts, Posts}
 use Rattle.served_port.specs.View.{ServedView, IsSameServed, end_name, end_names}
 use Rattle.served_port.proofs.EndNames.{names_by_place}

@@ -3,19 +3,19 @@ use Rattle.std.proofs.Common.{◌≡◌, ℕ, ◌<◌, ◌≤◌, Option, map, t
 use Rattle.std.specs.Prelude.{All, Contains, reverse, slice_index_or}
 use Rattle.std.proofs.lemmas.List.{length-map, length-reverse}
 use Rattle.std.proofs.lemmas.List.Elements.{All-nil, All-get_or}
-use Rattle.driver_model.specs.Calls.{Held, Own}
-use Rattle.driver_model.specs.Drivers.{read_event_of, write_event_of}
-use Rattle.driver_model.specs.Programs.{ToldProgram}
+use Rattle.port_driver.specs.driver_model.Calls.{Held, Own}
+use Rattle.port_driver.specs.driver_model.Drivers.{read_event_of, write_event_of}
+use Rattle.port_driver.specs.driver_model.Programs.{ToldProgram}
 use Rattle.port_driver.specs.Context.{Context}
 use Rattle.port_driver.specs.Driven.{Stands}
 use Rattle.port_words.specs.busy.Stat.{marked_busy}
 use Rattle.port_words.specs.busy.Known.{PortKnown}
-use Rattle.port_signal.specs.declared.row.MarkKind.{MarkKind}
+use Rattle.port_model.specs.port_signal.declared.row.MarkKind.{MarkKind}
 use Rattle.port_model.specs.declared.row.Row.{Row}
 use Rattle.port_mail.specs.Ends.{MailEnd}
-use Rattle.port_history.specs.Marks.{is_busy, is_due}
-use Rattle.port_history.specs.Opening.{Opening}
-use Rattle.port_history.specs.State.{State, state, state_at_start}
+use Rattle.port_lanes.specs.port_history.Marks.{is_busy, is_due}
+use Rattle.port_lanes.specs.port_history.Opening.{Opening}
+use Rattle.port_lanes.specs.port_history.State.{State, state, state_at_start}
 use Rattle.port_suspension.specs.Listed.{AgreesListed}
 use Rattle.served_port.specs.Openings.{IsAtStart}
 use Rattle.recorded_port.specs.declared.parts.PortOutlets.{PortOutlets}

@@ -2,7 +2,7 @@
 use Rattle.std.proofs.Common.{◌≡◌, ℕ, Bool, true, false, List, [], ◌∷◌, ◌++◌, drop, length, true≢false, refl, sym, ap, ◌∙◌, subst, inl, inr}
 use Rattle.std.specs.Prelude.{All, Contains, Option, Some, None, reverse, if◌then◌else◌}
 use Rattle.std.proofs.lemmas.List.{append-nil, append_assoc}
-use Rattle.port_signal.specs.declared.row.MarkKind.{MarkKind}
+use Rattle.port_model.specs.port_signal.declared.row.MarkKind.{MarkKind}
 use Rattle.port_lanes.specs.Parcels.{IsParcel}
 use Rattle.port_words.specs.busy.Known.{PortKnown, WeightKnown, port_known}
 use Rattle.port_words.specs.busy.Steps.{marked, port_heard}
@@ -12,14 +12,14 @@ use Rattle.port_model.specs.declared.signal.Sender.{Sender}
 use Rattle.port_model.specs.Signals.{data_size}
 use Rattle.port_model.specs.Tasks.{TaskView}
 use Rattle.port_mail.specs.Ends.{Posts}
-use Rattle.port_history.specs.Mail.{handled_mail, row_mail}
-use Rattle.port_history.specs.Opening.{taken_of}
-use Rattle.port_history.specs.Marks.{is_due}
-use Rattle.port_history.specs.State.{State, state, after}
-use Rattle.port_history.specs.Suspension.{Entry, entry, is_first, without_entry}
+use Rattle.port_lanes.specs.port_history.Mail.{handled_mail, row_mail}
+use Rattle.port_lanes.specs.port_history.Opening.{taken_of}
+use Rattle.port_lanes.specs.port_history.Marks.{is_due}
+use Rattle.port_lanes.specs.port_history.State.{State, state, after}
+use Rattle.port_lanes.specs.port_history.Suspension.{Entry, entry, is_first, without_entry}
 use Rattle.port_suspension.specs.Listed.{AgreesListed}
 use Rattle.port_model.specs.declared.signal.Sender.TheVariants.{Process}
-use Rattle.port_state.specs.declared.served.Served.{Served}
+use Rattle.served_port.specs.port_state.declared.served.Served.{Served}
 use Rattle.served_port.specs.View.{ServedView, IsAt}
 use Rattle.served_port.specs.Outcomes.{IsHandledRow, IsLateRow}
 use Rattle.recorded_port.specs.Asks.{GaveJobs, command_sizes, resumed_words}

@@ -1,20 +1,20 @@
 -- What the rows of a history ask of the poller and of the workers, which bytes they take out of the message queue, and with which words they resume.
 use Rattle.std.specs.Prelude.{◌≡◌, ℕ, List, [], ◌∷◌, ◌++◌, map, All, if◌then◌else◌}
 use Rattle.std.specs.List.{flat_map}
-use Rattle.async_jobs.specs.declared.job.Job.{Job}
-use Rattle.async_jobs.specs.Order.{AllSubmitted}
-use Rattle.async_jobs.specs.Pool.{Lanes, PoolEnd}
-use Rattle.driver_model.specs.Drivers.{effects_of}
+use Rattle.served_port.specs.async_jobs.declared.job.Job.{Job}
+use Rattle.served_port.specs.async_jobs.Order.{AllSubmitted}
+use Rattle.served_port.specs.async_jobs.Pool.{Lanes, PoolEnd}
+use Rattle.port_driver.specs.driver_model.Drivers.{effects_of}
 use Rattle.port_model.specs.declared.row.Row.{Row}
 use Rattle.port_model.specs.declared.row.Row.TheVariants.{Handled, Late, Resumed}
 use Rattle.port_model.specs.declared.signal.Signal.{Signal}
 use Rattle.port_model.specs.Signals.{data_size, is_command}
-use Rattle.port_history.specs.Events.{selected_by}
-use Rattle.port_history.specs.Opening.{Opening, taken_of}
-use Rattle.port_history.specs.State.{State, state, start_call, is_closed_by, stops}
-use Rattle.port_events.specs.Asks.{asks_of, arm_asks}
-use Rattle.port_jobs.specs.Jobs.{submitted_as}
-use Rattle.ready_select.specs.declared.ask.PollAsk.{PollAsk}
+use Rattle.port_lanes.specs.port_history.Events.{selected_by}
+use Rattle.port_lanes.specs.port_history.Opening.{Opening, taken_of}
+use Rattle.port_lanes.specs.port_history.State.{State, state, start_call, is_closed_by, stops}
+use Rattle.served_port.specs.port_events.Asks.{asks_of, arm_asks}
+use Rattle.served_port.specs.port_jobs.Jobs.{submitted_as}
+use Rattle.served_port.specs.ready_select.declared.ask.PollAsk.{PollAsk}
 
 -- what the start of a driver asks
 abbrev pub start_asks : Opening → List PollAsk

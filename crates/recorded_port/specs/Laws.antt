@@ -1,9 +1,9 @@
 -- The laws of a history that a port can see to by itself.
 use Rattle.std.specs.Prelude.{◌≡◌, List, [], ◌∷◌, true}
 use Rattle.port_model.specs.declared.row.Row.{Row}
-use Rattle.port_history.specs.Opening.{Opening}
-use Rattle.port_history.specs.State.{State, state}
-use Rattle.port_history.specs.Laws.{keeps_order, keeps_lifetime, keeps_busy, keeps_effects, keeps_marks, keeps_listed, keeps_resumed, keeps_ready}
+use Rattle.port_lanes.specs.port_history.Opening.{Opening}
+use Rattle.port_lanes.specs.port_history.State.{State, state}
+use Rattle.port_lanes.specs.port_history.Laws.{keeps_order, keeps_lifetime, keeps_busy, keeps_effects, keeps_marks, keeps_listed, keeps_resumed, keeps_ready}
 use Rattle.served_port.specs.Outcomes.{keeps_times}
 
 -- a row keeps the laws after a state: all of them, but of the law of jobs what a worker has to see to, which output is told of a job, in which order, and

@@ -1,12 +1,12 @@
 -- A port that was just opened.
 use Rattle.std.specs.Prelude.{◌≡◌, [], All}
-use Rattle.port_config.specs.declared.config.Config.{Config}
-use Rattle.driver_model.specs.Calls.{Kind}
+use Rattle.port_driver.specs.port_config.declared.config.Config.{Config}
+use Rattle.port_driver.specs.driver_model.Calls.{Kind}
 use Rattle.port_mail.specs.Ends.{MailEnd}
 use Rattle.served_port.specs.declared.ends.PortPlace.{PortPlace}
 use Rattle.recorded_port.specs.declared.parts.PortOutlets.{PortOutlets}
 use Rattle.recorded_port.specs.Asks.{AreFresh}
-use Rattle.driver_model.specs.Drivers.{read_event_of, write_event_of}
+use Rattle.port_driver.specs.driver_model.Drivers.{read_event_of, write_event_of}
 use Rattle.served_port.specs.View.{end_names}
 use Rattle.recorded_port.specs.View.{RecordedView}
 

@@ -5,10 +5,10 @@ use Rattle.port_words.specs.busy.Known.{port_known}
 use Rattle.port_model.specs.declared.row.Row.{Row}
 use Rattle.port_model.specs.declared.row.Row.TheVariants.{Resumed}
 use Rattle.port_model.specs.declared.signal.Sender.TheVariants.{Process}
-use Rattle.port_history.specs.Laws.{count_of}
-use Rattle.port_history.specs.Marks.{is_busy}
-use Rattle.port_history.specs.State.{State, is_open}
-use Rattle.port_history.specs.Suspension.{Entry, entry, has_entry, is_queue_busy}
+use Rattle.port_lanes.specs.port_history.Laws.{count_of}
+use Rattle.port_lanes.specs.port_history.Marks.{is_busy}
+use Rattle.port_lanes.specs.port_history.State.{State, is_open}
+use Rattle.port_lanes.specs.port_history.Suspension.{Entry, entry, has_entry, is_queue_busy}
 use Rattle.recorded_port.specs.View.{RecordedView, state_of}
 
 -- a task of this process that suspends it comes to be listed: it has no row and wasn't listed

@@ -2,16 +2,16 @@
 use Rattle.std.specs.Prelude.{◌≡◌, ◌⊎◌, ◌+◌, ◌≤◌, ℕ, List, [], ◌∷◌, ◌++◌, length, map, Bool, true, false, ◌&&◌, IfSome, Option, Some, None}
 use Rattle.port_words.specs.busy.Known.{PortKnown, WeightKnown}
 use Rattle.port_lanes.specs.Parcels.{ParcelView}
-use Rattle.port_links.specs.Table.{IsAmong}
-use Rattle.port_signal.specs.declared.row.MarkKind.{MarkKind}
-use Rattle.port_signal.specs.declared.row.Outside.{Outside}
+use Rattle.port_mail.specs.port_links.Table.{IsAmong}
+use Rattle.port_model.specs.port_signal.declared.row.MarkKind.{MarkKind}
+use Rattle.port_model.specs.port_signal.declared.row.Outside.{Outside}
 use Rattle.port_model.specs.declared.effect.Effect.{Effect}
 use Rattle.port_model.specs.declared.row.Row.{Row}
 use Rattle.port_model.specs.declared.row.Row.TheVariants.{Handled, Late, Mark}
 use Rattle.port_model.specs.declared.signal.Sender.{Sender}
 use Rattle.port_model.specs.Tasks.{TaskView}
-use Rattle.port_history.specs.Laws.{is_next, is_listed_right, waits_where_busy}
-use Rattle.port_history.specs.Marks.{is_busy}
+use Rattle.port_lanes.specs.port_history.Laws.{is_next, is_listed_right, waits_where_busy}
+use Rattle.port_lanes.specs.port_history.Marks.{is_busy}
 use Rattle.served_port.specs.View.{IsSameServed, end_names}
 use Rattle.served_port.specs.Outcomes.{is_handled}
 use Rattle.recorded_port.specs.Asks.{command_sizes}

@@ -6,16 +6,16 @@ use Rattle.port_words.specs.busy.Known.{PortKnown}
 use Rattle.port_words.specs.declared.busy.view.AddName.{AddName}
 use Rattle.port_words.specs.declared.busy.view.StatMark.{StatMark}
 use Rattle.port_words.specs.declared.busy.view.StatMark.TheVariants as stat
-use Rattle.port_signal.specs.declared.row.MarkKind.{MarkKind}
-use Rattle.port_signal.specs.declared.row.MarkKind.TheVariants.{Busy, Free, Closed}
+use Rattle.port_model.specs.port_signal.declared.row.MarkKind.{MarkKind}
+use Rattle.port_model.specs.port_signal.declared.row.MarkKind.TheVariants.{Busy, Free, Closed}
 use Rattle.port_model.specs.declared.row.Row.{Row}
 use Rattle.port_mail.specs.Ends.{MailEnd}
-use Rattle.port_history.specs.Mail.{mails}
-use Rattle.port_history.specs.Laws.{keeps_end}
-use Rattle.port_history.specs.Marks.{is_busy, none_due}
-use Rattle.port_history.specs.Opening.{Opening}
-use Rattle.port_history.specs.State.{State, start_call, state}
-use Rattle.driver_model.specs.Drivers.{holds, read_event_of, write_event_of}
+use Rattle.port_lanes.specs.port_history.Mail.{mails}
+use Rattle.port_lanes.specs.port_history.Laws.{keeps_end}
+use Rattle.port_lanes.specs.port_history.Marks.{is_busy, none_due}
+use Rattle.port_lanes.specs.port_history.Opening.{Opening}
+use Rattle.port_lanes.specs.port_history.State.{State, start_call, state}
+use Rattle.port_driver.specs.driver_model.Drivers.{holds, read_event_of, write_event_of}
 use Rattle.port_suspension.specs.Listed.{AgreesListed}
 use Rattle.served_port.specs.View.{ServedView, IsAt}
 use Rattle.recorded_port.specs.Laws.{IsLawful}

@@ -22,4 +22,4 @@ pub use port_model::{Effect, Journal, MarkKind, NoMemory, Row, Sender, Signal, T
 pub use port_suspension::Suspension;
 pub use port_words::busy::PortSeat;
 pub use recorded_port::RecordedPort;
-pub use served_port::{Served, ServedPort};
+pub use served_port::{PortEnds, PortPlace, Served, ServedPort};

@@ -1,8 +1,8 @@
 //! How a port comes to its first row, and how it comes to its end.
 ghost use Rattle.std.specs.Prelude.{◌≡◌, ◌≢◌, ◌≤◌, ◌<◌, ◌⊎◌, None, IfOk, IfErr, OnOk};
-ghost use Rattle.driver_model.specs.Drivers.{refusal_of};
+ghost use Rattle.port_driver.specs.driver_model.Drivers.{refusal_of};
 ghost use Rattle.port_driver.specs.Starting.{Refuses};
-ghost use Rattle.port_service.specs.Opened.{ended};
+ghost use Rattle.served_port.specs.port_service.Opened.{ended};
 ghost use Rattle.recorded_port.specs.View.{IsSettled};
 ghost use Rattle.recorded_port.specs.Openings.{AreUnused, IsOpened};
 ghost use Rattle.recorded_port.specs.Taking.{IsSameRecorded};

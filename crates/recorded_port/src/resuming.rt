@@ -2,8 +2,8 @@
 ghost use Rattle.std.specs.Prelude.{◌≡◌, ◌<◌, ◌≤◌, ◌∷◌, ◌++◌, [], length, Contains, OnOk, IfOk, true, not, is_some};
 ghost use Rattle.port_model.specs.declared.row.Row.TheVariants.{Listed, Resumed};
 ghost use Rattle.port_model.specs.declared.signal.Sender.TheVariants.{Process};
-ghost use Rattle.port_history.specs.Mail.{row_mail};
-ghost use Rattle.port_history.specs.State.{State, is_open};
+ghost use Rattle.port_lanes.specs.port_history.Mail.{row_mail};
+ghost use Rattle.port_lanes.specs.port_history.State.{State, is_open};
 ghost use Rattle.port_mail.specs.Ends.{Posts};
 ghost use Rattle.recorded_port.specs.View.{IsSettled, state_of};
 ghost use Rattle.recorded_port.specs.Taking.{IsSameRecorded, UsesRoom};

@@ -2,9 +2,9 @@
 ghost use Rattle.std.specs.Prelude.{◌≡◌, ◌<◌, ◌≤◌, ◌∷◌, ◌++◌, [], ℕ, List, OnOk, IfSome};
 ghost use Rattle.port_model.specs.Tasks.{TaskView};
 ghost use Rattle.port_model.specs.declared.row.Row.TheVariants.{Handled, Late};
-ghost use Rattle.port_history.specs.Mail.{handled_mail, row_mail};
-ghost use Rattle.port_history.specs.Opening.{taken_of};
-ghost use Rattle.port_history.specs.State.{State};
+ghost use Rattle.port_lanes.specs.port_history.Mail.{handled_mail, row_mail};
+ghost use Rattle.port_lanes.specs.port_history.Opening.{taken_of};
+ghost use Rattle.port_lanes.specs.port_history.State.{State};
 ghost use Rattle.port_mail.specs.Ends.{Posts};
 ghost use Rattle.port_mail.specs.Rows.{IsRowOf};
 ghost use Rattle.recorded_port.specs.View.{IsRecorded, IsSettled, removed_sizes};

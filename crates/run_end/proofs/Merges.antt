@@ -9,7 +9,7 @@ use Rattle.task_queue.specs.declared.item.Item.{Item}
 use Rattle.task_queue.specs.declared.protocol.Ended.{Ended}
 use Rattle.task_queue.specs.Items.{of}
 use Rattle.task_queue.specs.Ends.{ended_of}
-use Rattle.port_mail.specs.Ends.{MailEnd}
+use Rattle.run_lanes.specs.port_mail.Ends.{MailEnd}
 use Rattle.port_model.specs.declared.mail.Mail.{Mail}
 use Rattle.process_end.specs.Mailbox.{Mailbox}
 use Rattle.process_job.specs.Mails.{Came, mail_from, is_source, own_mails, readable}

@@ -15,8 +15,8 @@ use Rattle.port_words.specs.busy.Views.{adds_by}
 use Rattle.process_end.specs.Bounds.{queue_bound, adds_joined}
 use Rattle.process_end.proofs.Bounds.{kept-all, words-kept}
 use Rattle.process_end.proofs.Stats.{shown-rise}
-use Rattle.process_receipts.specs.Ledgers.{shown_add, OncePlain}
-use Rattle.process_receipts.specs.Receipts.{ShownAdd, adds_shown, stats_shown, words_shown, picked, IsSublist}
+use Rattle.process_end.specs.process_receipts.Ledgers.{shown_add, OncePlain}
+use Rattle.process_end.specs.process_receipts.Receipts.{ShownAdd, adds_shown, stats_shown, words_shown, picked, IsSublist}
 use Rattle.run_end.specs.Shown.{Calls, SeatShown, AreShown, adds_of, filled_by, times_filled, bytes_added, HasCause, WordsHold, QueueWordsHold, AllSeatsJoined, ShownWordsHold, OwnWordsHold}
 
 picked-all : (P : ℕ → Type 0) (picks : List Bool) (ws : List ℕ) → All P ws → All P (picked picks ws)

@@ -2,7 +2,7 @@
 use Rattle.std.proofs.Common.{◌≡◌, ◌≢◌, ◌<◌, ◌≤◌, ◌+◌, ℕ, List, [], length, get_or, set, sym, refl, ap, ◌∙◌, subst, arith, length-set, get_or-set_same, get_or-set_other, ⊎_elim}
 use Rattle.std.proofs.lemmas.Bool.{cases_lt}
 use Rattle.std.proofs.lemmas.List.{get_or-map, length-map}
-use Rattle.port_mail.specs.Ends.{MailEnd}
+use Rattle.run_lanes.specs.port_mail.Ends.{MailEnd}
 use Rattle.port_model.specs.declared.mail.Mail.{Mail}
 use Rattle.process_end.specs.Mailbox.{Mailbox}
 use Rattle.run_lanes.specs.Ends.{made_by}

@@ -4,9 +4,9 @@ use Rattle.std.specs.Prelude.{map, reverse, slice_index_or}
 use Rattle.std.proofs.lemmas.List.{length-map, get_or-map, reverse-reverse}
 use Rattle.std.proofs.lemmas.List.Elements.{All-head, All-tail}
 use Rattle.port_words.specs.busy.Known.{PortKnown, SendKnown}
-use Rattle.process_receipts.specs.declared.receipt.Receipt.{Receipt}
-use Rattle.process_receipts.specs.Asks.{Asked}
-use Rattle.process_receipts.specs.Receipts.{accepted, AreReceipts}
+use Rattle.process_end.specs.process_receipts.declared.receipt.Receipt.{Receipt}
+use Rattle.process_end.specs.process_receipts.Asks.{Asked}
+use Rattle.process_end.specs.process_receipts.Receipts.{accepted, AreReceipts}
 use Rattle.process_end.specs.Calls.{HasAsked}
 use Rattle.process_end.specs.Mailbox.{Mailbox}
 use Rattle.process_end.specs.Ports.{ArePorts}

@@ -1,6 +1,6 @@
 -- The mail of a process, by what each port sent to it and what it added itself.
 use Rattle.std.specs.Prelude.{◌≡◌, ℕ, ◌<◌, List, All, Option, Some, None, length, map, slice_index_or}
-use Rattle.port_mail.specs.Ends.{MailEnd}
+use Rattle.run_lanes.specs.port_mail.Ends.{MailEnd}
 use Rattle.port_model.specs.declared.mail.Mail.{Mail}
 use Rattle.process_end.specs.Mailbox.{Mailbox}
 use Rattle.process_job.specs.Mails.{Came, mail_from, own_mails, readable}

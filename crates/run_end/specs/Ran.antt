@@ -1,10 +1,10 @@
 -- A process of a run that has ended, and its calls.
 use Rattle.std.specs.Prelude.{ℕ, List, length, reverse}
 use Rattle.port_model.specs.declared.mail.Mail.{Mail}
-use Rattle.process_receipts.specs.Asks.{Asked}
+use Rattle.process_end.specs.process_receipts.Asks.{Asked}
 use Rattle.process_end.specs.declared.answers.ProcEnd.{ProcEnd}
 use Rattle.process_end.specs.Views.{ProcView}
-use Rattle.script_plan.specs.declared.step.Step.{Step}
+use Rattle.process_job.specs.script_plan.declared.step.Step.{Step}
 use Rattle.process_job.specs.Asks.{made_asks}
 use Rattle.process_job.specs.Jobs.{IsFreshProcess}
 use Rattle.process_job.specs.Steps.{HasRunToEnd}

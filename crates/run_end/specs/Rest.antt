@@ -2,7 +2,7 @@
 use Rattle.std.specs.Prelude.{◌≡◌, List, ◌++◌, map, filter, not, Some}
 use Rattle.task_queue.specs.declared.item.Item.{Item}
 use Rattle.task_queue.specs.Ends.{KeepsOrder, TookAll}
-use Rattle.port_mail.specs.Ends.{MailEnd}
+use Rattle.run_lanes.specs.port_mail.Ends.{MailEnd}
 use Rattle.port_model.specs.declared.mail.Mail.{Mail}
 use Rattle.process_end.specs.Mailbox.{AnyMail, Mailbox}
 use Rattle.process_job.specs.Mails.{Came, came_from, resumes}

@@ -7,10 +7,10 @@ use Rattle.port_words.specs.busy.Known.{PortKnown, SendKnown}
 use Rattle.port_words.specs.busy.Queue.{period_of, bytes_of}
 use Rattle.port_words.specs.busy.Stat.{Rises}
 use Rattle.process_end.specs.Bounds.{queue_bound}
-use Rattle.process_receipts.specs.declared.receipt.Receipt.{Receipt}
-use Rattle.process_receipts.specs.Asks.{Asked}
-use Rattle.process_receipts.specs.Ledgers.{kept_adds, shown_add, OncePlain}
-use Rattle.process_receipts.specs.Receipts.{ShownAdd, adds_shown, stats_shown, words_shown, IsSublist}
+use Rattle.process_end.specs.process_receipts.declared.receipt.Receipt.{Receipt}
+use Rattle.process_end.specs.process_receipts.Asks.{Asked}
+use Rattle.process_end.specs.process_receipts.Ledgers.{kept_adds, shown_add, OncePlain}
+use Rattle.process_end.specs.process_receipts.Receipts.{ShownAdd, adds_shown, stats_shown, words_shown, IsSublist}
 use Rattle.run_end.specs.Words.{HasJoined}
 
 -- the calls of a process and their receipts, both newest first

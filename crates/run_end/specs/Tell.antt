@@ -1,7 +1,7 @@
 -- What the calls of a process tell of each port.
 use Rattle.std.specs.Prelude.{◌≡◌, ℕ, ◌<◌, List, All, length, map, slice_index_or}
 use Rattle.port_words.specs.busy.Known.{PortKnown, SendKnown}
-use Rattle.process_receipts.specs.Receipts.{accepted, AreReceipts}
+use Rattle.process_end.specs.process_receipts.Receipts.{accepted, AreReceipts}
 use Rattle.process_end.specs.Steps.{tasks_of}
 use Rattle.process_end.specs.Views.{LaneEnd}
 use Rattle.process_job.specs.Going.{AreSamePorts}

@@ -2,7 +2,7 @@
 ghost use Rattle.std.specs.Prelude.{◌≡◌, ◌≢◌, ◌<◌, ℕ, true, false, [], ◌∷◌, ◌++◌, length, slice_index_or, OnOk, OnErr};
 ghost use Rattle.port_model.specs.declared.signal.Sender.{Sender};
 ghost use Rattle.port_model.specs.Signals.{is_command};
-ghost use Rattle.port_history.specs.Laws.{may_send};
+ghost use Rattle.port_lanes.specs.port_history.Laws.{may_send};
 ghost use Rattle.port_lanes.specs.Parcels.{FitsLane, names_below};
 ghost use Rattle.process_end.specs.Views.{LaneEnd};
 ghost use Rattle.port_sched.specs.Homes.{AreHomes};

@@ -1,3 +1,5 @@
+-- What crates above name of the definitions below.
+pub use Rattle.port_mail.specs as port_mail
 pub mod Rows
 pub mod Places
 pub mod Ends

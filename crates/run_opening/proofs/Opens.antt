@@ -2,11 +2,11 @@
 use Rattle.std.proofs.Common.{rules, ◌≡◌, ◌<◌, ℕ, true, ◌&&◌, List, [], ◌∷◌, length, map, ap, sym, subst, ◌∙◌, All, slice_index_or, arith, refl}
 use Rattle.std.proofs.lemmas.Bool.{and_parts, leb-true}
 use Rattle.std.proofs.lemmas.List.{get_or-map, length-map}
-use Rattle.driver_model.specs.Calls.{Kind}
+use Rattle.driver_hosts.specs.driver_model.Calls.{Kind}
 use Rattle.port_config.specs.declared.config.Config.{Config}
 use Rattle.port_config.specs.Config.{is_config, is_pair, is_served}
-use Rattle.port_driver.specs.declared.life.Life.{Life}
-use Rattle.port_driver.specs.declared.life.StartRefusal.TheVariants as start
+use Rattle.driver_hosts.specs.port_driver.declared.life.Life.{Life}
+use Rattle.driver_hosts.specs.port_driver.declared.life.StartRefusal.TheVariants as start
 use Rattle.port_words.specs.busy.Known.{InRange}
 use Rattle.port_words.specs.declared.busy.view.QueueLimits.{QueueLimits}
 use Rattle.script_plan.specs.declared.decl.PortDecl.{PortDecl}

@@ -1,9 +1,9 @@
 -- Why the ports of a run weren't opened.
 use Rattle.std.specs.Prelude.{◌≡◌, ℕ, List, slice_index_or}
-use Rattle.driver_model.specs.Calls.{Kind}
-use Rattle.port_driver.specs.declared.life.Life.{Life}
-use Rattle.port_driver.specs.declared.life.StartRefusal.{StartRefusal}
-use Rattle.port_driver.specs.declared.life.StartRefusal.TheVariants as start
+use Rattle.driver_hosts.specs.driver_model.Calls.{Kind}
+use Rattle.driver_hosts.specs.port_driver.declared.life.Life.{Life}
+use Rattle.driver_hosts.specs.port_driver.declared.life.StartRefusal.{StartRefusal}
+use Rattle.driver_hosts.specs.port_driver.declared.life.StartRefusal.TheVariants as start
 use Rattle.script_plan.specs.declared.decl.PortDecl.{PortDecl}
 use Rattle.driver_hosts.specs.declared.hosted.Hosted.{Hosted}
 use Rattle.driver_hosts.specs.declared.finding.Lacking.{Lacking}

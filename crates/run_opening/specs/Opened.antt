@@ -1,8 +1,8 @@
 -- The ports of a run, opened, and the lanes and words that tie them to the jobs.
 use Rattle.std.specs.Prelude.{◌≡◌, ◌<◌, ◌≤◌, ℕ, Bool, true, false, None, List, length, map, All, slice_index_or}
 use Rattle.std.specs.Option.{option_map_or}
-use Rattle.driver_model.specs.Calls.{Kind}
-use Rattle.driver_model.specs.Drivers.{is_soft}
+use Rattle.driver_hosts.specs.driver_model.Calls.{Kind}
+use Rattle.driver_hosts.specs.driver_model.Drivers.{is_soft}
 use Rattle.port_config.specs.declared.config.Config.{Config}
 use Rattle.port_config.specs.Config.{is_config}
 use Rattle.port_words.specs.declared.busy.view.QueueLimits.{QueueLimits}

@@ -2,13 +2,12 @@
 ghost use Rattle.std.specs.Prelude.{◌≡◌, List, map, IfOk, All};
 ghost use Rattle.run_opening.specs.Opened.{limits_of, room_of};
 
-use driver_hosts::{PortOutlets, PortRoom};
+use driver_hosts::{PortEnds, PortOutlets, PortRoom};
 use no_memory::NoMemory;
 use port_config::Config;
 use port_words::busy::QueueLimits;
 use run_lanes::{LaneSize, PortLanes};
 use script_plan::PortDecl;
-use served_port::PortEnds;
 use std::alloc::Global;
 
 // The limits of a port's message queue.

@@ -1,7 +1,7 @@
 -- The jobs of a run, with their seats.
 use Rattle.std.specs.Prelude.{◌≡◌, ◌<◌, ℕ, List, [], None, IfSome, length, slice_index_or}
 use Rattle.port_sched.specs.declared.body.PortBody.{Ghosts}
-use Rattle.process_end.specs.Views.{ProcView, proc_view}
+use Rattle.process_job.specs.process_end.Views.{ProcView, proc_view}
 use Rattle.process_job.specs.declared.job.ProcessJob.{ProcessJob}
 use Rattle.process_job.specs.Jobs.{IsWorkOf}
 use Rattle.run_jobs.specs.declared.worker.WorkerJob.{WorkerJob}

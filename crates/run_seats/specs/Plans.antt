@@ -1,7 +1,7 @@
 -- What the jobs of a run are made of, and whether they can begin.
 use Rattle.std.specs.Prelude.{◌≡◌, ◌<◌, ℕ, Bool, List, length, slice_index_or}
-use Rattle.port_model.specs.declared.signal.Sender.TheVariants as sender
-use Rattle.process_end.specs.Ports.{AreParts}
+use Rattle.process_job.specs.port_model.declared.signal.Sender.TheVariants as sender
+use Rattle.process_job.specs.process_end.Ports.{AreParts}
 use Rattle.process_job.specs.Jobs.{AreAmong, AreWithin}
 use Rattle.run_jobs.specs.Telling.{AreEndsOf}
 use Rattle.run_lanes.specs.declared.parts.ProcessLanes.{ProcessLanes}

@@ -2,7 +2,7 @@
 use Rattle.std.proofs.Common.{◌≡◌, ◌<◌, ℕ, None, List, length, map, ap, sym, subst, ◌∙◌, get_or, refl, slice_index}
 use Rattle.std.proofs.lemmas.List.{get_or-map, length-map}
 use Rattle.driver_model.specs.Calls.{Kind}
-use Rattle.port_body.specs.Body.{BodyView, name_of}
+use Rattle.driver_hosts.specs.port_body.Body.{BodyView, name_of}
 use Rattle.driver_hosts.specs.declared.hosted.Hosted.{Hosted}
 use Rattle.driver_hosts.specs.declared.room.PortRoom.{PortRoom}
 use Rattle.driver_hosts.specs.Opening.{AreOpened, HasOpened}

@@ -6,13 +6,13 @@ use Rattle.port_words.specs.declared.busy.view.QueueLimits.{QueueLimits}
 use Rattle.port_lanes.specs.Keys.{Key, EndsAreNumbered, end_of, is_within, sender_at}
 use Rattle.port_model.specs.declared.signal.Sender.{Sender}
 use Rattle.port_model.specs.declared.signal.Sender.TheVariants as sender
-use Rattle.process_end.specs.Views.{LaneEnd}
+use Rattle.process_job.specs.process_end.Views.{LaneEnd}
 use Rattle.process_job.specs.Jobs.{AreWithin}
-use Rattle.run_jobs.specs.Telling.{AreEndsOf}
-use Rattle.run_lanes.specs.declared.parts.PortLanes.{PortLanes}
-use Rattle.run_lanes.specs.declared.parts.ProcessLanes.{ProcessLanes}
-use Rattle.run_lanes.specs.declared.size.LaneSize.{LaneSize}
-use Rattle.run_lanes.specs.Opened.{CanBegin, HasLaneEnds, HasProcess}
+use Rattle.run_seats.specs.run_jobs.Telling.{AreEndsOf}
+use Rattle.run_opening.specs.run_lanes.declared.parts.PortLanes.{PortLanes}
+use Rattle.run_opening.specs.run_lanes.declared.parts.ProcessLanes.{ProcessLanes}
+use Rattle.run_opening.specs.run_lanes.declared.size.LaneSize.{LaneSize}
+use Rattle.run_opening.specs.run_lanes.Opened.{CanBegin, HasLaneEnds, HasProcess}
 use Rattle.run_opening.specs.Opened.{limits_of}
 use Rattle.run_seats.specs.declared.plans.ProcessPlan.{ProcessPlan}
 use Rattle.run_seats.specs.declared.plans.Program.{Program}

@@ -4,11 +4,11 @@ use Rattle.std.specs.Prelude.{All, vec_capacity}
 use Rattle.std.proofs.lemmas.List.{length-map}
 use Rattle.driver_model.specs.Calls.{Kind}
 use Rattle.port_driver.specs.declared.life.Life.{Life}
-use Rattle.port_body.specs.Body.{BodyView}
+use Rattle.driver_hosts.specs.port_body.Body.{BodyView}
 use Rattle.port_sched.specs.declared.body.PortBody.{Ghosts}
 use Rattle.driver_hosts.specs.declared.hosted.Hosted.{Hosted}
 use Rattle.driver_hosts.specs.Hosts.{IsUnused}
-use Rattle.run_lanes.specs.declared.size.LaneSize.{LaneSize}
+use Rattle.run_opening.specs.run_lanes.declared.size.LaneSize.{LaneSize}
 use Rattle.run_opening.specs.declared.opening.OpenPorts.{OpenPorts}
 use Rattle.run_opening.specs.Opened.{HaveOpened, limits_of, room_of}
 use Rattle.run_seats.specs.Plans.{ArePlansOf}

@@ -3,7 +3,7 @@ use Rattle.std.specs.Prelude.{◌≡◌, ◌<◌, ◌≢◌, ℕ, List, length, 
 use Rattle.driver_model.specs.Calls.{Kind}
 use Rattle.port_driver.specs.declared.life.Life.{Life}
 use Rattle.script_plan.specs.declared.decl.PortDecl.{PortDecl}
-use Rattle.port_body.specs.Body.{BodyView}
+use Rattle.driver_hosts.specs.port_body.Body.{BodyView}
 use Rattle.driver_hosts.specs.declared.hosted.Hosted.{Hosted}
 use Rattle.driver_hosts.specs.declared.room.PortRoom.{PortRoom}
 use Rattle.driver_hosts.specs.Hosts.{IsUnused}

@@ -1,7 +1,7 @@
 -- A run of a script that can begin.
 use Rattle.std.specs.Prelude.{◌≡◌, ◌≤◌, ℕ, List, [], length, map, vec_capacity}
 use Rattle.driver_model.specs.Calls.{Kind}
-use Rattle.port_body.specs.Body.{BodyView, name_of}
+use Rattle.driver_hosts.specs.port_body.Body.{BodyView, name_of}
 use Rattle.port_sched.specs.declared.body.PortBody.{Ghosts}
 use Rattle.driver_hosts.specs.declared.hosted.Hosted.{Hosted}
 use Rattle.driver_hosts.specs.Finding.{Found}

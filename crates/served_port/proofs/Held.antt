@@ -7,21 +7,21 @@ use Rattle.std.specs.List.Sorted.{IsStrictlyIncreasing}
 use Rattle.std.proofs.lemmas.Cmp.{nat_eq_equiv}
 use Rattle.std.proofs.lemmas.List.Folds.{list_any-append}
 use Rattle.std.proofs.lemmas.Map.Made.{length-from_same_keys}
-use Rattle.port_config.specs.declared.config.Config.{Config}
+use Rattle.port_driver.specs.port_config.declared.config.Config.{Config}
 use Rattle.port_model.specs.declared.event.Dir.{Dir}
 use Rattle.port_model.specs.declared.event.Dir.TheVariants.{Read, Write}
 use Rattle.port_model.specs.declared.signal.Signal.{Signal}
 use Rattle.port_model.specs.declared.signal.Signal.TheVariants as signal
 use Rattle.port_model.specs.declared.effect.Effect.{Effect}
 use Rattle.port_model.specs.declared.effect.Effect.TheVariants.{Message, Eof, Status, Busy, Select, Unuse, Async, Watch, Reply, ReplyBadarg, Fail}
-use Rattle.driver_model.specs.Calls.{Kind, DriverCall}
-use Rattle.driver_model.specs.Drivers.{is_held, with_event, without_event, held_by, held_events, effects_of}
+use Rattle.port_driver.specs.driver_model.Calls.{Kind, DriverCall}
+use Rattle.port_driver.specs.driver_model.Drivers.{is_held, with_event, without_event, held_by, held_events, effects_of}
 use Rattle.port_driver.specs.Context.{SameEvents}
-use Rattle.port_history.specs.Events.{Event, unused, change, event_of, numbers, select, give_up, disarm, drop_event, read_no_more, arm, told_of, selected_by, deselected}
+use Rattle.port_events.specs.port_history.Events.{Event, unused, change, event_of, numbers, select, give_up, disarm, drop_event, read_no_more, arm, told_of, selected_by, deselected}
 use Rattle.port_events.specs.Table.{held_of}
 use Rattle.port_events.proofs.Rising.{Up, Rising, up-from, changed, rising-change, event-map, rising-map, up-those, has-those, has-filter}
-use Rattle.port_history.specs.Opening.{Opening}
-use Rattle.port_history.specs.Service.{effects_after}
+use Rattle.port_events.specs.port_history.Opening.{Opening}
+use Rattle.port_events.specs.port_history.Service.{effects_after}
 
 flip : (x y : ℕ) → (x == y) ≡ (y == x)
 flip x y = nat_eq_equiv.symm x y

@@ -1,7 +1,7 @@
 -- A task's row keeps the laws where it is handled exactly as the port's state says.
 use Rattle.std.proofs.Common.{◌≡◌, ℕ, Bool, true, false, ◌&&◌, List, refl, ap}
 use Rattle.std.specs.Prelude.{not, if◌then◌else◌}
-use Rattle.port_signal.specs.declared.row.Outside.{Outside}
+use Rattle.port_model.specs.port_signal.declared.row.Outside.{Outside}
 use Rattle.port_model.specs.declared.effect.Effect.{Effect}
 use Rattle.port_model.specs.declared.row.Row.TheVariants.{Handled, Late}
 use Rattle.port_model.specs.declared.signal.Sender.{Sender}
@@ -9,11 +9,11 @@ use Rattle.port_model.specs.declared.signal.Sender.TheVariants.{Process, Poller,
 use Rattle.port_model.specs.declared.signal.Signal.{Signal}
 use Rattle.port_model.specs.declared.signal.Signal.TheVariants as signal
 use Rattle.port_model.specs.Tasks.{TaskView}
-use Rattle.port_history.specs.Events.{event_of}
-use Rattle.port_history.specs.Jobs.{is_submitted}
-use Rattle.port_history.specs.Laws.{may_send, is_ready, is_served, has_effects, keeps_lifetime}
-use Rattle.port_history.specs.Opening.{Opening, taken_of}
-use Rattle.port_history.specs.State.{State}
+use Rattle.port_events.specs.port_history.Events.{event_of}
+use Rattle.port_events.specs.port_history.Jobs.{is_submitted}
+use Rattle.port_events.specs.port_history.Laws.{may_send, is_ready, is_served, has_effects, keeps_lifetime}
+use Rattle.port_events.specs.port_history.Opening.{Opening, taken_of}
+use Rattle.port_events.specs.port_history.State.{State}
 use Rattle.served_port.specs.Outcomes.{is_handled, is_told_in, KeepsServed}
 
 told : (b h : Bool) → b ≡ h → (if b then h else not h) ≡ true

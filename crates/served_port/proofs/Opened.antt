@@ -1,12 +1,12 @@
 -- A port that was just opened stands at the start of its history.
 use Rattle.std.proofs.Common.{◌≡◌, ℕ, map, List, [], ◌∷◌, ◌++◌, ap, ◌∙◌, subst}
 use Rattle.std.specs.List.{flat_map}
-use Rattle.driver_model.specs.Drivers.{effects_of}
+use Rattle.port_driver.specs.driver_model.Drivers.{effects_of}
 use Rattle.port_model.specs.declared.effect.Effect.{Effect}
-use Rattle.port_history.specs.Events.{selected_by, arm}
-use Rattle.port_history.specs.Jobs.{submitted_by}
-use Rattle.port_history.specs.Opening.{Opening}
-use Rattle.port_history.specs.State.{start_call, state_at_start}
+use Rattle.port_events.specs.port_history.Events.{selected_by, arm}
+use Rattle.port_events.specs.port_history.Jobs.{submitted_by}
+use Rattle.port_events.specs.port_history.Opening.{Opening}
+use Rattle.port_events.specs.port_history.State.{start_call, state_at_start}
 use Rattle.port_events.specs.Asks.{arm_asks}
 use Rattle.ready_select.specs.declared.ask.PollAsk.{PollAsk}
 use Rattle.task_queue.specs.Ends.{Sending}

@@ -1,10 +1,10 @@
 -- What a row of a task leaves of a port.
 use Rattle.std.proofs.Common.{◌≡◌, ℕ, ◌==◌, cond, map, Bool, true, false, ◌||◌, ◌&&◌, List, [], ◌∷◌, ◌++◌, Option, Some, None, is_some, refl, sym, ap, ◌∙◌, subst}
 use Rattle.std.specs.Prelude.{not, if◌then◌else◌}
-use Rattle.driver_model.specs.Calls.{DriverCall}
-use Rattle.driver_model.specs.Drivers.{held_events, held_by, effects_of}
+use Rattle.port_driver.specs.driver_model.Calls.{DriverCall}
+use Rattle.port_driver.specs.driver_model.Drivers.{held_events, held_by, effects_of}
 use Rattle.port_driver.specs.Context.{SameEvents}
-use Rattle.port_signal.specs.declared.row.MarkKind.{MarkKind}
+use Rattle.port_model.specs.port_signal.declared.row.MarkKind.{MarkKind}
 use Rattle.port_model.specs.declared.event.Dir.{Dir}
 use Rattle.port_model.specs.declared.event.Dir.TheVariants.{Read, Write}
 use Rattle.port_model.specs.declared.row.Row.TheVariants.{Listed, Resumed, Mark}
@@ -12,12 +12,12 @@ use Rattle.port_model.specs.declared.signal.Sender.{Sender}
 use Rattle.port_model.specs.declared.signal.Sender.TheVariants.{Process, Poller, Worker, Timer}
 use Rattle.port_model.specs.declared.signal.Signal.{Signal}
 use Rattle.port_model.specs.declared.signal.Signal.TheVariants as signal
-use Rattle.port_history.specs.Events.{Event, change, event_of, numbers, is_selected, is_armed_in, drop_event, disarm, read_no_more, arm, give_up, told_of, selected_by, deselected, stopped_by, events_after}
-use Rattle.port_history.specs.Jobs.{is_submitted, submitted_by, done_by}
-use Rattle.port_history.specs.Opening.{Opening, Taken}
-use Rattle.port_history.specs.Service.{effects_after, first_reason, must_stop, callback_of, caller_of, calls_by, flush_calls, stop_calls}
-use Rattle.port_history.specs.State.{State, is_open, is_closed_by, stops, closing_reason, flushed_calls, signal_calls, row_calls, after, after_handled, after_late, start_call, state_at_start}
-use Rattle.port_history.specs.Ties.{failure, signal_reason}
+use Rattle.port_events.specs.port_history.Events.{Event, change, event_of, numbers, is_selected, is_armed_in, drop_event, disarm, read_no_more, arm, give_up, told_of, selected_by, deselected, stopped_by, events_after}
+use Rattle.port_events.specs.port_history.Jobs.{is_submitted, submitted_by, done_by}
+use Rattle.port_events.specs.port_history.Opening.{Opening, Taken}
+use Rattle.port_events.specs.port_history.Service.{effects_after, first_reason, must_stop, callback_of, caller_of, calls_by, flush_calls, stop_calls}
+use Rattle.port_events.specs.port_history.State.{State, is_open, is_closed_by, stops, closing_reason, flushed_calls, signal_calls, row_calls, after, after_handled, after_late, start_call, state_at_start}
+use Rattle.port_events.specs.port_history.Ties.{failure, signal_reason}
 use Rattle.port_events.specs.Table as events
 use Rattle.port_events.specs.Table.{held_of}
 use Rattle.port_events.proofs.Rising.{Rising, changed, event-map, up-from}

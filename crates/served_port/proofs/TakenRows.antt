@@ -4,15 +4,15 @@ use Rattle.port_model.specs.declared.effect.Effect.{Effect}
 use Rattle.port_model.specs.declared.signal.Sender.{Sender}
 use Rattle.port_model.specs.declared.signal.Signal.{Signal}
 use Rattle.port_model.specs.Tasks.{TaskView}
-use Rattle.port_history.specs.Events.{Event, events_after}
-use Rattle.port_history.specs.Jobs.{submitted_by, done_by}
-use Rattle.port_history.specs.Opening.{Opening, taken_of}
-use Rattle.port_history.specs.State.{State, is_closed_by, stops, after_handled}
+use Rattle.port_events.specs.port_history.Events.{Event, events_after}
+use Rattle.port_events.specs.port_history.Jobs.{submitted_by, done_by}
+use Rattle.port_events.specs.port_history.Opening.{Opening, taken_of}
+use Rattle.port_events.specs.port_history.State.{State, is_closed_by, stops, after_handled}
 use Rattle.port_events.specs.Asks.{asks_of}
 use Rattle.port_events.specs.Table as table
 use Rattle.port_events.specs.Table.{EventTable, KeepsEnd}
 use Rattle.port_jobs.specs.Jobs as jobs
-use Rattle.port_mail.specs.Rows.{IsRowOf}
+use Rattle.port_state.specs.port_mail.Rows.{IsRowOf}
 use Rattle.port_state.specs.declared.served.Served.{Served}
 use Rattle.port_state.specs.Served.{IsServed}
 use Rattle.port_state.specs.View.{IsStateOf}

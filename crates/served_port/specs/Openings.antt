@@ -1,10 +1,10 @@
 -- A port that just was opened.
 use Rattle.std.specs.Prelude.{◌≡◌, ◌++◌, ◌∷◌, []}
 use Rattle.std.specs.List.{flat_map}
-use Rattle.driver_model.specs.Drivers.{effects_of}
-use Rattle.port_history.specs.Events.{selected_by}
-use Rattle.port_history.specs.Opening.{Opening}
-use Rattle.port_history.specs.State.{start_call, state_at_start}
+use Rattle.port_driver.specs.driver_model.Drivers.{effects_of}
+use Rattle.port_events.specs.port_history.Events.{selected_by}
+use Rattle.port_events.specs.port_history.Opening.{Opening}
+use Rattle.port_events.specs.port_history.State.{start_call, state_at_start}
 use Rattle.port_events.specs.Asks.{arm_asks}
 use Rattle.served_port.specs.declared.ends.PortEnds.{PortEnds}
 use Rattle.served_port.specs.Outcomes.{SubmitsJobs}

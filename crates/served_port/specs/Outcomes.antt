@@ -11,14 +11,14 @@ use Rattle.port_model.specs.declared.signal.Sender.TheVariants.{Process, Poller,
 use Rattle.port_model.specs.declared.signal.Signal.{Signal}
 use Rattle.port_model.specs.declared.signal.Signal.TheVariants.{Ready, Dropped, AsyncDone}
 use Rattle.port_model.specs.Tasks.{TaskView}
-use Rattle.port_history.specs.Events.{event_of}
-use Rattle.port_history.specs.Jobs.{is_submitted}
-use Rattle.port_history.specs.Laws.{may_send, is_ready, keeps_lifetime, keeps_effects, keeps_ready, is_told_in_time}
-use Rattle.port_history.specs.Opening.{Opening, taken_of}
-use Rattle.port_history.specs.State.{State, is_open, is_closed_by, stops, closing_reason, after}
+use Rattle.port_events.specs.port_history.Events.{event_of}
+use Rattle.port_events.specs.port_history.Jobs.{is_submitted}
+use Rattle.port_events.specs.port_history.Laws.{may_send, is_ready, keeps_lifetime, keeps_effects, keeps_ready, is_told_in_time}
+use Rattle.port_events.specs.port_history.Opening.{Opening, taken_of}
+use Rattle.port_events.specs.port_history.State.{State, is_open, is_closed_by, stops, closing_reason, after}
 use Rattle.port_events.specs.Asks.{asks_of}
 use Rattle.port_jobs.specs.Jobs.{AreJobsOf}
-use Rattle.port_mail.specs.Rows.{IsRowOf}
+use Rattle.port_state.specs.port_mail.Rows.{IsRowOf}
 use Rattle.port_state.specs.declared.served.Served.{Served}
 use Rattle.served_port.specs.declared.outcome.Outcome.{Outcome}
 use Rattle.served_port.specs.declared.outcome.Outcome.TheVariants as outcome

@@ -4,10 +4,10 @@ use Rattle.std.specs.List.{flat_map}
 use Rattle.port_model.specs.declared.effect.Effect.{Effect}
 use Rattle.port_model.specs.declared.signal.Sender.{Sender}
 use Rattle.port_model.specs.declared.signal.Signal.{Signal}
-use Rattle.port_history.specs.Events.{Event, events_after, selected_by, arm}
-use Rattle.port_history.specs.Jobs.{Submitted, submitted_by, done_by}
-use Rattle.port_history.specs.Opening.{Opening}
-use Rattle.port_history.specs.State.{State}
+use Rattle.port_events.specs.port_history.Events.{Event, events_after, selected_by, arm}
+use Rattle.port_events.specs.port_history.Jobs.{Submitted, submitted_by, done_by}
+use Rattle.port_events.specs.port_history.Opening.{Opening}
+use Rattle.port_events.specs.port_history.State.{State}
 use Rattle.port_events.specs.Asks.{arm_asks, asks_of}
 use Rattle.port_events.specs.Table as table
 use Rattle.port_events.specs.Table.{EventTable}

@@ -1,13 +1,13 @@
 -- A port with its driver, its events and its jobs, as contracts see it, and what it says of a history.
 use Rattle.std.specs.Prelude.{◌≡◌, ◌≤◌, ℕ, List, map, true, false}
 use Rattle.task_queue.specs.Ends.{LaneId, Sending}
-use Rattle.driver_model.specs.Drivers.{held_events}
+use Rattle.port_driver.specs.driver_model.Drivers.{held_events}
 use Rattle.port_driver.specs.Context.{SameEvents}
 use Rattle.port_driver.specs.declared.life.Life.TheVariants.{Fresh}
 use Rattle.port_model.specs.declared.event.Dir.{Dir}
-use Rattle.port_history.specs.Events.{event_of, is_selected}
-use Rattle.port_history.specs.Opening.{Opening}
-use Rattle.port_history.specs.State.{State, is_open}
+use Rattle.port_events.specs.port_history.Events.{event_of, is_selected}
+use Rattle.port_events.specs.port_history.Opening.{Opening}
+use Rattle.port_events.specs.port_history.State.{State, is_open}
 use Rattle.port_events.specs.Table as events
 use Rattle.port_events.specs.Table.{EventTable, KeepsEnd, held_of}
 use Rattle.port_jobs.specs.Jobs as jobs

@@ -1,6 +1,6 @@
 //! How a port comes to its end.
 ghost use Rattle.std.specs.Prelude.{◌≡◌, ◌≢◌, ◌≤◌};
-ghost use Rattle.port_service.specs.Opened.{ended};
+ghost use Rattle.port_state.specs.port_service.Opened.{ended};
 ghost use Rattle.port_state.specs.View.{IsSamePort};
 
 use crate::{Driver, PortEnds, ServedPort};

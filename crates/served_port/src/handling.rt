@@ -1,7 +1,7 @@
 //! A task that the port handles or finds late.
 ghost use Rattle.std.specs.Prelude.{◌≡◌, ◌≤◌, [], ℕ, true, is_some, IfOk, OnOk};
-ghost use Rattle.port_history.specs.Opening.{Opening, taken_of};
-ghost use Rattle.port_history.specs.State.{State, after};
+ghost use Rattle.port_events.specs.port_history.Opening.{Opening, taken_of};
+ghost use Rattle.port_events.specs.port_history.State.{State, after};
 ghost use Rattle.port_jobs.specs.Jobs.{Submits};
 ghost use Rattle.port_links.specs.Table.{IsAmong};
 ghost use Rattle.port_model.specs.Tasks.{TaskView};

@@ -1,7 +1,7 @@
 ghost use Rattle.std.specs.Prelude.{◌≡◌, [], true, IfSome, IfNone};
-ghost use Rattle.port_history.specs.Marks.{is_due};
-ghost use Rattle.port_history.specs.Opening.{Opening};
-ghost use Rattle.port_history.specs.State.{State, after};
+ghost use Rattle.port_events.specs.port_history.Marks.{is_due};
+ghost use Rattle.port_events.specs.port_history.Opening.{Opening};
+ghost use Rattle.port_events.specs.port_history.State.{State, after};
 ghost use Rattle.port_model.specs.declared.row.Row.TheVariants.{Mark};
 ghost use Rattle.served_port.specs.View.{IsAt};
 

@@ -1,8 +1,8 @@
 //! How a port is opened.
 ghost use Rattle.std.specs.Prelude.{◌≡◌, ◌≤◌, ◌<◌, ◌⊎◌, None, IfOk, IfErr, OnOk};
-ghost use Rattle.driver_model.specs.Drivers.{refusal_of};
+ghost use Rattle.port_driver.specs.driver_model.Drivers.{refusal_of};
 ghost use Rattle.port_driver.specs.Starting.{Refuses};
-ghost use Rattle.port_history.specs.Opening.{Opening};
+ghost use Rattle.port_events.specs.port_history.Opening.{Opening};
 ghost use Rattle.port_events.specs.Table.{KeepsEnd};
 ghost use Rattle.port_jobs.specs.Jobs.{Submits};
 ghost use Rattle.port_state.specs.View.{IsOpeningOf};

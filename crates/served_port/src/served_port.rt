@@ -1,10 +1,10 @@
 ghost use Rattle.std.specs.Prelude.{◌≡◌, ◌&&◌, List, not, is_some};
 ghost use Rattle.std.specs.List.{list_all};
-ghost use Rattle.driver_model.specs.Drivers.{read_event_of, write_event_of};
-ghost use Rattle.port_history.specs.Opening.{Opening};
-ghost use Rattle.port_history.specs.State.{State};
-ghost use Rattle.port_history.specs.Jobs.{is_done};
-ghost use Rattle.port_history.specs.Laws.{is_given_back};
+ghost use Rattle.port_driver.specs.driver_model.Drivers.{read_event_of, write_event_of};
+ghost use Rattle.port_events.specs.port_history.Opening.{Opening};
+ghost use Rattle.port_events.specs.port_history.State.{State};
+ghost use Rattle.port_events.specs.port_history.Jobs.{is_done};
+ghost use Rattle.port_events.specs.port_history.Laws.{is_given_back};
 ghost use Rattle.served_port.specs.View.{IsAt};
 
 use crate::{Driver, Links};

@@ -6,7 +6,7 @@ use Rattle.port_lanes.specs.Keys.{Key, end_of, sender_at}
 use Rattle.port_lanes.specs.Parcels.{ParcelView}
 use Rattle.port_model.specs.declared.row.Row.{Row}
 use Rattle.port_model.specs.declared.signal.Sender.TheVariants.{Timer}
-use Rattle.recorded_port.specs.declared.parts.PortOutlets.{PortOutlets}
+use Rattle.port_body.specs.recorded_port.declared.parts.PortOutlets.{PortOutlets}
 use Rattle.port_body.specs.Body.{BodyView}
 use Rattle.port_body.specs.Ends.{IsWholeEnd}
 use Rattle.port_body.specs.LanePort.{rows_from}

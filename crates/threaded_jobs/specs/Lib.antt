@@ -1,3 +1,5 @@
+-- What crates above name of the definitions below.
+pub use Rattle.run_jobs.specs as run_jobs
 pub mod Kinds
 pub mod Jobs
 pub mod Parts

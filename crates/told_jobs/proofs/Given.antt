@@ -14,7 +14,7 @@ use Rattle.port_history.specs.Opening.{Opening}
 use Rattle.port_history.specs.State.{state}
 use Rattle.port_jobs.specs.Jobs.{submitted_as}
 use Rattle.port_model.specs.declared.row.Row.{Row}
-use Rattle.recorded_port.specs.Asks.{GaveJobs}
+use Rattle.port_body.specs.recorded_port.Asks.{GaveJobs}
 use Rattle.told_jobs.specs.Told.{jobs_of_worker}
 
 -- the jobs that the worker of this number gets, of so many workers

@@ -32,7 +32,7 @@ use Rattle.port_history.specs.Opening.{Opening, taken_of}
 use Rattle.port_history.specs.Service.{effects_after}
 use Rattle.port_history.specs.State.{State, state, start_call, row_calls, signal_calls}
 use Rattle.port_jobs.proofs.Effects.{submitted-append, submitted-cons}
-use Rattle.recorded_port.specs.Laws.{IsLawful}
+use Rattle.port_body.specs.recorded_port.Laws.{IsLawful}
 
 -- the numbers of these are those from this one on
 abbrev pub AreFrom : ℕ → List Submitted → Type 0

@@ -18,8 +18,8 @@ use Rattle.port_history.specs.Laws.{may_send, is_next, is_told_right, is_told_in
 use Rattle.port_history.specs.Lawful.{Lawful}
 use Rattle.port_history.specs.Opening.{Opening}
 use Rattle.port_history.specs.State.{State, state}
-use Rattle.recorded_port.specs.Laws.{IsLawful}
-use Rattle.served_port.specs.Outcomes.{is_told_in}
+use Rattle.port_body.specs.recorded_port.Laws.{IsLawful}
+use Rattle.port_body.specs.served_port.Outcomes.{is_told_in}
 use Rattle.port_body.specs.LanePort.{rows_from, task_from}
 use Rattle.told_jobs.specs.Told.{told_task, jobs_of_worker, TellsFirst, JobsToldInOrder}
 use Rattle.told_jobs.proofs.Rising.{In, Rising, in-front, in-behind, same-job, less-in-front, rising-filter, in-filter, rising-numbered}

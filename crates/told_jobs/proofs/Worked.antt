@@ -13,10 +13,10 @@ use Rattle.async_jobs.specs.Work.{work_of}
 use Rattle.port_history.specs.Jobs.{Submitted}
 use Rattle.port_history.specs.State.{state}
 use Rattle.port_jobs.specs.Jobs.{submitted_as}
-use Rattle.port_lanes.specs.Parcels.{ParcelView}
+use Rattle.port_body.specs.port_lanes.Parcels.{ParcelView}
 use Rattle.port_model.specs.declared.signal.Sender.TheVariants as sender
 use Rattle.port_model.specs.Tasks.{TaskView}
-use Rattle.process_end.specs.Views.{LaneEnd}
+use Rattle.run_jobs.specs.process_end.Views.{LaneEnd}
 use Rattle.port_body.specs.LanePort.{rows_from}
 use Rattle.run_jobs.specs.declared.worker.WorkerEnd.{WorkerEnd}
 use Rattle.run_jobs.specs.declared.worker.WorkerEnd.TheVariants as end

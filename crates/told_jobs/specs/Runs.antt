@@ -9,12 +9,12 @@ use Rattle.async_jobs.specs.Pool.{Lanes, PoolEnd}
 use Rattle.async_jobs.specs.Turns.{Worker}
 use Rattle.port_model.specs.declared.row.Row.{Row}
 use Rattle.port_model.specs.declared.signal.Sender.TheVariants as sender
-use Rattle.port_lanes.specs.Parcels.{ParcelView}
+use Rattle.port_body.specs.port_lanes.Parcels.{ParcelView}
 use Rattle.port_history.specs.Lawful.{Lawful}
 use Rattle.port_history.specs.Opening.{Opening}
-use Rattle.process_end.specs.Views.{LaneEnd}
-use Rattle.recorded_port.specs.Asks.{GaveJobs}
-use Rattle.recorded_port.specs.Laws.{IsLawful}
+use Rattle.run_jobs.specs.process_end.Views.{LaneEnd}
+use Rattle.port_body.specs.recorded_port.Asks.{GaveJobs}
+use Rattle.port_body.specs.recorded_port.Laws.{IsLawful}
 use Rattle.port_body.specs.LanePort.{rows_from}
 use Rattle.run_jobs.specs.declared.worker.WorkerEnd.{WorkerEnd}
 use Rattle.run_jobs.specs.Working.{WorksTo}

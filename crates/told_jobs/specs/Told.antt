@@ -10,7 +10,7 @@ use Rattle.port_history.specs.Jobs.{Submitted}
 use Rattle.port_history.specs.Lawful.{Lawful}
 use Rattle.port_history.specs.Opening.{Opening}
 use Rattle.port_history.specs.State.{state}
-use Rattle.recorded_port.specs.Laws.{IsLawful}
+use Rattle.port_body.specs.recorded_port.Laws.{IsLawful}
 use Rattle.port_body.specs.LanePort.{rows_from}
 
 -- what a worker tells of a job

@@ -5,7 +5,7 @@ use Rattle.task_queue.specs.declared.item.Item.{Item}
 use Rattle.task_queue.specs.Items.{items_of, of}
 use Rattle.task_queue.proofs.Items.{of-append, of-push_other}
 use Rattle.port_lanes.specs.Parcels.{ParcelView}
-use Rattle.port_history.specs.Laws.{waits_where_busy}
+use Rattle.port_lanes.specs.port_history.Laws.{waits_where_busy}
 use Rattle.waiting_parcels.specs.Waiting.{has_sender, may_go, GoesFirst}
 use Rattle.waiting_parcels.specs.Order.{InOrder}
 

@@ -7,7 +7,7 @@ use Rattle.std.proofs.lemmas.List.{take-append-le, take_all}
 use Rattle.std.proofs.lemmas.List.Elements.{All-head, All-get_or}
 use Rattle.task_queue.specs.declared.item.Item.{Item}
 use Rattle.port_lanes.specs.Parcels.{ParcelView}
-use Rattle.port_history.specs.Laws.{waits_where_busy}
+use Rattle.port_lanes.specs.port_history.Laws.{waits_where_busy}
 use Rattle.waiting_parcels.specs.declared.arrival.Arrival.{Arrival}
 use Rattle.waiting_parcels.specs.declared.arrival.Head.{Head}
 use Rattle.waiting_parcels.specs.Waiting.{has_sender, may_go, GoesFirst, NoneGoes}

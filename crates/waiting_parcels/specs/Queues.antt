@@ -4,7 +4,7 @@ use Rattle.std.specs.List.{list_any}
 use Rattle.std.specs.declared.collections.VecDeque.{VecDeque}
 use Rattle.task_queue.specs.declared.item.Item.{Item}
 use Rattle.port_lanes.specs.Parcels.{ParcelView}
-use Rattle.port_history.specs.Laws.{waits_where_busy}
+use Rattle.port_lanes.specs.port_history.Laws.{waits_where_busy}
 use Rattle.waiting_parcels.specs.declared.arrival.Arrival.{Arrival}
 use Rattle.waiting_parcels.specs.declared.arrival.Head.{Head}
 

@@ -3,7 +3,7 @@ use Rattle.std.specs.Prelude.{◌≡◌, ◌==◌, ℕ, List, ◌∷◌, ◌++�
 use Rattle.std.specs.List.{list_any}
 use Rattle.task_queue.specs.declared.item.Item.{Item}
 use Rattle.port_lanes.specs.Parcels.{ParcelView}
-use Rattle.port_history.specs.Laws.{waits_where_busy}
+use Rattle.port_lanes.specs.port_history.Laws.{waits_where_busy}
 
 -- the tasks that wait, in the order in which they came, how many senders there are, and for how many more tasks there is a
 -- place, whoever sends them

@@ -1,5 +1,5 @@
 use Rattle.std.proofs.Common.{◌≡◌, drop}
-use Rattle.port_history.specs.Mail.{answer_of}
+use Rattle.port_links.specs.port_history.Mail.{answer_of}
 use Rattle.port_mail.proofs.answers.answer_of.Given as goal
 
 -- the effects so far hold no answer

@@ -1,6 +1,6 @@
 use Rattle.std.proofs.Common.{ap, refl}
 use Rattle.std.proofs.lemmas.List.{get_or_default}
-use Rattle.port_body.specs.Body.{name_of}
+use Rattle.driver_hosts.specs.port_body.Body.{name_of}
 use Rattle.driver_hosts.specs.Laws.{KeepNames}
 use Rattle.seated_script.proofs.ending.end_opened.Goals as goal
 

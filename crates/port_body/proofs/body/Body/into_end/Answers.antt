@@ -1,7 +1,7 @@
 use Rattle.std.proofs.Common.{◌≡◌, false, IfSome, sym, ap, ◌∙◌, subst}
 use Rattle.std.specs.Prelude.{reverse}
-use Rattle.driver_model.specs.Calls.{Held}
-use Rattle.driver_model.specs.Programs.{Tells}
+use Rattle.port_driver.specs.driver_model.Calls.{Held}
+use Rattle.port_driver.specs.driver_model.Programs.{Tells}
 use Rattle.recorded_port.specs.View.{is_finished, state_of}
 use Rattle.port_body.specs.Body.{BodyView}
 use Rattle.port_body.specs.Ends.{IsWholeEnd}

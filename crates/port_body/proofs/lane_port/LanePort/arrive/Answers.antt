@@ -1,7 +1,7 @@
 use Rattle.std.proofs.Common.{◌≡◌, ◌+◌, [], ◌∷◌, ◌++◌, length, arith, is_some, sym, ap, ◌∙◌, subst}
 use Rattle.std.specs.Prelude.{not, reverse}
 use Rattle.std.proofs.lemmas.List.{append_assoc}
-use Rattle.port_history.specs.State.{state, is_open}
+use Rattle.port_events.specs.port_history.State.{state, is_open}
 use Rattle.recorded_port.specs.View.{state_of}
 use Rattle.recorded_port.specs.Taking.{IsSameRecorded, UsesRoom}
 use Rattle.recorded_port.specs.Resuming.{Resumes}

@@ -1,6 +1,6 @@
 use Rattle.std.proofs.Common.{◌≡◌, ◌+◌, ◌++◌, List, length, false}
 use Rattle.port_model.specs.declared.row.Row.{Row}
-use Rattle.port_history.specs.State.{is_open}
+use Rattle.port_events.specs.port_history.State.{is_open}
 use Rattle.recorded_port.specs.View.{state_of}
 use Rattle.port_body.specs.LanePort.{HasRoom, Holds, IsSameLanePort, OwnItems}
 use Rattle.port_body.specs.Steps.{HasLooked}

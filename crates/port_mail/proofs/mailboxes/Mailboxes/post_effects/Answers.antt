@@ -1,5 +1,5 @@
 use Rattle.std.specs.List.{flat_map}
-use Rattle.port_history.specs.Mail.{effect_mail}
+use Rattle.port_links.specs.port_history.Mail.{effect_mail}
 use Rattle.port_mail.proofs.Posting.{Midway-start, Puts-failed}
 use Rattle.port_mail.proofs.Steps.{effects-next, effects-fail, effects-end}
 use Rattle.port_mail.proofs.mailboxes.Mailboxes.post_effects.Goals as goal

@@ -1,6 +1,6 @@
 use Rattle.std.proofs.Common.{drop}
 use Rattle.std.specs.List.{flat_map}
-use Rattle.port_history.specs.Mail.{effect_mail}
+use Rattle.port_links.specs.port_history.Mail.{effect_mail}
 use Rattle.port_mail.proofs.Posting.{Midway}
 use Rattle.port_mail.proofs.mailboxes.Mailboxes.post_effects.Given as goal
 

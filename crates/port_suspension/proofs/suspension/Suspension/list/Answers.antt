@@ -1,6 +1,6 @@
 use Rattle.std.proofs.Common.{◌≡◌, ◌<◌, ℕ, List, Bool, true, false, not, get_or, sym, ap, ◌∙◌, subst, arith}
 use Rattle.std.proofs.lemmas.List.{get_or_read}
-use Rattle.port_model.specs.declared.signal.Sender.TheVariants.{Process}
+use Rattle.port_history.specs.port_model.declared.signal.Sender.TheVariants.{Process}
 use Rattle.port_history.specs.Suspension.{Entry, has_sender}
 use Rattle.suspend_list.specs.Entries.{Suspended, is_listed}
 use Rattle.port_suspension.specs.Listed.{AgreesListed}

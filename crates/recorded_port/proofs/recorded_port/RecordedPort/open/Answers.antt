@@ -1,6 +1,6 @@
 use Rattle.std.proofs.Common.{refl, ap}
-use Rattle.port_history.specs.Opening.{Opening}
-use Rattle.port_state.specs.View.{IsOpeningOf}
+use Rattle.port_lanes.specs.port_history.Opening.{Opening}
+use Rattle.served_port.specs.port_state.View.{IsOpeningOf}
 use Rattle.recorded_port.proofs.Same.{same-opening}
 use Rattle.recorded_port.proofs.Settled.{events-at-start, opened}
 use Rattle.recorded_port.proofs.recorded_port.RecordedPort.open.Goals as goal

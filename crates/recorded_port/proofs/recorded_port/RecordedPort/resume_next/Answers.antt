@@ -1,7 +1,7 @@
 use Rattle.std.proofs.Common.{◌∷◌, map, is_some, sym, ap, ◌∙◌, subst}
 use Rattle.std.specs.Prelude.{not}
 use Rattle.port_model.specs.declared.signal.Sender.TheVariants.{Process}
-use Rattle.port_history.specs.Suspension.{entry}
+use Rattle.port_lanes.specs.port_history.Suspension.{entry}
 use Rattle.port_suspension.specs.Listed.{AgreesListed, listed_as}
 use Rattle.recorded_port.specs.View.{RecordedView, state_of}
 use Rattle.recorded_port.proofs.TaskRows.{resumed-first}

@@ -1,5 +1,5 @@
 use Rattle.std.proofs.Common.{sym, subst}
-use Rattle.port_history.specs.Opening.{taken_of}
+use Rattle.port_lanes.specs.port_history.Opening.{taken_of}
 use Rattle.port_mail.specs.Rows.{IsRowOf}
 use Rattle.recorded_port.proofs.Same.{same-written, put-names}
 use Rattle.recorded_port.proofs.recorded_port.RecordedPort.write_handled.Goals as goal

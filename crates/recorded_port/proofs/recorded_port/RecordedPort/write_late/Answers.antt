@@ -1,5 +1,5 @@
 use Rattle.std.proofs.Common.{sym, ap, ◌∙◌}
-use Rattle.port_history.specs.State.{state_at_start}
+use Rattle.port_lanes.specs.port_history.State.{state_at_start}
 use Rattle.recorded_port.specs.View.{RecordedView}
 use Rattle.recorded_port.proofs.Same.{same-written, put-names, puts-any}
 use Rattle.recorded_port.proofs.recorded_port.RecordedPort.write_late.Goals as goal

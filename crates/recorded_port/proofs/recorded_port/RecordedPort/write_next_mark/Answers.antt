@@ -1,5 +1,5 @@
 use Rattle.std.proofs.Common.{refl, sym, ap, ◌∙◌, subst}
-use Rattle.port_history.specs.Opening.{Opening}
+use Rattle.port_lanes.specs.port_history.Opening.{Opening}
 use Rattle.served_port.specs.View.{ServedView, IsAt}
 use Rattle.recorded_port.specs.View.{RecordedView, state_of}
 use Rattle.recorded_port.proofs.Same.{same-opening}

@@ -1,5 +1,5 @@
 use Rattle.std.proofs.Common.{refl, sym, ap, ◌∙◌, subst}
-use Rattle.port_history.specs.Opening.{Opening, taken_of}
+use Rattle.port_lanes.specs.port_history.Opening.{Opening, taken_of}
 use Rattle.port_mail.specs.Rows.{IsRowOf}
 use Rattle.served_port.specs.Outcomes.{IsOutcome}
 use Rattle.served_port.specs.View.{IsAt}

@@ -1,7 +1,7 @@
 use Rattle.std.proofs.Common.{◌≡◌, ◌++◌, is_some, sym, ap, ◌∙◌, subst}
 use Rattle.std.specs.Prelude.{not}
-use Rattle.port_history.specs.Events.{events_after}
-use Rattle.port_history.specs.Jobs.{submitted_by}
+use Rattle.port_events.specs.port_history.Events.{events_after}
+use Rattle.port_events.specs.port_history.Jobs.{submitted_by}
 use Rattle.port_events.specs.Asks.{asks_of}
 use Rattle.port_events.specs.Table as table
 use Rattle.port_events.specs.Table.{EventTable}

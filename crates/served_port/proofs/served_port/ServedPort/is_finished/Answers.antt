@@ -1,7 +1,7 @@
 use Rattle.std.proofs.Common.{◌≡◌, ◌&&◌, true, sym, ap, ◌∙◌}
 use Rattle.std.specs.List.{list_all}
-use Rattle.port_history.specs.Jobs.{Submitted, is_done}
-use Rattle.port_history.specs.Laws.{is_given_back}
+use Rattle.port_events.specs.port_history.Jobs.{Submitted, is_done}
+use Rattle.port_events.specs.port_history.Laws.{is_given_back}
 use Rattle.served_port.proofs.served_port.ServedPort.is_finished.Goals.{then-is_stopped, else-is_stopped}
 use Rattle.served_port.proofs.served_port.ServedPort.is_finished.Goals as goal
 

@@ -1,7 +1,7 @@
 use Rattle.std.proofs.Common.{true, refl, sym, ap, ◌∙◌, subst, arith}
-use Rattle.port_history.specs.Events.{told_of}
-use Rattle.port_history.specs.Jobs.{done_by}
-use Rattle.port_history.specs.Opening.{late_of}
+use Rattle.port_events.specs.port_history.Events.{told_of}
+use Rattle.port_events.specs.port_history.Jobs.{done_by}
+use Rattle.port_events.specs.port_history.Opening.{late_of}
 use Rattle.port_events.specs.Table as table
 use Rattle.port_events.specs.Table.{EventTable}
 use Rattle.port_jobs.specs.Jobs as jobs

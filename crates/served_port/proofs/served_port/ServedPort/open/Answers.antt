@@ -1,9 +1,9 @@
 use Rattle.std.proofs.Common.{refl, sym, ap, ◌∙◌, subst}
 use Rattle.port_jobs.specs.Jobs.{JobsView}
 use Rattle.port_state.specs.View.{IsOpeningOf, IsStateOf, StateView}
-use Rattle.port_history.specs.Opening.{Opening}
-use Rattle.port_history.specs.State.{state_at_start}
-use Rattle.driver_model.specs.Drivers.{read_event_of, write_event_of}
+use Rattle.port_events.specs.port_history.Opening.{Opening}
+use Rattle.port_events.specs.port_history.State.{state_at_start}
+use Rattle.port_driver.specs.driver_model.Drivers.{read_event_of, write_event_of}
 use Rattle.served_port.proofs.Opened.{opened-at}
 use Rattle.served_port.proofs.served_port.ServedPort.open.Goals as goal
 

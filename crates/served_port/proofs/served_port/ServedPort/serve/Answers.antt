@@ -1,7 +1,7 @@
 use Rattle.std.proofs.Common.{◌≡◌, true, sym, ap, ◌∙◌, subst}
 use Rattle.port_driver.specs.Context.{SameEvents}
-use Rattle.driver_model.specs.Drivers.{held_events}
-use Rattle.port_history.specs.Opening.{taken_of}
+use Rattle.port_driver.specs.driver_model.Drivers.{held_events}
+use Rattle.port_events.specs.port_history.Opening.{taken_of}
 use Rattle.port_model.specs.declared.signal.Sender.TheVariants.{Poller}
 use Rattle.port_state.specs.Served.{IsServed}
 use Rattle.served_port.specs.View.{ServedView}
