@@ -1,11 +1,11 @@
 -- The ends that were given back are all ends of the ports' lanes.
 use Rattle.std.proofs.Common.{◌<◌, ◌+◌, ℕ, List, length, get_or, sym, ◌∙◌, arith}
-use Rattle.port_body.specs.Body.{BodyView}
+use Rattle.driver_hosts.specs.port_body.Body.{BodyView}
 use Rattle.closed_ports.specs.Closed.{ArePortsOfLanes}
 use Rattle.run_end.specs.Ran.{RanProcess}
 use Rattle.run_setting.specs.Setting.{Setting}
-use Rattle.settled_ports.specs.Ends.{AreOfBodies, LaneEnd}
-use Rattle.settled_ports.specs.Laws.{AreAllColumns}
+use Rattle.closed_ports.specs.settled_ports.Ends.{AreOfBodies, LaneEnd}
+use Rattle.closed_ports.specs.settled_ports.Laws.{AreAllColumns}
 use Rattle.closed_lanes.specs.declared.closing.LaneEnds.{LaneEnds}
 use Rattle.closed_lanes.proofs.LaneColumns.{IsColumnOf}
 use Rattle.closed_lanes.proofs.Lists.{some-of}

@@ -1,13 +1,13 @@
 -- Ends of the ports' lanes, one of each lane, with one number.
 use Rattle.std.proofs.Common.{◌≡◌, ◌<◌, ℕ, List, length, get_or, ap, ◌∙◌, arith}
 use Rattle.port_words.specs.busy.Known.{SendKnown}
-use Rattle.process_job.specs.Going.{AreSamePorts}
-use Rattle.run_jobs.specs.Telling.{PortTask, Sends}
+use Rattle.run_end.specs.process_job.Going.{AreSamePorts}
+use Rattle.threaded_jobs.specs.run_jobs.Telling.{PortTask, Sends}
 use Rattle.run_lanes.specs.declared.parts.PortLanes.{PortLanes}
 use Rattle.run_lanes.specs.declared.parts.RunLanes.{RunLanes}
 use Rattle.run_lanes.specs.declared.size.LaneSize.{LaneSize}
 use Rattle.run_lanes.specs.Opened.{HasLaneEnds}
-use Rattle.process_end.specs.Views.{LaneEnd}
+use Rattle.run_end.specs.process_end.Views.{LaneEnd}
 
 -- an end of this port's lane, with this number
 pub record IsLaneEnd (number : ℕ) (port : PortLanes) (end : LaneEnd) : Type 0 where

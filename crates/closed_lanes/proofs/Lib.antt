@@ -4,6 +4,7 @@ mod Names
 mod Setting
 mod Gave
 mod Sent
+mod Polled
 mod Workers
 mod Ports
 mod Parts

@@ -5,9 +5,9 @@ use Rattle.std.proofs.lemmas.List.{get_or-map, get_or_default}
 use Rattle.driver_model.specs.Calls.{Kind, Own}
 use Rattle.driver_model.specs.Programs.{ToldProgram}
 use Rattle.async_jobs.specs.Pool.{Lanes}
-use Rattle.port_body.specs.Body.{BodyView, BodyName, name_of}
-use Rattle.port_body.specs.LanePort.{rows_from}
-use Rattle.port_model.specs.declared.signal.Sender.TheVariants.{Process}
+use Rattle.driver_hosts.specs.port_body.Body.{BodyView, BodyName, name_of}
+use Rattle.driver_hosts.specs.port_body.LanePort.{rows_from}
+use Rattle.port_model.specs.declared.signal.Sender.TheVariants.{Process, Poller}
 use Rattle.port_history.specs.Lawful.{Lawful}
 use Rattle.closed_ports.specs.Closed.{AreClosed, HaveComeBack, HaveEndedFrom, IsClosed, StandsAsLeft}
 use Rattle.closed_ports.specs.Jobs.{ClosedPortsAreLawful, HaveWorkedFor}
@@ -15,11 +15,11 @@ use Rattle.closed_ports.specs.Signals.{AcceptedSignalsHaveRows}
 use Rattle.driver_hosts.specs.declared.ending.EndedPort.{EndedPort}
 use Rattle.driver_hosts.specs.declared.hosted.Hosted.{Hosted}
 use Rattle.driver_hosts.specs.Returning.{AreReturned}
-use Rattle.port_driver.specs.declared.life.Life.{Life}
+use Rattle.driver_hosts.specs.port_driver.declared.life.Life.{Life}
 use Rattle.run_end.specs.Ran.{RanProcess}
 use Rattle.run_setting.specs.Setting.{Setting}
-use Rattle.settled_ports.specs.Ends.{LaneEnd}
-use Rattle.told_jobs.specs.Runs.{WorkerRun}
+use Rattle.closed_ports.specs.settled_ports.Ends.{LaneEnd}
+use Rattle.closed_ports.specs.told_jobs.Runs.{WorkerRun}
 use Rattle.closed_lanes.specs.Closed.{AreClosedIn, HasStopped, IsClosedPort, history_of}
 use Rattle.closed_lanes.specs.Parts.{ArePartedInto, closed_of, events_of}
 use Rattle.closed_lanes.specs.declared.closing.ClosedPort.{ClosedPort}
@@ -27,6 +27,7 @@ use Rattle.closed_lanes.specs.declared.closing.LaneEnds.{LaneEnds}
 use Rattle.closed_lanes.proofs.Gave.{ports-of-lanes}
 use Rattle.closed_lanes.proofs.Lists.{some-of}
 use Rattle.closed_lanes.proofs.Names.{many-bodies}
+use Rattle.closed_lanes.proofs.Polled.{poller-rows}
 use Rattle.closed_lanes.proofs.Sent.{have-sent}
 use Rattle.closed_lanes.proofs.Setting.{IsRun, given-columns}
 use Rattle.closed_lanes.proofs.Workers.{any-end}
@@ -71,7 +72,7 @@ module _ {D : Type 0} (kind : D → Kind) (own : D → Own) (program : D → Opt
   module _ (s : Setting) (bodies : List BodyView) (processes : List RanProcess) (ends : LaneEnds) (run : IsRun s bodies processes ends) where
     pub all-closed : (left : List EndedPort) (ports : List ClosedPort) (pools : List Lanes) (places : List ℕ) (hosts : List (Hosted D)) (workers : List WorkerRun) → ClosedPortsAreLawful → AcceptedSignalsHaveRows
         → AreClosed bodies (given-columns ends) left → HaveEndedFrom kind own program bodies places left hosts → ArePartedInto own hosts places left ports pools
-        → HaveWorkedFor bodies (given-columns ends) left workers → AreClosedIn kind own program s processes (map name_of bodies) places ports hosts
+        → HaveWorkedFor bodies (given-columns ends) left workers → AreClosedIn kind own program s processes ends.poller.items (map name_of bodies) places ports hosts
     all-closed left ports pools places hosts workers lawful signals closed stand parted worked =
         let columns = given-columns ends in
         let all = (ports-of-lanes s bodies processes ends run).all in
@@ -105,4 +106,10 @@ module _ {D : Type 0} (kind : D → Kind) (own : D → Own) (program : D → Opt
               let h : Hosted D = record { port = None; driver = None } in
               ap (λ q. rows_from (Process process) (history_of q)) (parted.each port h l p inside)
               ∙ signals bodies columns left processes all closed (have-sent s bodies processes ends run) port process l r within less;
+          polled = λ port p d below.
+              let within : port < length bodies = omega (arith, bodies_are, below) in
+              let inside : port < length left = omega (arith, left_are, within) in
+              let l = some-of left port inside in
+              let h : Hosted D = record { port = None; driver = None } in
+              ap (λ q. rows_from Poller (history_of q)) (parted.each port h l p inside) ∙ poller-rows s bodies processes ends run left closed port l d within;
         }

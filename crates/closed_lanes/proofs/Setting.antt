@@ -1,7 +1,7 @@
 -- What the jobs of a run give back, by what they were set up with.
 use Rattle.std.proofs.Common.{◌≡◌, ◌<◌, ◌+◌, ℕ, List, length, map, get_or, sym, ap, ◌∙◌, subst, arith}
 use Rattle.std.proofs.lemmas.List.{get_or-map, length-map}
-use Rattle.port_body.specs.Body.{BodyView, name_of}
+use Rattle.driver_hosts.specs.port_body.Body.{BodyView, name_of}
 use Rattle.run_end.specs.Ran.{RanProcess}
 use Rattle.run_end.proofs.Tells.{tells}
 use Rattle.run_lanes.specs.declared.parts.ProcessLanes.{ProcessLanes}
@@ -9,7 +9,7 @@ use Rattle.run_lanes.specs.declared.parts.WorkerLanes.{WorkerLanes}
 use Rattle.run_lanes.specs.Opened.{HasProcess, HasWorker}
 use Rattle.run_setting.specs.Setting.{Setting, IsSetting, AreNamedIn}
 use Rattle.run_setting.specs.Jobs.{HaveRunIn, HasWorkedLane}
-use Rattle.settled_ports.specs.Ends.{LaneEnd}
+use Rattle.closed_ports.specs.settled_ports.Ends.{LaneEnd}
 use Rattle.threaded_jobs.specs.declared.parting.WorkerLeft.{WorkerLeft}
 use Rattle.closed_lanes.specs.Closed.{GiveBack}
 use Rattle.closed_lanes.specs.Parts.{all_columns}

@@ -6,22 +6,22 @@ use Rattle.async_jobs.specs.declared.job.WorkItem.TheVariants.{Finish}
 use Rattle.async_jobs.specs.Items.{AnyFits}
 use Rattle.async_jobs.specs.Pool.{Lanes, PoolEnd}
 use Rattle.async_jobs.specs.Turns.{Worker}
-use Rattle.port_body.specs.Body.{BodyView, name_of}
+use Rattle.driver_hosts.specs.port_body.Body.{BodyView, name_of}
 use Rattle.closed_ports.specs.Closed.{AreClosed}
 use Rattle.closed_ports.specs.Jobs.{HaveWorkedFor, IsNumbered}
 use Rattle.driver_hosts.specs.declared.ending.EndedPort.{EndedPort}
 use Rattle.run_end.specs.Ran.{RanProcess}
-use Rattle.run_jobs.specs.declared.worker.WorkerEnd.TheVariants.{Finished}
-use Rattle.run_jobs.specs.Finishing.{SendsOne}
+use Rattle.threaded_jobs.specs.run_jobs.declared.worker.WorkerEnd.TheVariants.{Finished}
+use Rattle.threaded_jobs.specs.run_jobs.Finishing.{SendsOne}
 use Rattle.run_lanes.specs.declared.parts.WorkerLanes.{WorkerLanes}
 use Rattle.run_lanes.specs.Ends.{AreLaneRows, AreOfLanes, HaveEmptied, made_by, new_end}
 use Rattle.run_lanes.specs.Opened.{HasWorker}
 use Rattle.run_setting.specs.Setting.{Setting}
-use Rattle.served_port.specs.View.{EndName, end_name, end_names}
-use Rattle.settled_ports.specs.Ends.{LaneEnd}
+use Rattle.driver_hosts.specs.served_port.View.{EndName, end_name, end_names}
+use Rattle.closed_ports.specs.settled_ports.Ends.{LaneEnd}
 use Rattle.task_queue.specs.Ends.{ended_of}
 use Rattle.threaded_jobs.specs.declared.parting.WorkerLeft.{WorkerLeft}
-use Rattle.told_jobs.specs.Runs.{HasSettled, WorkerRun}
+use Rattle.closed_ports.specs.told_jobs.Runs.{HasSettled, WorkerRun}
 use Rattle.closed_lanes.specs.declared.closing.LaneEnds.{LaneEnds}
 use Rattle.closed_lanes.proofs.Lists.{Chosen, at-back, choose, some-of}
 use Rattle.closed_lanes.proofs.Names.{many-lanes, opened-among}

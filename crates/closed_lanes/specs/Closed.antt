@@ -4,24 +4,31 @@ use Rattle.driver_model.specs.Calls.{Kind, Own}
 use Rattle.driver_model.specs.Programs.{ToldProgram}
 use Rattle.port_mail.specs.Ends.{MailEnd}
 use Rattle.port_model.specs.declared.row.Row.{Row}
-use Rattle.port_model.specs.declared.signal.Sender.TheVariants.{Process}
+use Rattle.port_model.specs.declared.signal.Sender.TheVariants.{Process, Poller}
 use Rattle.port_history.specs.Lawful.{Lawful, IsFinished}
 use Rattle.port_history.specs.Mail.{mails}
 use Rattle.port_history.specs.State.{state}
-use Rattle.process_receipts.specs.Receipts.{accepted}
-use Rattle.recorded_port.specs.Asks.{resumed_words}
-use Rattle.recorded_port.specs.View.{stat_marks}
-use Rattle.port_body.specs.Body.{BodyName}
-use Rattle.port_body.specs.Ends.{IsLeftByCalls}
-use Rattle.port_body.specs.LanePort.{rows_from}
+use Rattle.port_lanes.specs.Parcels.{ParcelView}
+use Rattle.port_model.specs.Tasks.{TaskView}
+use Rattle.run_end.specs.process_receipts.Receipts.{accepted}
+use Rattle.driver_hosts.specs.recorded_port.Asks.{resumed_words}
+use Rattle.driver_hosts.specs.recorded_port.View.{stat_marks}
+use Rattle.driver_hosts.specs.port_body.Body.{BodyName}
+use Rattle.driver_hosts.specs.port_body.Ends.{IsLeftByCalls}
+use Rattle.driver_hosts.specs.port_body.LanePort.{rows_from}
 use Rattle.driver_hosts.specs.declared.hosted.Hosted.{Hosted}
 use Rattle.run_end.specs.Ran.{RanProcess, calls_made}
-use Rattle.served_port.specs.View.{end_names}
-use Rattle.settled_ports.specs.Senders.{IsOfAnEnd}
+use Rattle.driver_hosts.specs.served_port.View.{end_names}
+use Rattle.closed_ports.specs.settled_ports.Ends.{LaneEnd}
+use Rattle.closed_ports.specs.settled_ports.Senders.{IsOfAnEnd}
 use Rattle.run_setting.specs.Setting.{Setting}
 use Rattle.run_setting.specs.Jobs.{HaveWorkedIn, HasToldPorts, HasToldWorkers}
 use Rattle.closed_lanes.specs.declared.closing.ClosedPort.{ClosedPort}
 use Rattle.closed_lanes.specs.declared.closing.LaneEnds.{LaneEnds}
+
+-- the tasks that an end sent, in their order
+abbrev pub tasks_sent : LaneEnd → List TaskView
+tasks_sent end = map (λ (p : ParcelView). p.task) end.sent
 
 -- the history of a port, newest row first
 abbrev pub history_of : ClosedPort → List Row
@@ -59,8 +66,9 @@ module _ {D : Type 0} where
     pub kind_is : kind driver ≡ name.opening.kind
     pub stands : IsLeftByCalls name.opening (history_of port) (own driver) (program driver)
 
-  -- so it is of each port; and of each process and port the tasks that have a row are those that were accepted, in the order sent, each once
-  pub record AreClosedIn (kind : D → Kind) (own : D → Own) (program : D → Option ToldProgram) (s : Setting) (processes : List RanProcess) (names : List BodyName) (places : List ℕ)
+  -- So it is of each port. Of each process and port the tasks that have a row are those that were accepted, in the order sent, each once; and the poller's tasks that have a row are those that its end of the
+  -- port's lane sent, in their order, each once
+  pub record AreClosedIn (kind : D → Kind) (own : D → Own) (program : D → Option ToldProgram) (s : Setting) (processes : List RanProcess) (poller : List LaneEnd) (names : List BodyName) (places : List ℕ)
       (ports : List ClosedPort) (hosts : List (Hosted D)) : Type 0 where
     pub many : length ports ≡ length s.ports
     pub closed : (port : ℕ) (n : BodyName) (p : ClosedPort) → port < length s.ports → IsClosedPort (slice_index_or names port n) (slice_index_or ports port p)
@@ -69,3 +77,5 @@ module _ {D : Type 0} where
     pub signals : (port process : ℕ) (p : ClosedPort) (r : RanProcess) → port < length s.ports → process < length processes
         → rows_from (Process process) (history_of (slice_index_or ports port p))
         ≡ accepted port (calls_made (slice_index_or processes process r)).asks (calls_made (slice_index_or processes process r)).receipts
+    pub polled : (port : ℕ) (p : ClosedPort) (d : LaneEnd) → port < length s.ports
+        → rows_from Poller (history_of (slice_index_or ports port p)) ≡ tasks_sent (slice_index_or poller port d)

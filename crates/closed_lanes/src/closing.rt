@@ -1,6 +1,6 @@
 ghost use Rattle.std.specs.Prelude.{◌≡◌, ◌≢◌, ◌<◌, List, length, map, All, AllPairs, IfOk};
 ghost use Rattle.closed_ports.specs.Closed.{HaveComeBack};
-ghost use Rattle.port_body.specs.Body.{name_of};
+ghost use Rattle.driver_hosts.specs.port_body.Body.{name_of};
 ghost use Rattle.run_end.specs.Ran.{RanProcess};
 ghost use Rattle.run_setting.specs.Setting.{Setting, IsSetting, AreNamedIn};
 ghost use Rattle.run_setting.specs.Jobs.{HaveRunIn};
@@ -61,7 +61,7 @@ pub fn close_lanes<D: Driver, R: Wait>(
     requires ran { (s : Setting) × (processes : List RanProcess) × IsSetting s × AreNamedIn s (map name_of bodies.items) × HaveRunIn s processes × GiveBack s processes ends }
     ensures returned { HaveComeBack D.kind D.stage D.faults D.own D.program bodies.items places.now hosts.old.items hosts.new.items }
     ensures closed { (s : Setting) (processes : List RanProcess) → IsSetting s → AreNamedIn s (map name_of bodies.items) → HaveRunIn s processes → GiveBack s processes ends
-        → IfOk result (λ ports. AreClosedIn D.kind D.own D.program s processes (map name_of bodies.items) places.now ports.items hosts.new.items) }
+        → IfOk result (λ ports. AreClosedIn D.kind D.own D.program s processes ends.poller.items (map name_of bodies.items) places.now ports.items hosts.new.items) }
 {
     let LaneEnds {
         processes,

@@ -1,5 +1,5 @@
 -- How a run ends at each of its stages.
-use Rattle.std.proofs.Common.{inl, inr, ◌≡◌, ℕ, List, Option, Some, None, Result, Ok, Err, refl, sym, ap, subst, ◌∙◌}
+use Rattle.std.proofs.Common.{inl, inr, ◌≡◌, ℕ, ◌⊎◌, List, Option, Some, None, Result, Ok, Err, refl, sym, ap, subst, ◌∙◌}
 use Rattle.std.specs.Prelude.{All, IsSomeAnd}
 use Rattle.outside.specs.Causes.{Rose}
 use Rattle.driver_model.specs.Calls.{Kind, Own}
@@ -8,31 +8,32 @@ use Rattle.port_driver.specs.declared.life.Life.{Life}
 use Rattle.driver_hosts.specs.declared.hosted.Hosted.{Hosted}
 use Rattle.driver_hosts.specs.Back.{AllCameBack}
 use Rattle.driver_hosts.specs.Hosts.{IsUnused}
-use Rattle.run_opening.specs.Faults.{LacksAt, RefusedAt}
+use Rattle.run_output.specs.run_opening.Faults.{LacksAt, RefusedAt}
 use Rattle.run_output.specs.declared.writing.OutputFault.{OutputFault}
 use Rattle.run_output.specs.declared.writing.OutputFault.TheVariants as output
-use Rattle.run_output.specs.Ends.{OutputEnds}
+use Rattle.run_output.specs.Ends.{SinkView}
 use Rattle.run_output.specs.Reported.{report_of}
-use Rattle.run_output.specs.Writes.{writes_of}
 use Rattle.run_report.specs.declared.cause.Cause.{Cause}
 use Rattle.run_report.specs.declared.cause.Cause.TheVariants.{Done, Usage, Script, ReadFault, WriteFault, NoDriver, StartRefused, PollFault, NoMemory, Illegal, Limit, JournalText}
 use Rattle.run_report.specs.declared.report.Report.{Report}
-use Rattle.run_report.specs.Report.{text_of}
 use Rattle.script_input.specs.declared.input.RunInput.{RunInput}
-use Rattle.script_input.specs.Files.{FilesView, NothingWritten}
+use Rattle.script_input.specs.declared.input.RunWrites.{RunWrites}
+use Rattle.script_input.specs.Files.{FilesView, NothingRead, NothingWritten}
 use Rattle.script_input.proofs.Contents.{all-done}
-use Rattle.script_input.specs.Words.{Asked}
+use Rattle.script_input.specs.Words.{Asked, Source, FromFile, FromLoad}
 use Rattle.script_plan.specs.declared.decl.PortDecl.{PortDecl}
 use Rattle.script_plan.specs.Plan.{Plan}
-use Rattle.script_run.specs.declared.running.RunFault.{RunFault}
-use Rattle.script_run.specs.declared.running.RunFault.TheVariants as ran
-use Rattle.script_run.specs.declared.running.ScriptRan.{ScriptRan}
-use Rattle.script_run.specs.Ends.{IsNotRun}
-use Rattle.script_run.specs.Ran.{HasRun}
-use Rattle.gateway.specs.Run.{Run, PlanFound, HasInput}
-use Rattle.gateway.specs.Ran.{Ran}
+use Rattle.run_output.specs.script_run.declared.running.RunFault.{RunFault}
+use Rattle.run_output.specs.script_run.declared.running.RunFault.TheVariants as ran
+use Rattle.run_output.specs.script_run.declared.running.ScriptRan.{ScriptRan}
+use Rattle.run_output.specs.script_run.Ends.{IsNotRun}
+use Rattle.run_output.specs.script_run.Ran.{HasRun}
+use Rattle.gateway.specs.Run.{Run, AskFor, PlanFound, HasInput}
+use Rattle.gateway.specs.Ran.{PutOut, Ran}
 use Rattle.gateway.specs.Causes.{CauseComes, IsReported, Ends}
 use Rattle.gateway.specs.Stages.{run_cause, InputEnds, WriteEnds}
+use Rattle.gateway.proofs.Asked.{same-source}
+use Rattle.gateway.proofs.Reading.{says-reads}
 use Rattle.gateway.proofs.Untouched.{none-touched}
 use Rattle.gateway.proofs.Whole.{completes}
 
@@ -45,12 +46,63 @@ found-of words before after plan i h = record {
 }
 
 reads-same : (words : Result Asked ℕ) (before after : FilesView) (plan : Plan) (i : RunInput) → HasInput words before after plan i → after.reads ≡ before.reads
-reads-same words before after plan i h = h.loaded.files.reads ∙ h.loaded.script.read.read.reads
+reads-same words before after plan i h = h.loaded.files.reads ∙ says-reads h.loaded.script.asked.source before h.loaded.mid plan h.loaded.script.read
+
+-- what a load leaves of the files
+Untouched : {D : Type 0} → Run D → Type 0
+Untouched run = (number : ℕ) → AskFor run.words (FromLoad number) → run.files_after ≡ run.files
+
+-- files of which nothing was read and in which nothing was written are as they were
+same-view : (before after : FilesView) → NothingRead before after → NothingWritten before after → after ≡ before
+same-view before after r w =
+    ap (λ t. record { told = t; answered = after.answered; wrote = after.wrote; reads = after.reads; writes = after.writes }) w.told
+    ∙ ap (λ l. record { told = before.told; answered = l; wrote = after.wrote; reads = after.reads; writes = after.writes }) r.answered
+    ∙ ap (λ l. record { told = before.told; answered = before.answered; wrote = l; reads = after.reads; writes = after.writes }) w.wrote
+    ∙ ap (λ n. record { told = before.told; answered = before.answered; wrote = before.wrote; reads = n; writes = after.writes }) r.reads
+    ∙ ap (λ n. record { told = before.told; answered = before.answered; wrote = before.wrote; reads = before.reads; writes = n }) w.writes
+
+-- ---- what is put out
+
+-- all of it: no count rose
+put-all : (source : Source) (writes : RunWrites) (report : Report) (files files' : FilesView) (sink sink' : SinkView) → PutOut source writes report files files' sink sink' (Ok tt)
+    → (files'.reads ≡ files.reads) × (files'.writes ≡ files.writes) × (sink'.faults ≡ sink.faults)
+put-all (FromFile name) writes report files files' sink sink' o = (o.0.touches.reads, o.0.faults, o.1.faults)
+put-all (FromLoad number) writes report files files' sink sink' o = (ap (λ (f : FilesView). f.reads) o.0, ap (λ (f : FilesView). f.writes) o.0, o.1.faults)
+
+-- a write or the put failed
+put-fails : (source : Source) (writes : RunWrites) (report : Report) (files files' : FilesView) (sink sink' : SinkView) → PutOut source writes report files files' sink sink' (Err output.WriteFault)
+    → Rose files.writes files'.writes ⊎ Rose sink.faults sink'.faults
+put-fails (FromFile name) writes report files files' sink sink' o = elim o [ inl file ↦ inl file.0.1 | inr put ↦ inr put.1.rose ]
+put-fails (FromLoad number) writes report files files' sink sink' o = inr o.1.rose
+
+-- memory was wanting: no read failed
+put-short : (source : Source) (writes : RunWrites) (report : Report) (files files' : FilesView) (sink sink' : SinkView) → PutOut source writes report files files' sink sink' (Err output.NoMemory)
+    → files'.reads ≡ files.reads
+put-short (FromFile name) writes report files files' sink sink' o = o.0.0.touches.reads
+put-short (FromLoad number) writes report files files' sink sink' o = ap (λ (f : FilesView). f.reads) o.0
+
+-- of a load no file is touched
+put-apart : (number : ℕ) (writes : RunWrites) (report : Report) (files files' : FilesView) (sink sink' : SinkView) (cause : Cause) (told : Option Report)
+    → WriteEnds (FromLoad number) writes report files files' sink sink' cause told → files' ≡ files
+put-apart number writes report files files' sink sink' Done told w = w.1.0
+put-apart number writes report files files' sink sink' (Usage at) told w = absurd w
+put-apart number writes report files files' sink sink' (Script fault) told w = absurd w
+put-apart number writes report files files' sink sink' (ReadFault line) told w = absurd w
+put-apart number writes report files files' sink sink' WriteFault told w = w.1.0
+put-apart number writes report files files' sink sink' (NoDriver line handed) told w = absurd w
+put-apart number writes report files files' sink sink' (StartRefused line refusal) told w = absurd w
+put-apart number writes report files files' sink sink' PollFault told w = absurd w
+put-apart number writes report files files' sink sink' NoMemory told w = elim w.1 [ inl none ↦ none.0 | inr some ↦ some.0 ]
+put-apart number writes report files files' sink sink' (Illegal port row law) told w = absurd w
+put-apart number writes report files files' sink sink' (Limit line) told w = absurd w
+put-apart number writes report files files' sink sink' (JournalText at) told w = absurd w
 
 module _ {D : Type 0} (kind : D → Kind) (stage : D → Life) (faults : D → ℕ) (own : D → Own) (program : D → Option ToldProgram) where
   ends-so : (run : Run D) (cause : Cause) (report : Option Report) → CauseComes kind stage faults own program run cause → IsReported kind stage faults own program run cause report
-      → AllCameBack kind stage faults run.hosts run.hosts_after → Ends kind stage faults own program run cause report
-  ends-so run cause report comes reported back = record { comes = comes; reported = reported; back = back; complete = completes kind stage faults own program run cause comes }
+      → AllCameBack kind stage faults run.hosts run.hosts_after → Untouched run → Ends kind stage faults own program run cause report
+  unfolding Untouched
+  ends-so run cause report comes reported back untouched =
+      record { comes = comes; reported = reported; back = back; load = untouched; complete = completes kind stage faults own program run cause comes }
 
   unread-comes : (run : Run D) (cause : Cause) → InputEnds kind stage faults run.words run.hosts run.files run.files_after cause → NothingWritten run.files run.files_after
       → run.sink_after ≡ run.sink → run.hosts_after ≡ run.hosts → CauseComes kind stage faults own program run cause
@@ -84,9 +136,12 @@ module _ {D : Type 0} (kind : D → Kind) (stage : D → Life) (faults : D → �
 
   -- not all was read
   pub ends_unread : (run : Run D) (cause : Cause) → InputEnds kind stage faults run.words run.hosts run.files run.files_after cause → NothingWritten run.files run.files_after
+      → ((number : ℕ) → AskFor run.words (FromLoad number) → NothingRead run.files run.files_after)
       → run.sink_after ≡ run.sink → run.hosts_after ≡ run.hosts → All (IsUnused stage) run.hosts → Ends kind stage faults own program run cause None
-  ends_unread run cause l w s h unused =
+  unfolding Untouched
+  ends_unread run cause l w quiet s h unused =
       ends-so run cause None (unread-comes run cause l w s h) (unread-reported run run.words run.hosts run.files run.files_after cause l) (rw h (none-touched kind stage faults run.hosts unused))
+      (λ number asks. same-view run.files run.files_after (quiet number asks) w)
 
   unmade-comes : (run : Run D) (plan : Plan) (i : RunInput) (fault : RunFault) → HasInput run.words run.files run.files_after plan i
       → IsNotRun kind stage faults i.script.ports.items run.hosts run.hosts_after fault → (fault ≡ ran.PollFault → IsSomeAnd run.waits_after (λ waits. Rose run.waits waits))
@@ -120,18 +175,24 @@ module _ {D : Type 0} (kind : D → Kind) (stage : D → Life) (faults : D → �
   -- the run wasn't made
   pub ends_unmade : (run : Run D) (plan : Plan) (i : RunInput) (fault : RunFault) → HasInput run.words run.files run.files_after plan i
       → IsNotRun kind stage faults i.script.ports.items run.hosts run.hosts_after fault → (fault ≡ ran.PollFault → IsSomeAnd run.waits_after (λ waits. Rose run.waits waits))
-      → NothingWritten run.files run.files_after → run.sink_after ≡ run.sink → AllCameBack kind stage faults run.hosts run.hosts_after
-      → Ends kind stage faults own program run (run_cause fault) None
-  ends_unmade run plan i fault h n p w s back = ends-so run (run_cause fault) None (unmade-comes run plan i fault h n p w s) (unmade-reported run fault) back
+      → NothingWritten run.files run.files_after → ((number : ℕ) → AskFor run.words (FromLoad number) → NothingRead run.files run.files_after) → run.sink_after ≡ run.sink
+      → AllCameBack kind stage faults run.hosts run.hosts_after → Ends kind stage faults own program run (run_cause fault) None
+  unfolding Untouched
+  ends_unmade run plan i fault h n p w quiet s back =
+      ends-so run (run_cause fault) None (unmade-comes run plan i fault h n p w s) (unmade-reported run fault) back (λ number asks. same-view run.files run.files_after (quiet number asks) w)
 
   -- what is known of a run that was made, before its output was written
   record Made (run : Run D) (plan : Plan) (i : RunInput) (read : FilesView) (left : ScriptRan) : Type 0 where
     unwritten : NothingWritten run.files read
     input : HasInput run.words run.files read plan i
-    has_run : HasRun kind stage faults own program i.script run.hosts run.hosts_after left
+    has_run : HasRun kind stage faults own program i.script run.hosts run.hosts_after run.answered run.answered_after left
 
-  ran-so : (run : Run D) (plan : Plan) (i : RunInput) (read : FilesView) (left : ScriptRan) (ended : Result (Unit {0}) OutputFault) → Made run plan i read left
-      → OutputEnds (writes_of i.writes (report_of i.names left)) (text_of (report_of i.names left)) read run.files_after run.sink run.sink_after ended
+  -- where its script comes from
+  abbrev source-of : {run : Run D} {plan : Plan} {i : RunInput} {read : FilesView} {left : ScriptRan} → Made run plan i read left → Source
+  source-of m = m.input.loaded.script.asked.source
+
+  ran-so : (run : Run D) (plan : Plan) (i : RunInput) (read : FilesView) (left : ScriptRan) (ended : Result (Unit {0}) OutputFault) (m : Made run plan i read left)
+      → PutOut (source-of m) i.writes (report_of i.names left) read run.files_after run.sink run.sink_after ended
       → Ran kind stage faults own program run ended (report_of i.names left)
   ran-so run plan i read left ended m o = record {
     plan = plan;
@@ -145,20 +206,22 @@ module _ {D : Type 0} (kind : D → Kind) (stage : D → Life) (faults : D → �
     written = o;
   }
 
-  made-comes : (run : Run D) (plan : Plan) (i : RunInput) (read : FilesView) (left : ScriptRan) (cause : Cause) (told : Option Report) → Made run plan i read left → run.waits_after ≡ Some run.waits
-      → WriteEnds i.writes (report_of i.names left) read run.files_after run.sink run.sink_after cause told → CauseComes kind stage faults own program run cause
-  made-comes run plan i read left Done told m p w = record {
-    reads = w.1.0.touches.reads ∙ reads-same run.words run.files read plan i m.input;
-    writes = w.1.0.faults ∙ m.unwritten.writes;
-    puts = w.1.1.faults;
-    waits = p;
-  }
+  made-comes : (run : Run D) (plan : Plan) (i : RunInput) (read : FilesView) (left : ScriptRan) (cause : Cause) (told : Option Report) (m : Made run plan i read left) → run.waits_after ≡ Some run.waits
+      → WriteEnds (source-of m) i.writes (report_of i.names left) read run.files_after run.sink run.sink_after cause told → CauseComes kind stage faults own program run cause
+  made-comes run plan i read left Done told m p w =
+      let same = put-all (source-of m) i.writes (report_of i.names left) read run.files_after run.sink run.sink_after w.1 in
+      record {
+        reads = same.0 ∙ reads-same run.words run.files read plan i m.input;
+        writes = same.1 ∙ m.unwritten.writes;
+        puts = same.2;
+        waits = p;
+      }
   made-comes run plan i read left (Usage at) told m p w = absurd w
   made-comes run plan i read left (Script fault) told m p w = absurd w
   made-comes run plan i read left (ReadFault line) told m p w = absurd w
-  made-comes run plan i read left WriteFault told m p w = elim w.1 [
-    | inl file ↦ inl (subst (λ n. Rose n run.files_after.writes) m.unwritten.writes file.0.1)
-    | inr put ↦ inr put.1.rose
+  made-comes run plan i read left WriteFault told m p w = elim (put-fails (source-of m) i.writes (report_of i.names left) read run.files_after run.sink run.sink_after w.1) [
+    | inl file ↦ inl (subst (λ n. Rose n run.files_after.writes) m.unwritten.writes file)
+    | inr put ↦ inr put
   ]
   made-comes run plan i read left (NoDriver line handed) told m p w = absurd w
   made-comes run plan i read left (StartRefused line refusal) told m p w = absurd w
@@ -168,14 +231,17 @@ module _ {D : Type 0} (kind : D → Kind) (stage : D → Life) (faults : D → �
       ap (λ (f : FilesView). f.reads) none.0 ∙ reads-same run.words run.files read plan i m.input,
       inl (subst (λ (f : FilesView). NothingWritten run.files f) (sym none.0) m.unwritten, none.1),
     )
-    | inr some ↦ (some.0.0.touches.reads ∙ reads-same run.words run.files read plan i m.input, inr (report_of i.names left, ran-so run plan i read left (Err output.NoMemory) m some))
+    | inr some ↦ (
+      put-short (source-of m) i.writes (report_of i.names left) read run.files_after run.sink run.sink_after some ∙ reads-same run.words run.files read plan i m.input,
+      inr (report_of i.names left, ran-so run plan i read left (Err output.NoMemory) m some),
+    )
   ]
   made-comes run plan i read left (Illegal port row law) told m p w = absurd w
   made-comes run plan i read left (Limit line) told m p w = absurd w
   made-comes run plan i read left (JournalText at) told m p w = absurd w
 
-  made-reported : (run : Run D) (plan : Plan) (i : RunInput) (read : FilesView) (left : ScriptRan) (cause : Cause) (told : Option Report) → Made run plan i read left
-      → WriteEnds i.writes (report_of i.names left) read run.files_after run.sink run.sink_after cause told → IsReported kind stage faults own program run cause told
+  made-reported : (run : Run D) (plan : Plan) (i : RunInput) (read : FilesView) (left : ScriptRan) (cause : Cause) (told : Option Report) (m : Made run plan i read left)
+      → WriteEnds (source-of m) i.writes (report_of i.names left) read run.files_after run.sink run.sink_after cause told → IsReported kind stage faults own program run cause told
   made-reported run plan i read left Done told m w = rw w.0 (ran-so run plan i read left (Ok tt) m w.1)
   made-reported run plan i read left (Usage at) told m w = absurd w
   made-reported run plan i read left (Script fault) told m w = absurd w
@@ -190,10 +256,19 @@ module _ {D : Type 0} (kind : D → Kind) (stage : D → Life) (faults : D → �
   made-reported run plan i read left (JournalText at) told m w = absurd w
 
   -- the run was made
-  pub ends_made : (run : Run D) (plan : Plan) (i : RunInput) (read : FilesView) (left : ScriptRan) (cause : Cause) (told : Option Report) → NothingWritten run.files read
-      → HasInput run.words run.files read plan i → HasRun kind stage faults own program i.script run.hosts run.hosts_after left → run.waits_after ≡ Some run.waits
-      → WriteEnds i.writes (report_of i.names left) read run.files_after run.sink run.sink_after cause told → AllCameBack kind stage faults run.hosts run.hosts_after
+  pub ends_made : (run : Run D) (plan : Plan) (i : RunInput) (source : Source) (read : FilesView) (left : ScriptRan) (cause : Cause) (told : Option Report) → NothingWritten run.files read
+      → HasInput run.words run.files read plan i → AskFor run.words source → ((number : ℕ) → AskFor run.words (FromLoad number) → NothingRead run.files read)
+      → HasRun kind stage faults own program i.script run.hosts run.hosts_after run.answered run.answered_after left → run.waits_after ≡ Some run.waits
+      → WriteEnds source i.writes (report_of i.names left) read run.files_after run.sink run.sink_after cause told → AllCameBack kind stage faults run.hosts run.hosts_after
       → Ends kind stage faults own program run cause told
-  ends_made run plan i read left cause told n h r p w back =
+  unfolding Untouched
+  ends_made run plan i source read left cause told n h asks quiet r p w back =
       let m : Made run plan i read left = record { unwritten = n; input = h; has_run = r } in
-      ends-so run cause told (made-comes run plan i read left cause told m p w) (made-reported run plan i read left cause told m w) back
+      let asked = h.loaded.script.asked in
+      let so = λ (s : Source). WriteEnds s i.writes (report_of i.names left) read run.files_after run.sink run.sink_after cause told in
+      let w' : WriteEnds asked.source i.writes (report_of i.names left) read run.files_after run.sink run.sink_after cause told =
+      subst so (sym (same-source run.words asked source h.loaded.script.named asks)) w in
+      ends-so run cause told (made-comes run plan i read left cause told m p w') (made-reported run plan i read left cause told m w') back
+      (λ number load.
+      put-apart number i.writes (report_of i.names left) read run.files_after run.sink run.sink_after cause told
+      (subst so (same-source run.words asked (FromLoad number) h.loaded.script.named load) w') ∙ same-view run.files read (quiet number load) n)

@@ -1,6 +1,8 @@
 pub mod Closing
 pub mod Fresh
 pub mod Untouched
+pub mod Asked
+pub mod Loads
 pub mod Reading
 pub mod Reported
 pub mod Whole

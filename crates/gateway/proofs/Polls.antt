@@ -11,11 +11,11 @@ use Rattle.run_report.specs.declared.cause.Cause.TheVariants.{Done, Usage, Scrip
 use Rattle.run_report.specs.declared.report.Report.{Report}
 use Rattle.script_input.specs.declared.input.RunWrites.{RunWrites}
 use Rattle.script_input.specs.Files.{FilesView}
-use Rattle.script_input.specs.Words.{Asked}
-use Rattle.script_run.specs.declared.running.RunFault.{RunFault}
-use Rattle.script_run.specs.declared.running.RunFault.TheVariants as ran
-use Rattle.script_run.specs.declared.running.ScriptRan.{ScriptRan}
-use Rattle.script_run.specs.Ends.{PollIsBack}
+use Rattle.script_input.specs.Words.{Asked, Source}
+use Rattle.run_output.specs.script_run.declared.running.RunFault.{RunFault}
+use Rattle.run_output.specs.script_run.declared.running.RunFault.TheVariants as ran
+use Rattle.run_output.specs.script_run.declared.running.ScriptRan.{ScriptRan}
+use Rattle.run_output.specs.script_run.Ends.{PollIsBack}
 use Rattle.gateway.specs.Causes.{PollEnds}
 use Rattle.gateway.specs.Stages.{run_cause, InputEnds, WriteEnds}
 
@@ -54,17 +54,17 @@ module _ {S : Type 0} (waits : S → ℕ) where
   pub poll-kept : (old : S) (new : Option S) (left : ScriptRan) → PollIsBack waits old (Ok left) new → option_map waits new ≡ Some (waits old)
   poll-kept old new left b = ap (option_map waits) b.1 ∙ ap Some b.2
 
-  pub poll-made : (old : S) (new : Option S) (left : ScriptRan) (writes : RunWrites) (report : Report) (files files' : FilesView) (sink sink' : SinkView) (cause : Cause) (told : Option Report)
-      → PollIsBack waits old (Ok left) new → WriteEnds writes report files files' sink sink' cause told → PollEnds waits old cause new
-  poll-made old new left writes report files files' sink sink' Done told b w = rw b.1 b.2
-  poll-made old new left writes report files files' sink sink' (Usage at) told b w = absurd w
-  poll-made old new left writes report files files' sink sink' (Script fault) told b w = absurd w
-  poll-made old new left writes report files files' sink sink' (ReadFault line) told b w = absurd w
-  poll-made old new left writes report files files' sink sink' WriteFault told b w = rw b.1 b.2
-  poll-made old new left writes report files files' sink sink' (NoDriver line handed) told b w = absurd w
-  poll-made old new left writes report files files' sink sink' (StartRefused line refusal) told b w = absurd w
-  poll-made old new left writes report files files' sink sink' PollFault told b w = absurd w
-  poll-made old new left writes report files files' sink sink' NoMemory told b w = tt
-  poll-made old new left writes report files files' sink sink' (Illegal port row law) told b w = absurd w
-  poll-made old new left writes report files files' sink sink' (Limit line) told b w = absurd w
-  poll-made old new left writes report files files' sink sink' (JournalText at) told b w = absurd w
+  pub poll-made : (old : S) (new : Option S) (left : ScriptRan) (source : Source) (writes : RunWrites) (report : Report) (files files' : FilesView) (sink sink' : SinkView) (cause : Cause) (told : Option Report)
+      → PollIsBack waits old (Ok left) new → WriteEnds source writes report files files' sink sink' cause told → PollEnds waits old cause new
+  poll-made old new left source writes report files files' sink sink' Done told b w = rw b.1 b.2
+  poll-made old new left source writes report files files' sink sink' (Usage at) told b w = absurd w
+  poll-made old new left source writes report files files' sink sink' (Script fault) told b w = absurd w
+  poll-made old new left source writes report files files' sink sink' (ReadFault line) told b w = absurd w
+  poll-made old new left source writes report files files' sink sink' WriteFault told b w = rw b.1 b.2
+  poll-made old new left source writes report files files' sink sink' (NoDriver line handed) told b w = absurd w
+  poll-made old new left source writes report files files' sink sink' (StartRefused line refusal) told b w = absurd w
+  poll-made old new left source writes report files files' sink sink' PollFault told b w = absurd w
+  poll-made old new left source writes report files files' sink sink' NoMemory told b w = tt
+  poll-made old new left source writes report files files' sink sink' (Illegal port row law) told b w = absurd w
+  poll-made old new left source writes report files files' sink sink' (Limit line) told b w = absurd w
+  poll-made old new left source writes report files files' sink sink' (JournalText at) told b w = absurd w

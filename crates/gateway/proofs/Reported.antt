@@ -23,9 +23,9 @@ use Rattle.script_plan.specs.declared.decl.PortDecl.{PortDecl}
 use Rattle.script_plan.specs.declared.decl.ProcessDecl.{ProcessDecl}
 use Rattle.script_plan.specs.declared.decl.SaveDecl.{SaveDecl}
 use Rattle.script_plan.specs.Plan.{Plan}
-use Rattle.script_run.specs.declared.running.PortLeft.{PortLeft}
-use Rattle.script_run.specs.declared.running.ScriptRan.{ScriptRan}
-use Rattle.script_run.specs.Ran.{HasRun, PortHolds, IsFrom, history_of, opening_of}
+use Rattle.run_output.specs.script_run.declared.running.PortLeft.{PortLeft}
+use Rattle.run_output.specs.script_run.declared.running.ScriptRan.{ScriptRan}
+use Rattle.run_output.specs.script_run.Ran.{HasRun, PortHolds, IsFrom, history_of, opening_of}
 use Rattle.gateway.specs.Run.{HasInput}
 use Rattle.gateway.proofs.Closing.{finished-has-end}
 
@@ -73,22 +73,22 @@ module _ {D : Type 0} (kind : D → Kind) (stage : D → Life) (faults : D → �
   no-host = record { port = None; driver = None }
 
   -- each process of the plan is reported
-  pub processes-many : (words : Result Asked ℕ) (before after : FilesView) (plan : Plan) (i : RunInput) (old new : List (Hosted D)) (left : ScriptRan) → HasInput words before after plan i
-      → HasRun kind stage faults own program i.script old new left → length (report_of i.names left).processes ≡ length plan.processes
-  processes-many words before after plan i old new left h run =
+  pub processes-many : (words : Result Asked ℕ) (before after : FilesView) (plan : Plan) (i : RunInput) (old new : List (Hosted D)) (answered : List ℕ) (later : Option (List ℕ)) (left : ScriptRan) → HasInput words before after plan i
+      → HasRun kind stage faults own program i.script old new answered later left → length (report_of i.names left).processes ≡ length plan.processes
+  processes-many words before after plan i old new answered later left h run =
       let names = process-names-many words before after plan i h in
       paired-many (λ p. process_report p.0 p.1) i.names.processes.items left.processes.items (run.processes_many ∙ h.run.programs.many ∙ sym names) ∙ names
 
-  pub saves-within : (words : Result Asked ℕ) (before after : FilesView) (plan : Plan) (i : RunInput) (old new : List (Hosted D)) (left : ScriptRan) → HasInput words before after plan i
-      → HasRun kind stage faults own program i.script old new left → All (λ (s : SaveDecl). s.process < length (report_of i.names left).processes) i.writes.saves.items
-  saves-within words before after plan i old new left h run =
-      rw (processes-many words before after plan i old new left h run) (rw h.writes.saves (λ k d below. (h.loaded.script.is_plan.saved k d below).0))
+  pub saves-within : (words : Result Asked ℕ) (before after : FilesView) (plan : Plan) (i : RunInput) (old new : List (Hosted D)) (answered : List ℕ) (later : Option (List ℕ)) (left : ScriptRan) → HasInput words before after plan i
+      → HasRun kind stage faults own program i.script old new answered later left → All (λ (s : SaveDecl). s.process < length (report_of i.names left).processes) i.writes.saves.items
+  saves-within words before after plan i old new answered later left h run =
+      rw (processes-many words before after plan i old new answered later left h run) (rw h.writes.saves (λ k d below. (h.loaded.script.is_plan.saved k d below).0))
 
   -- the port of this number has ended, by its report
-  ended-at : (words : Result Asked ℕ) (before after : FilesView) (plan : Plan) (i : RunInput) (old new : List (Hosted D)) (left : ScriptRan) → HasInput words before after plan i
-      → HasRun kind stage faults own program i.script old new left → (k : ℕ) (p : PortLeft) → k < length plan.ports
+  ended-at : (words : Result Asked ℕ) (before after : FilesView) (plan : Plan) (i : RunInput) (old new : List (Hosted D)) (answered : List ℕ) (later : Option (List ℕ)) (left : ScriptRan) → HasInput words before after plan i
+      → HasRun kind stage faults own program i.script old new answered later left → (k : ℕ) (p : PortLeft) → k < length plan.ports
       → HasEnded (length plan.processes) (port_report (port_name (slice_index_or plan.ports k no-decl)) (slice_index_or left.ports.items k p))
-  ended-at words before after plan i old new left h run k p lt =
+  ended-at words before after plan i old new answered later left h run k p lt =
       let within : k < length i.script.ports.items = rw h.run.ports lt in
       let served = run.ports k no-decl p no-host within in
       let holds : PortHolds k (length plan.processes) i.script.workers (kind served.driver) (slice_index_or plan.ports k no-decl) (slice_index_or left.ports.items k p) =
@@ -98,9 +98,9 @@ module _ {D : Type 0} (kind : D → Kind) (stage : D → Life) (faults : D → �
       (h.loaded.script.is_plan.owners k no-decl lt)
 
   -- the report of each port has ended
-  pub all-ended : (words : Result Asked ℕ) (before after : FilesView) (plan : Plan) (i : RunInput) (old new : List (Hosted D)) (left : ScriptRan) → HasInput words before after plan i
-      → HasRun kind stage faults own program i.script old new left → All (HasEnded (length (report_of i.names left).processes)) (report_of i.names left).ports
-  all-ended words before after plan i old new left h run = λ k d below.
+  pub all-ended : (words : Result Asked ℕ) (before after : FilesView) (plan : Plan) (i : RunInput) (old new : List (Hosted D)) (answered : List ℕ) (later : Option (List ℕ)) (left : ScriptRan) → HasInput words before after plan i
+      → HasRun kind stage faults own program i.script old new answered later left → All (HasEnded (length (report_of i.names left).processes)) (report_of i.names left).ports
+  all-ended words before after plan i old new answered later left h run = λ k d below.
       let names = port-names-many words before after plan i h in
       let many : length left.ports.items ≡ length i.names.ports.items = run.ports_many ∙ ap (λ (ports : List PortDecl). length ports) h.run.ports ∙ sym names in
       let lt : k < length i.names.ports.items = rw (sym (paired-many (λ p. port_report p.0 p.1) i.names.ports.items left.ports.items many)) below in
@@ -108,6 +108,6 @@ module _ {D : Type 0} (kind : D → Kind) (stage : D → Life) (faults : D → �
       let p = some-left left.ports.items k (omega (arith, lt, many)) in
       let name : slice_index_or i.names.ports.items k (port_name no-decl) ≡ port_name (slice_index_or plan.ports k no-decl) =
       ap (λ (names : List PortName). slice_index_or names k (port_name no-decl)) h.names.ports ∙ get_or-map port_name plan.ports k no-decl (port_name no-decl) here in
-      rw (processes-many words before after plan i old new left h run)
+      rw (processes-many words before after plan i old new answered later left h run)
       (rw (paired-at (λ p. port_report p.0 p.1) i.names.ports.items left.ports.items k (port_name no-decl) p d lt many)
-      (rw name (ended-at words before after plan i old new left h run k p here)))
+      (rw name (ended-at words before after plan i old new answered later left h run k p here)))

@@ -4,7 +4,6 @@ use Rattle.std.specs.Prelude.{IfSome, IsSomeAnd, slice_index, slice_index_or}
 use Rattle.std.specs.Option.{option_map_or}
 use Rattle.std.specs.Str.{bytes_eq}
 use Rattle.std.proofs.lemmas.List.{append_cancel_left}
-use Rattle.std.proofs.lemmas.List.Elements.{filter_map-append}
 use Rattle.std.proofs.lemmas.List.Sums.{sum_by-append}
 use Rattle.std.proofs.lemmas.Slice.Eq.{bytes_eq-Decides}
 use Rattle.outside.specs.Causes.{Told, Rose}
@@ -21,29 +20,23 @@ use Rattle.driver_hosts.specs.declared.hosted.Hosted.{Hosted}
 use Rattle.driver_hosts.specs.Finding.{HasDrivers}
 use Rattle.driver_hosts.specs.Hosts.{is_named}
 use Rattle.gateway_script.specs.Script.{script}
-use Rattle.run_opening.specs.Faults.{IsOfDriver, LacksAt, RefusedAt}
+use Rattle.run_output.specs.run_opening.Faults.{IsOfDriver, LacksAt, RefusedAt}
 use Rattle.run_report.specs.declared.cause.Cause.{Cause}
 use Rattle.run_report.specs.declared.cause.Cause.TheVariants.{Done, Usage, Script, ReadFault, WriteFault, NoDriver, StartRefused, PollFault, NoMemory, Illegal, Limit, JournalText}
 use Rattle.script_input.specs.Contents.{file_of, file_names, named, total, StopsAt}
 use Rattle.script_input.specs.Files.{FilesView, HasRead, IsUnread}
 use Rattle.script_input.specs.Script.{ScriptRead}
-use Rattle.script_input.specs.Words.{Asked}
+use Rattle.script_input.specs.Words.{Asked, Source, FromFile, FromLoad}
 use Rattle.script_plan.specs.declared.decl.PortDecl.{PortDecl}
 use Rattle.script_plan.specs.declared.fault.ScriptFault.{ScriptFault}
 use Rattle.script_plan.specs.declared.step.Step.{Step}
 use Rattle.script_plan.specs.Plan.{Plan}
-use Rattle.gateway.specs.Run.{Run, PlanRead, PlanFound}
-use Rattle.gateway.specs.Causes.{IsNoScript, ScriptUnread, ScriptOver, StepUnread, StepOver, CauseComes, AreThere, AllStart, NoDriverFailed, IsValid}
+use Rattle.gateway.specs.Run.{Run, AskFor, SaysPlan, PlanRead, PlanFound}
+use Rattle.gateway.specs.Causes.{IsNoScript, ScriptUnread, ScriptOver, StepUnread, StepOver, CauseComes, AreThere, AllStart, FilesThere, ScriptThere, NoDriverFailed, IsValid}
+use Rattle.gateway.proofs.Asked.{ok≢err, ok-same, same-source}
+use Rattle.gateway.proofs.Loads.{names-split, load-starts}
 
 -- ---- plain facts
-
-ok≢err : {A B : Type 0} (r : Result A B) (a : A) (b : B) → r ≡ Ok a → r ≡ Err b → ⊥
-ok≢err (Ok x) a b e f = absurd cc
-ok≢err (Err y) a b e f = absurd cc
-
-ok-same : {A B : Type 0} (r : Result A B) (a b : A) → r ≡ Ok a → r ≡ Ok b → a ≡ b
-ok-same (Ok x) a b e f = cc
-ok-same (Err y) a b e f = absurd cc
 
 some≢none : {A : Type 0} (x : A) → Some x ≡ None → ⊥
 some≢none x e = absurd cc
@@ -144,13 +137,6 @@ held-total files (f ∷ front) name rest (c ∷ contents) (c' ∷ first) limit o
     (more-than limit (other + length c + total first) (other + total (c' ∷ first)) (files name) sum over) in
     omega (arith, more, total-cons c contents)
 
-names-split : (steps done rest : List Step) (step : Step) (name : List ℕ) → steps ≡ done ++ step ∷ rest → file_of step.act ≡ Some name → file_names steps ≡ file_names done ++ name ∷ file_names rest
-names-split steps done rest step name e f =
-    ap file_names e ∙ filter_map-append (λ (s : Step). file_of s.act) done (step ∷ rest) ∙ ap (λ more. file_names done ++ more) (one step f)
-  where
-    one : (step : Step) → file_of step.act ≡ Some name → file_names (step ∷ rest) ≡ name ∷ file_names rest
-    one step f = rw f refl
-
 -- the reads answered the files of some of the steps alone, though they answered all
 short : (before mid after : FilesView) (name bytes : List ℕ) (steps : List Step) (contents : List (List ℕ)) (line : ℕ) (file : List ℕ) (some : List (List ℕ))
     → length contents ≡ length (file_names steps) → after.answered ≡ noted before.answered name bytes ++ named (file_names steps) contents → (read : List ℕ) → mid.answered ≡ noted before.answered name read
@@ -233,81 +219,112 @@ module _ {D : Type 0} where
   -- ---- a valid run
 
   module _ (kind : D → Kind) (stage : D → Life) (faults : D → ℕ) (own : D → Own) (program : D → Option ToldProgram) (run : Run D) where
-    asked-same : (a : Asked) (v : IsValid kind faults run) → run.words ≡ Ok a → a.script ≡ v.asked.script
-    asked-same a v e = ap (λ (a : Asked). a.script) (ok-same run.words a v.asked e v.named)
+    -- the files of a valid run of the script of a file
+    files-there : (name : List ℕ) (v : IsValid kind faults run) → AskFor run.words (FromFile name) → FilesThere run.files run.files_after name v.plan
+    files-there name v asks = subst (λ (s : Source). ScriptThere s run.files run.files_after v.plan) (same-source run.words v.asked (FromFile name) v.named asks) v.there
 
     -- what was read as the script is the script
-    bytes-same : (a : Asked) (mid : FilesView) (said : Result Plan ScriptFault) (more : List NamedBytes) (v : IsValid kind faults run) → run.words ≡ Ok a
-        → (r : ScriptRead run.files mid a.script said) → run.files_after.answered ≡ mid.answered ++ more → script v.bytes ≡ said
-    bytes-same a mid said more v e r log =
-        let read : HasRead 1048576 run.files mid v.asked.script r.bytes = subst (λ name. HasRead 1048576 run.files mid name r.bytes) (asked-same a v e) r.read in
-        ap script (sym (read-bytes run.files mid run.files_after v.asked.script v.bytes r.bytes (file_names v.plan.steps) v.contents more v.there read log)) ∙ r.says
+    bytes-same : (name : List ℕ) (mid : FilesView) (plan : Plan) (said : Result Plan ScriptFault) (more : List NamedBytes) (t : FilesThere run.files run.files_after name plan)
+        → ScriptRead run.files mid name said → run.files_after.answered ≡ mid.answered ++ more → script t.bytes ≡ said
+    bytes-same name mid plan said more t r log =
+        ap script (sym (read-bytes run.files mid run.files_after name t.bytes r.bytes (file_names plan.steps) t.contents more t.there r.read log)) ∙ r.says
+
+    says-same : (source : Source) (mid : FilesView) (plan valid : Plan) (more : List NamedBytes) → SaysPlan source run.files mid plan → ScriptThere source run.files run.files_after valid
+        → run.files_after.answered ≡ mid.answered ++ more → plan ≡ valid
+    says-same (FromFile name) mid plan valid more r t log = ok-same (script t.bytes) plan valid (bytes-same name mid valid (Ok plan) more t r log) t.says
+    says-same (FromLoad number) mid plan valid more r t log = r.1 ∙ sym t
 
     plan-same : (mid : FilesView) (plan : Plan) (more : List NamedBytes) (v : IsValid kind faults run) → PlanRead run.words run.files mid plan → run.files_after.answered ≡ mid.answered ++ more
         → plan ≡ v.plan
-    plan-same mid plan more v r log = ok-same (script v.bytes) plan v.plan (bytes-same r.asked mid (Ok plan) more v r.named r.read log) v.says
+    plan-same mid plan more v r log =
+        let same : v.asked.source ≡ r.asked.source = ap (λ (a : Asked). a.source) (ok-same run.words v.asked r.asked v.named r.named) in
+        says-same r.asked.source mid plan v.plan more r.read (subst (λ (s : Source). ScriptThere s run.files run.files_after v.plan) same v.there) log
 
     found-same : (plan : Plan) (v : IsValid kind faults run) → PlanFound run.words run.files run.files_after plan → plan ≡ v.plan
     found-same plan v f = plan-same f.mid plan _ v f.script f.files.read.answer.answered
 
+    -- no driver refuses to start with the options of its ports
+    starts : (source : Source) (plan : Plan) → ScriptThere source run.files run.files_after plan → AllStart plan
+    starts (FromFile name) plan t = t.starts
+    starts (FromLoad number) plan t = subst AllStart (sym t) (load-starts number)
+
     no-script-fault : (fault : ScriptFault) (v : IsValid kind faults run) → IsNoScript run.words run.files run.files_after fault → ⊥
     no-script-fault fault v n =
-        ok≢err (script v.bytes) v.plan fault v.says (bytes-same n.asked run.files_after (Err fault) [] v n.named n.read (sym (append-nil run.files_after.answered)))
+        let t = files-there n.name v n.named in
+        ok≢err (script t.bytes) v.plan fault t.says (bytes-same n.name run.files_after v.plan (Err fault) [] t n.read (sym (append-nil run.files_after.answered)))
 
     script-there : (v : IsValid kind faults run) → ScriptUnread run.words run.files run.files_after → ⊥
-    script-there v u = unread u.unread v.there
+    script-there v u = unread u.unread t.there
       where
-        name : u.asked.script ≡ v.asked.script
-        name = asked-same u.asked v u.named
+        t : FilesThere run.files run.files_after u.name v.plan
+        t = files-there u.name v u.named
 
-        unread : IsUnread run.files run.files_after u.asked.script → AreThere run.files run.files_after v.asked.script v.bytes (file_names v.plan.steps) v.contents → ⊥
+        unread : IsUnread run.files run.files_after u.name → AreThere run.files run.files_after u.name t.bytes (file_names v.plan.steps) t.contents → ⊥
         unread (inl rose) there = v.reads rose
-        unread (inr missing) (inl told) = told-missing run.files.told v.asked.script v.bytes _ _ told (subst (λ name. IsSomeAnd run.files.told (λ files. files name ≡ None)) name missing.1)
-        unread (inr missing) (inr all) = unanswered run.files.answered run.files_after.answered _ v.asked.script v.bytes u.answered all
+        unread (inr missing) (inl told) = told-missing run.files.told u.name t.bytes _ _ told missing.1
+        unread (inr missing) (inr all) = unanswered run.files.answered run.files_after.answered _ u.name t.bytes u.answered all
 
     script-fits : (v : IsValid kind faults run) → ScriptOver run.words run.files run.files_after → ⊥
-    script-fits v u = over v.there
+    script-fits v u = over t.there
       where
-        over : AreThere run.files run.files_after v.asked.script v.bytes (file_names v.plan.steps) v.contents → ⊥
+        t : FilesThere run.files run.files_after u.name v.plan
+        t = files-there u.name v u.named
+
+        over : AreThere run.files run.files_after u.name t.bytes (file_names v.plan.steps) t.contents → ⊥
         over (inl told) =
-            let long = told-above run.files.told v.asked.script v.bytes _ _ told
-            (subst (λ name. IfSome run.files.told (λ files. IsSomeAnd (files name) (λ bytes. 1048576 < length bytes))) (asked-same u.asked v u.named) u.over) in
-            absurd (omega (arith, long, v.fits))
-        over (inr all) = unanswered run.files.answered run.files_after.answered _ v.asked.script v.bytes u.nothing.answered all
+            let long = told-above run.files.told u.name t.bytes _ _ told u.over in
+            absurd (omega (arith, long, t.fits))
+        over (inr all) = unanswered run.files.answered run.files_after.answered _ u.name t.bytes u.nothing.answered all
+
+    -- the script of a step was read
+    step-script : (name : List ℕ) (mid : FilesView) (plan : Plan) → AskFor run.words (FromFile name) → PlanRead run.words run.files mid plan → ScriptRead run.files mid name (Ok plan)
+    step-script name mid plan asks r = subst (λ (s : Source). SaysPlan s run.files mid plan) (same-source run.words r.asked (FromFile name) r.named asks) r.read
 
     step-there : (line : ℕ) (v : IsValid kind faults run) → StepUnread run.words run.files run.files_after line → ⊥
-    step-there line v u = unread u.file.unread v.there
+    step-there line v u = unread u.file.unread t.there
       where
+        t : FilesThere run.files run.files_after u.name v.plan
+        t = files-there u.name v u.named
+
+        read : ScriptRead run.files u.mid u.name (Ok u.plan)
+        read = step-script u.name u.mid u.plan u.named u.script
+
         same : u.plan ≡ v.plan
         same = plan-same u.mid u.plan _ v u.script u.file.stops.read.answered
 
         stops : StopsAt v.plan.steps line u.file.name u.file.contents u.mid run.files_after
         stops = subst (λ (p : Plan). StopsAt p.steps line u.file.name u.file.contents u.mid run.files_after) same u.file.stops
 
-        unread : IsUnread u.mid run.files_after u.file.name → AreThere run.files run.files_after v.asked.script v.bytes (file_names v.plan.steps) v.contents → ⊥
-        unread (inl rose) there = v.reads (subst (λ n. Rose n run.files_after.reads) u.script.read.read.reads rose)
-        unread (inr missing) (inl told) = told-step run.files.told v.asked.script v.bytes v.plan.steps stops.done stops.rest stops.step u.file.name v.contents stops.split stops.names told
+        unread : IsUnread u.mid run.files_after u.file.name → AreThere run.files run.files_after u.name t.bytes (file_names v.plan.steps) t.contents → ⊥
+        unread (inl rose) there = v.reads (subst (λ n. Rose n run.files_after.reads) read.read.reads rose)
+        unread (inr missing) (inl told) = told-step run.files.told u.name t.bytes v.plan.steps stops.done stops.rest stops.step u.file.name t.contents stops.split stops.names told
             (subst (λ t. IsSomeAnd t (λ files. files u.file.name ≡ None)) u.script.told missing.1)
-        unread (inr missing) (inr all) = short run.files u.mid run.files_after v.asked.script v.bytes v.plan.steps v.contents line u.file.name u.file.contents v.many all u.script.read.bytes
-            (subst (λ name. u.mid.answered ≡ noted run.files.answered name u.script.read.bytes) (asked-same u.script.asked v u.script.named) u.script.read.read.answered) stops
+        unread (inr missing) (inr all) =
+            short run.files u.mid run.files_after u.name t.bytes v.plan.steps t.contents line u.file.name u.file.contents t.many all read.bytes read.read.answered stops
 
     files-fit : (line : ℕ) (v : IsValid kind faults run) → StepOver run.words run.files run.files_after line → ⊥
-    files-fit line v u = over v.there
+    files-fit line v u = over t.there
       where
+        t : FilesThere run.files run.files_after u.name v.plan
+        t = files-there u.name v u.named
+
+        read : ScriptRead run.files u.mid u.name (Ok u.plan)
+        read = step-script u.name u.mid u.plan u.named u.script
+
         same : u.plan ≡ v.plan
         same = plan-same u.mid u.plan _ v u.script u.files.stops.read.answered
 
         stops : StopsAt v.plan.steps line u.files.name u.files.contents u.mid run.files_after
         stops = subst (λ (p : Plan). StopsAt p.steps line u.files.name u.files.contents u.mid run.files_after) same u.files.stops
 
-        over : AreThere run.files run.files_after v.asked.script v.bytes (file_names v.plan.steps) v.contents → ⊥
+        over : AreThere run.files run.files_after u.name t.bytes (file_names v.plan.steps) t.contents → ⊥
         over (inl told) =
-            let long = told-over run.files.told v.asked.script v.bytes v.plan.steps stops.done stops.rest stops.step u.files.name v.contents u.files.contents stops.split stops.names told
+            let long = told-over run.files.told u.name t.bytes v.plan.steps stops.done stops.rest stops.step u.files.name t.contents u.files.contents stops.split stops.names told
             (subst (λ t. IfSome t (λ files. map files (file_names stops.done) ≡ map Some u.files.contents)) u.script.told stops.read.held)
             (subst (λ t. IfSome t (λ files. IsSomeAnd (files u.files.name) (λ bytes. 33554432 < total u.files.contents + length bytes))) u.script.told u.files.over) in
-            absurd (omega (arith, long, v.files_fit))
-        over (inr all) = short run.files u.mid run.files_after v.asked.script v.bytes v.plan.steps v.contents line u.files.name u.files.contents v.many all u.script.read.bytes
-            (subst (λ name. u.mid.answered ≡ noted run.files.answered name u.script.read.bytes) (asked-same u.script.asked v u.script.named) u.script.read.read.answered) stops
+            absurd (omega (arith, long, t.files_fit))
+        over (inr all) =
+            short run.files u.mid run.files_after u.name t.bytes v.plan.steps t.contents line u.files.name u.files.contents t.many all read.bytes read.read.answered stops
 
     no-wait-failed : (waits : Option ℕ) → IsSomeAnd waits (λ w. Rose run.waits w) → IfSome waits (λ w. Rose run.waits w → ⊥) → ⊥
     no-wait-failed None r v = r
@@ -324,7 +341,7 @@ module _ {D : Type 0} where
         absurd (no-lack kind stage faults run.hosts v.plan.ports line handed v.drivers (subst (λ (p : Plan). LacksAt kind stage faults p.ports run.hosts line handed) same c.0.lacks))
     completes (StartRefused line refusal) c v =
         let same = found-same c.0.plan v c.0.found in
-        absurd (no-refusal kind stage faults v.plan run.hosts run.hosts_after line refusal v.starts v.calm
+        absurd (no-refusal kind stage faults v.plan run.hosts run.hosts_after line refusal (starts v.asked.source v.plan v.there) v.calm
         (subst (λ (p : Plan). RefusedAt kind stage faults p.ports run.hosts run.hosts_after line refusal) same c.0.refused))
     completes PollFault c v = absurd (no-wait-failed run.waits_after c.0.rose v.waits)
     completes NoMemory c v = inr refl

@@ -12,7 +12,7 @@ use Rattle.driver_hosts.specs.declared.hosted.Hosted.{Hosted}
 use Rattle.driver_hosts.specs.Back.{AllCameBack}
 use Rattle.driver_hosts.specs.Finding.{HasDrivers}
 use Rattle.gateway_script.specs.Script.{script}
-use Rattle.run_opening.specs.Faults.{LacksAt, RefusedAt}
+use Rattle.run_output.specs.run_opening.Faults.{LacksAt, RefusedAt}
 use Rattle.run_output.specs.declared.writing.OutputFault.TheVariants as output
 use Rattle.run_report.specs.declared.cause.Cause.{Cause}
 use Rattle.run_report.specs.declared.cause.Cause.TheVariants.{Done, Usage, Script, ReadFault, WriteFault, NoDriver, StartRefused, PollFault, NoMemory, Illegal, Limit, JournalText}
@@ -20,36 +20,41 @@ use Rattle.run_report.specs.declared.report.Report.{Report}
 use Rattle.script_input.specs.Contents.{file_names, named as named_files, total, FileUnread, FilesOver}
 use Rattle.script_input.specs.Files.{FilesView, IsLonger, IsUnread, NothingRead, NothingWritten}
 use Rattle.script_input.specs.Script.{IsOfScript, ScriptRead}
-use Rattle.script_input.specs.Words.{Asked}
+use Rattle.script_input.specs.Words.{Asked, Source, FromFile, FromLoad}
+use Rattle.script_load.specs.Load.{load_plan}
 use Rattle.script_plan.specs.declared.decl.PortDecl.{PortDecl}
 use Rattle.script_plan.specs.declared.fault.ScriptFault.{ScriptFault}
 use Rattle.script_plan.specs.Plan.{Plan}
-use Rattle.gateway.specs.Run.{Run, PlanRead, PlanFound}
+use Rattle.gateway.specs.Run.{Run, AskFor, PlanRead, PlanFound}
 use Rattle.gateway.specs.Ran.{Ran}
+
+-- The five below are of the script of a file alone: a load has none of them
 
 -- what the words name is no script, by this fault
 pub record IsNoScript (words : Result Asked ℕ) (before after : FilesView) (fault : ScriptFault) : Type 0 where
-  pub asked : Asked
-  pub named : words ≡ Ok asked
+  pub name : List ℕ
+  pub named : AskFor words (FromFile name)
   pub of_script : IsOfScript fault
-  pub read : ScriptRead before after asked.script (Err fault)
+  pub read : ScriptRead before after name (Err fault)
 
 -- the script wasn't read
 pub record ScriptUnread (words : Result Asked ℕ) (before after : FilesView) : Type 0 where
-  pub asked : Asked
-  pub named : words ≡ Ok asked
+  pub name : List ℕ
+  pub named : AskFor words (FromFile name)
   pub answered : after.answered ≡ before.answered
-  pub unread : IsUnread before after asked.script
+  pub unread : IsUnread before after name
 
 -- the script is larger than is allowed
 pub record ScriptOver (words : Result Asked ℕ) (before after : FilesView) : Type 0 where
-  pub asked : Asked
-  pub named : words ≡ Ok asked
+  pub name : List ℕ
+  pub named : AskFor words (FromFile name)
   pub nothing : NothingRead before after
-  pub over : IsLonger 1048576 before asked.script
+  pub over : IsLonger 1048576 before name
 
 -- the script was read, and the file that this line names wasn't
 pub record StepUnread (words : Result Asked ℕ) (before after : FilesView) (line : ℕ) : Type 0 where
+  pub name : List ℕ
+  pub named : AskFor words (FromFile name)
   pub plan : Plan
   pub mid : FilesView
   pub script : PlanRead words before mid plan
@@ -57,6 +62,8 @@ pub record StepUnread (words : Result Asked ℕ) (before after : FilesView) (lin
 
 -- the script was read, and its files up to that of this line are larger than is allowed
 pub record StepOver (words : Result Asked ℕ) (before after : FilesView) (line : ℕ) : Type 0 where
+  pub name : List ℕ
+  pub named : AskFor words (FromFile name)
   pub plan : Plan
   pub mid : FilesView
   pub script : PlanRead words before mid plan
@@ -139,6 +146,22 @@ AreThere before after name bytes names contents =
     IsSomeAnd before.told (λ files. (files name ≡ Some bytes) × (map files names ≡ map Some contents))
     ⊎ (after.answered ≡ noted before.answered name bytes ++ named_files names contents)
 
+-- the script of the file of this name says this plan. It and the files of its steps are there, within the limits of their size, and no driver refuses to start with the options of its ports
+pub record FilesThere (before after : FilesView) (name : List ℕ) (plan : Plan) : Type 0 where
+  pub bytes : List ℕ
+  pub contents : List (List ℕ)
+  pub many : length contents ≡ length (file_names plan.steps)
+  pub there : AreThere before after name bytes (file_names plan.steps) contents
+  pub fits : length bytes ≤ 1048576
+  pub files_fit : total contents ≤ 33554432
+  pub says : script bytes ≡ Ok plan
+  pub starts : AllStart plan
+
+-- the script of this source is there, and says this plan. That of the load generator always is
+abbrev pub ScriptThere : Source → FilesView → FilesView → Plan → Type 0
+ScriptThere (FromFile name) before after plan = FilesThere before after name plan
+ScriptThere (FromLoad number) before after plan = plan ≡ load_plan number
+
 module _ {D : Type 0} where
   -- the count of the faults of no driver rose, or stood at its end
   abbrev pub NoDriverFailed : (D → ℕ) → List (Hosted D) → List (Hosted D) → Type 0
@@ -148,26 +171,21 @@ module _ {D : Type 0} where
   -- What the words ask for is there and valid, within the limits of its size. A driver that starts is there for each of its ports, and no count of faults rose, or stood at its end
   pub record IsValid (kind : D → Kind) (faults : D → ℕ) (run : Run D) : Type 0 where
     pub asked : Asked
-    pub bytes : List ℕ
     pub plan : Plan
-    pub contents : List (List ℕ)
     pub named : run.words ≡ Ok asked
-    pub many : length contents ≡ length (file_names plan.steps)
-    pub there : AreThere run.files run.files_after asked.script bytes (file_names plan.steps) contents
-    pub fits : length bytes ≤ 1048576
-    pub files_fit : total contents ≤ 33554432
-    pub says : script bytes ≡ Ok plan
+    pub there : ScriptThere asked.source run.files run.files_after plan
     pub drivers : HasDrivers kind run.hosts plan.ports
-    pub starts : AllStart plan
     pub reads : Rose run.files.reads run.files_after.reads → ⊥
     pub writes : Rose run.files.writes run.files_after.writes → ⊥
     pub puts : Rose run.sink.faults run.sink_after.faults → ⊥
     pub waits : IfSome run.waits_after (λ waits. Rose run.waits waits → ⊥)
     pub calm : NoDriverFailed faults run.hosts run.hosts_after
 
-  -- How a run ends with this cause and this report: why, what was written, and how the drivers come back. A valid run is made and its report is written, or memory is wanting
+  -- How a run ends with this cause and this report: why, what was written, and how the drivers come back. A load reads and writes no file. A valid run is made and its report or its summary is written,
+  -- or memory is wanting
   pub record Ends (kind : D → Kind) (stage : D → Life) (faults : D → ℕ) (own : D → Own) (program : D → Option ToldProgram) (run : Run D) (cause : Cause) (report : Option Report) : Type 0 where
     pub comes : CauseComes kind stage faults own program run cause
     pub reported : IsReported kind stage faults own program run cause report
     pub back : AllCameBack kind stage faults run.hosts run.hosts_after
+    pub load : (number : ℕ) → AskFor run.words (FromLoad number) → run.files_after ≡ run.files
     pub complete : IsValid kind faults run → (cause ≡ Done) ⊎ (cause ≡ NoMemory)

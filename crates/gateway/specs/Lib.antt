@@ -1,3 +1,5 @@
+-- What crates above name of the definitions below.
+pub use Rattle.driver_hosts.specs as driver_hosts
 pub mod Fresh
 pub mod Run
 pub mod Ran

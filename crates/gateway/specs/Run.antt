@@ -9,10 +9,11 @@ use Rattle.script_input.specs.Files.{FilesView}
 use Rattle.script_input.specs.Input.{IsRunOf}
 use Rattle.script_input.specs.Names.{AreNamesOf, AreWritesOf}
 use Rattle.script_input.specs.Script.{ScriptRead}
-use Rattle.script_input.specs.Words.{Asked}
+use Rattle.script_input.specs.Words.{Asked, Source, FromFile, FromLoad}
+use Rattle.script_load.specs.Load.{load_plan}
 
--- A run: what its words ask for, or the first word at which they go wrong; the files, the sink, the drivers and the count of failed waits, as they were before it and as they are after it. The last
--- is gone with the poll set
+-- A run: what its words ask for, or the first word at which they go wrong; the files, the sink, the drivers, the count of failed waits and all events that waits answered, as they were before it and as
+-- they are after it. The last two are gone with the poll set
 pub record Run (D : Type 0) : Type 0 where
   pub words : Result Asked ℕ
   pub files : FilesView
@@ -23,12 +24,25 @@ pub record Run (D : Type 0) : Type 0 where
   pub hosts_after : List (Hosted D)
   pub waits : ℕ
   pub waits_after : Option ℕ
+  pub answered : List ℕ
+  pub answered_after : Option (List ℕ)
 
--- what the words ask for: a read answered the script of that name, and it says this plan. Behind it the files stood so
+-- the words ask for the script of this source
+pub record AskFor (words : Result Asked ℕ) (source : Source) : Type 0 where
+  pub asked : Asked
+  pub named : words ≡ Ok asked
+  pub source_is : asked.source ≡ source
+
+-- the script of this source says this plan: a read answered the file of that name, and it says it; or it is the one of the load generator, and no file was touched
+abbrev pub SaysPlan : Source → FilesView → FilesView → Plan → Type 0
+SaysPlan (FromFile name) before mid plan = ScriptRead before mid name (Ok plan)
+SaysPlan (FromLoad number) before mid plan = (mid ≡ before) × (plan ≡ load_plan number)
+
+-- what the words ask for: the script of that source says this plan. Behind it the files stood so
 pub record PlanRead (words : Result Asked ℕ) (before mid : FilesView) (plan : Plan) : Type 0 where
   pub asked : Asked
   pub named : words ≡ Ok asked
-  pub read : ScriptRead before mid asked.script (Ok plan)
+  pub read : SaysPlan asked.source before mid plan
   pub told : mid.told ≡ before.told
   pub is_plan : IsPlan plan
 

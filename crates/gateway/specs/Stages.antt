@@ -3,24 +3,24 @@ use Rattle.std.specs.Prelude.{◌≡◌, ℕ, ◌⊎◌, List, Option, Some, Non
 use Rattle.driver_model.specs.Calls.{Kind}
 use Rattle.port_driver.specs.declared.life.Life.{Life}
 use Rattle.driver_hosts.specs.declared.hosted.Hosted.{Hosted}
-use Rattle.run_opening.specs.Faults.{LacksAt}
+use Rattle.run_output.specs.run_opening.Faults.{LacksAt}
 use Rattle.run_output.specs.declared.writing.OutputFault.TheVariants as output
-use Rattle.run_output.specs.Ends.{OutputEnds, SinkView}
-use Rattle.run_output.specs.Writes.{writes_of}
+use Rattle.run_output.specs.Ends.{SinkView}
 use Rattle.run_report.specs.declared.cause.Cause.{Cause}
 use Rattle.run_report.specs.declared.cause.Cause.TheVariants.{Done, Usage, Script, ReadFault, WriteFault, NoDriver, StartRefused, PollFault, NoMemory, Limit}
 use Rattle.run_report.specs.declared.report.Report.{Report}
-use Rattle.run_report.specs.Report.{text_of}
-use Rattle.script_input.specs.declared.input.InputFault.{InputFault}
-use Rattle.script_input.specs.declared.input.InputFault.TheVariants as input
+use Rattle.script_input.specs.program_io.declared.fault.InputFault.{InputFault}
+use Rattle.script_input.specs.program_io.declared.fault.InputFault.TheVariants as input
 use Rattle.script_input.specs.declared.input.RunWrites.{RunWrites}
 use Rattle.script_input.specs.Files.{FilesView, NothingRead}
-use Rattle.script_input.specs.Words.{Asked}
+use Rattle.script_input.specs.Script.{ScriptEnds}
+use Rattle.script_input.specs.Words.{Asked, Source, FromFile, FromLoad}
 use Rattle.script_plan.specs.declared.decl.PortDecl.{PortDecl}
 use Rattle.script_plan.specs.Plan.{Plan}
-use Rattle.script_run.specs.declared.running.RunFault.{RunFault}
-use Rattle.script_run.specs.declared.running.RunFault.TheVariants as ran
+use Rattle.run_output.specs.script_run.declared.running.RunFault.{RunFault}
+use Rattle.run_output.specs.script_run.declared.running.RunFault.TheVariants as ran
 use Rattle.gateway.specs.Run.{PlanFound}
+use Rattle.gateway.specs.Ran.{PutOut}
 use Rattle.gateway.specs.Causes.{IsNoScript, ScriptUnread, ScriptOver, StepUnread, StepOver}
 
 -- the cause of a run for which not all was read
@@ -36,6 +36,11 @@ run_cause (ran.NoDriver line handed) = NoDriver line handed
 run_cause (ran.StartRefused line refusal) = StartRefused line refusal
 run_cause ran.PollFault = PollFault
 run_cause ran.NoMemory = NoMemory
+
+-- why there is no script of this source. That of the load generator is wanting for memory alone
+abbrev pub SourceEnds : Source → FilesView → FilesView → InputFault → Type 0
+SourceEnds (FromFile name) before after fault = ScriptEnds before after name fault
+SourceEnds (FromLoad number) before after fault = (after ≡ before) × (fault ≡ input.NoMemory)
 
 module _ {D : Type 0} (kind : D → Kind) (stage : D → Life) (faults : D → ℕ) where
   -- why not each port has a driver
@@ -54,11 +59,10 @@ module _ {D : Type 0} (kind : D → Kind) (stage : D → Life) (faults : D → �
   InputEnds words hosts before after (Limit line) = ((line ≡ 0) × ScriptOver words before after) ⊎ StepOver words before after line
   InputEnds words hosts before after cause = ⊥
 
--- how this report was written, and whether it is there
-abbrev pub WriteEnds : RunWrites → Report → FilesView → FilesView → SinkView → SinkView → Cause → Option Report → Type 0
-WriteEnds writes report files files' sink sink' Done told = (told ≡ Some report) × OutputEnds (writes_of writes report) (text_of report) files files' sink sink' (Ok tt)
-WriteEnds writes report files files' sink sink' WriteFault told =
-    (told ≡ Some report) × OutputEnds (writes_of writes report) (text_of report) files files' sink sink' (Err output.WriteFault)
-WriteEnds writes report files files' sink sink' NoMemory told = (told ≡ None)
-    × (((files' ≡ files) × (sink' ≡ sink)) ⊎ OutputEnds (writes_of writes report) (text_of report) files files' sink sink' (Err output.NoMemory))
-WriteEnds writes report files files' sink sink' cause told = ⊥
+-- how what is put out of this report was written, and whether it is there
+abbrev pub WriteEnds : Source → RunWrites → Report → FilesView → FilesView → SinkView → SinkView → Cause → Option Report → Type 0
+WriteEnds source writes report files files' sink sink' Done told = (told ≡ Some report) × PutOut source writes report files files' sink sink' (Ok tt)
+WriteEnds source writes report files files' sink sink' WriteFault told = (told ≡ Some report) × PutOut source writes report files files' sink sink' (Err output.WriteFault)
+WriteEnds source writes report files files' sink sink' NoMemory told = (told ≡ None)
+    × (((files' ≡ files) × (sink' ≡ sink)) ⊎ PutOut source writes report files files' sink sink' (Err output.NoMemory))
+WriteEnds source writes report files files' sink sink' cause told = ⊥

@@ -8,13 +8,13 @@ ghost use Rattle.script_input.specs.Words.{asked};
 ghost use Rattle.gateway.specs.Causes.{Ends, PollEnds};
 ghost use Rattle.gateway.specs.Stages.{run_cause};
 
-use crate::preparing::prepare;
-use crate::writing::{Written, write_left};
+use crate::preparing::{Prepared, prepare};
+use crate::writing::{Output, Written, write_left};
 use driver_hosts::{Driver, Hosted};
 use outside::{Files, Gate, PollSet, Sink};
+use run_output::{RunEnd, RunFault, run_script};
 use run_report::{Cause, Report};
 use script_input::RunInput;
-use script_run::{RunEnd, RunFault, run_script};
 use std::alloc::Global;
 use std::sync::Wait;
 use std::thread::Threads;
@@ -88,24 +88,28 @@ pub fn run_hosted<
           hosts_after = result.drivers.items;
           waits = P.faults poll;
           waits_after = option_map P.faults result.poll;
+          answered = P.answered poll;
+          answered_after = option_map P.answered result.poll;
         }) result.cause result.report }
     ensures poll { PollEnds P.faults poll result.cause result.poll }
 {
     let mut drivers = drivers;
+    let Prepared { source, input } = match prepare(alloc, words, files, drivers.as_slice()) {
+        Ok(prepared) => prepared,
+        Err(cause) => return Ended::without_report(cause, drivers, Some(poll)),
+    };
     let RunInput {
         script,
         names,
         writes,
-    } = match prepare(alloc, words, files, drivers.as_slice()) {
-        Ok(input) => input,
-        Err(cause) => return Ended::without_report(cause, drivers, Some(poll)),
-    };
+    } = input;
     let RunEnd { ran, poll } = run_script(rt, alloc, gate, &mut drivers, script, poll);
     let left = match ran {
         Ok(left) => left,
         Err(fault) => return Ended::without_report(run_cause(fault), drivers, poll),
     };
-    let Written { cause, report } = write_left(alloc, files, out, names, &writes, left);
+    let output = Output { source, writes };
+    let Written { cause, report } = write_left(alloc, files, out, names, &output, left);
     Ended {
         status: cause.status(),
         cause,
@@ -115,10 +119,13 @@ pub fn run_hosted<
     }
 }
 
-/// Runs what the words ask for: `run SCRIPT [SCHEDULERS [WORKERS]]`. They exclude the program's own name.
+/// Runs what the words ask for: `run SCRIPT [SCHEDULERS [WORKERS]]` or `load NUMBER [SCHEDULERS [WORKERS]]`. They exclude the program's own name.
 ///
 /// The script is read from `files` and has at most 1,048,576 bytes, and so are the files that its steps send, of 33,554,432 bytes together. Its processes, its ports and their jobs run on threads, and
 /// each driver serves at most one port, the first one that has its name and no driver yet. What is saved and the journal are written to `files`, and then the report to `out`.
+///
+/// A load runs the script that the load generator makes of its number in the same way. It touches no file, so no script of it is faulty, unread or too large, and its summary is written to `out` in
+/// place of the report.
 ///
 /// The call may wait, and what is promised holds if it returns, whatever the schedule.
 ///
@@ -152,6 +159,8 @@ pub fn gateway<
           hosts_after = result.drivers.items;
           waits = P.faults poll;
           waits_after = option_map P.faults result.poll;
+          answered = P.answered poll;
+          answered_after = option_map P.answered result.poll;
         }) result.cause result.report }
     ensures poll { PollEnds P.faults poll result.cause result.poll }
 {

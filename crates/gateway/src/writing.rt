@@ -3,14 +3,22 @@ ghost use Rattle.run_output.specs.Ends.{sink_view};
 ghost use Rattle.run_output.specs.Reported.{report_of as reported};
 ghost use Rattle.run_report.specs.Ports.{HasEnded};
 ghost use Rattle.script_input.specs.Files.{files_view};
+ghost use Rattle.script_input.specs.Words.{source_of};
+ghost use Rattle.gateway.specs.Ran.{PutOut};
 ghost use Rattle.gateway.specs.Stages.{WriteEnds};
 
 use outside::{Files, Sink};
-use run_output::{OutputFault, report_of, write_output};
+use run_output::{OutputFault, ScriptRan, report_of, write_output, write_summary};
 use run_report::{Cause, Report};
-use script_input::{RunNames, RunWrites};
-use script_run::ScriptRan;
+use script_input::{RunNames, RunSource, RunWrites};
 use std::alloc::Global;
+
+/// By what it is told what a run puts out: where its script comes from, and what the script writes.
+#[derive(Drop)]
+pub struct Output<'a> {
+    pub source: RunSource<'a>,
+    pub writes: RunWrites,
+}
 
 /// How a run ended that was made: why, and its report where memory was found for it.
 pub struct Written {
@@ -18,20 +26,39 @@ pub struct Written {
     pub report: Option<Report>,
 }
 
-/// Reports what a run left, and writes it.
+/// Puts out what a run left: of the script of a file its saves, its journal and the report, of a load its summary alone.
+fn put_out<F: Files, K: Sink>(
+    alloc: Global,
+    files: &mut F,
+    out: &mut K,
+    output: &Output<'_>,
+    report: &Report,
+) -> Result<(), OutputFault>
+    requires saves { All (λ s. s.process < length report.now.processes) output.now.writes.saves.items }
+    requires ended { All (HasEnded (length report.now.processes)) report.now.ports }
+    ensures { PutOut (source_of output.now.source) output.now.writes report.now (files_view F.told F.answered F.wrote F.reads F.writes files.old)
+        (files_view F.told F.answered F.wrote F.reads F.writes files.new) (sink_view K.written K.took K.faults out.old) (sink_view K.written K.took K.faults out.new) result }
+{
+    match output.source {
+        RunSource::File { .. } => write_output(alloc, files, out, &output.writes, report),
+        RunSource::Load { number } => write_summary(alloc, out, number, report),
+    }
+}
+
+/// Reports what a run left, and puts it out.
 pub fn write_left<F: Files, K: Sink>(
     alloc: Global,
     files: &mut F,
     out: &mut K,
     names: RunNames,
-    writes: &RunWrites,
+    output: &Output<'_>,
     left: ScriptRan,
 ) -> Written
     requires ports { length names.ports.items ≤ 1048576 }
     requires processes { length names.processes.items ≤ 1048576 }
-    requires saves { All (λ s. s.process < length (reported names left).processes) writes.now.saves.items }
+    requires saves { All (λ s. s.process < length (reported names left).processes) output.now.writes.saves.items }
     requires ended { All (HasEnded (length (reported names left).processes)) (reported names left).ports }
-    ensures { WriteEnds writes.now (reported names left) (files_view F.told F.answered F.wrote F.reads F.writes files.old)
+    ensures { WriteEnds (source_of output.now.source) output.now.writes (reported names left) (files_view F.told F.answered F.wrote F.reads F.writes files.old)
         (files_view F.told F.answered F.wrote F.reads F.writes files.new) (sink_view K.written K.took K.faults out.old) (sink_view K.written K.took K.faults out.new) result.cause result.report }
 {
     let Ok(report) = report_of(alloc, names, left) else {
@@ -40,7 +67,7 @@ pub fn write_left<F: Files, K: Sink>(
             report: None,
         };
     };
-    match write_output(alloc, files, out, writes, &report) {
+    match put_out(alloc, files, out, output, &report) {
         Ok(()) => Written {
             cause: Cause::Done,
             report: Some(report),

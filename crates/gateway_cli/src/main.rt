@@ -1,4 +1,4 @@
-//! The program `gateway`: it runs a script of processes and ports on threads, and prints the report.
+//! The program `gateway`: it runs a script of processes and ports on threads and prints the report, or checks a script and prints how much it has.
 #![tactic(auto)]
 
 use either_driver::EitherDriver;
@@ -6,6 +6,7 @@ use gateway::{Cause, Ended, ScriptFault, StartRefusal, cause_text, host_drivers,
 use no_memory::NoMemory;
 use outside::{OpenGate, PollSet, RealFiles, RealSink, Spawner};
 use outside_programs::{RealPoll, RealSpawner};
+use plain_command::{Plain, is_plain, plain_command};
 use port_driver::Driver;
 use sample_drivers::{Digest, Echo, Refuse, Refused, Store, Tally, Valve};
 use spawn_driver::spawn_driver;
@@ -71,7 +72,7 @@ fn words<R: Env>(rt: &R, alloc: Global) -> Result<Vec<String>, NoMemory> {
     Ok(words)
 }
 
-/// What the program says of a run that didn't end well, where memory is found for it.
+/// What the program says of a command that didn't end well, where memory is found for it.
 fn say(rt: &impl Eprint, alloc: Global, cause: &Cause) {
     if let Cause::Script {
         fault: ScriptFault::NoMemory,
@@ -94,37 +95,42 @@ fn say(rt: &impl Eprint, alloc: Global, cause: &Cause) {
     }
 }
 
-/// Runs what the command line asks for, over these drivers and the poll set of their programs, and returns the status.
+/// Does what the words ask for, where it runs nothing, and returns the status.
+fn run_plain<R: AllocGlobal + Clone + Drop + Eprint + Files + Print>(
+    rt: &R,
+    words: &[String],
+) -> Result<u8, NoMemory> {
+    let alloc = rt.alloc();
+    let mut files = RealFiles::new(rt.clone()?);
+    let mut out = RealSink::new(rt.clone()?);
+    let Plain { status, cause } = plain_command(alloc, words, &mut files, &mut out);
+    say(rt, alloc, &cause);
+    Ok(status)
+}
+
+/// Runs what the words ask for, over these drivers and the poll set of their programs, and returns the status.
 fn run_over<
     D: Driver + Send,
     P: PollSet + Drop + Send,
-    R: AllocGlobal + Clone + Drop + Env + Eprint + Files + Print + Sync + Threads + Wait,
->(rt: &R, drivers: Vec<D>, poll: P) -> Result<u8, NoMemory> {
+    R: AllocGlobal + Clone + Drop + Eprint + Files + Print + Sync + Threads + Wait,
+>(rt: &R, words: &[String], drivers: Vec<D>, poll: P) -> Result<u8, NoMemory> {
     let alloc = rt.alloc();
-    let words = words(rt, alloc)?;
     let drivers = host_drivers(alloc, drivers)?;
     let mut files = RealFiles::new(rt.clone()?);
     let mut out = RealSink::new(rt.clone()?);
     let Ended { status, cause, .. } = run_hosted(
-        rt,
-        alloc,
-        words.as_slice(),
-        &mut files,
-        &mut out,
-        drivers,
-        poll,
-        &OpenGate,
+        rt, alloc, words, &mut files, &mut out, drivers, poll, &OpenGate,
     );
     say(rt, alloc, &cause);
     Ok(status)
 }
 
-/// Runs what the command line asks for, over fresh drivers of each kind, and returns the status. These start the programs, whose events are those of the poll set.
+/// Runs what the words ask for, over fresh drivers of each kind, and returns the status. These start the programs, whose events are those of the poll set.
 fn run<
     S: Spawner + Drop + Send,
     P: PollSet + Drop + Send,
-    R: AllocGlobal + Clone + Drop + Env + Eprint + Files + Print + Sync + Threads + Wait,
->(rt: &R, spawners: Vec<S>, poll: P) -> Result<u8, NoMemory>
+    R: AllocGlobal + Clone + Drop + Eprint + Files + Print + Sync + Threads + Wait,
+>(rt: &R, words: &[String], spawners: Vec<S>, poll: P) -> Result<u8, NoMemory>
 where
     S::Program: Drop,
 {
@@ -147,11 +153,22 @@ where
     for spawner in spawners {
         drivers.push(EitherDriver::Second(spawn_driver(spawner)))?;
     }
-    run_over(rt, drivers, poll)
+    run_over(rt, words, drivers, poll)
+}
+
+/// The end of the program with this status, where memory was found for it.
+fn ended(status: Result<u8, NoMemory>) -> ExitCode {
+    ExitCode::from(status.unwrap_or(NO_MEMORY))
 }
 
 fn main(rt: HostRuntime) -> ExitCode {
     let alloc = rt.alloc();
+    let Ok(words) = words(&rt, alloc) else {
+        return ExitCode::from(NO_MEMORY);
+    };
+    if is_plain(words.as_slice()) {
+        return ended(run_plain(&rt, words.as_slice()));
+    }
     let Ok(poll) = RealPoll::new(alloc, rt, EVENTS) else {
         return ExitCode::from(NO_MEMORY);
     };
@@ -164,8 +181,5 @@ fn main(rt: HostRuntime) -> ExitCode {
             return ExitCode::from(NO_MEMORY);
         }
     }
-    match run(&rt, spawners, poll) {
-        Ok(status) => ExitCode::from(status),
-        Err(NoMemory) => ExitCode::from(NO_MEMORY),
-    }
+    ended(run(&rt, words.as_slice(), spawners, poll))
 }

@@ -108,6 +108,11 @@ fn words_that_are_not_served_are_told_by_place(rt: HostRuntime) -> Result<(), Fa
         (["run", "s", "17"].as_slice(), 3),
         (["run", "s", "4", "9"].as_slice(), 4),
         (["run", "s", "4", "2", "t"].as_slice(), 5),
+        (["load"].as_slice(), 2),
+        (["load", "x"].as_slice(), 2),
+        (["load", "18446744073709551616"].as_slice(), 2),
+        (["load", "7", "17"].as_slice(), 3),
+        (["load", "7", "4", "2", "t"].as_slice(), 5),
     ] {
         let mut files = holding(alloc, ABC.as_bytes())?;
         let (status, cause, drivers) = end_of(&rt, alloc, words, &mut files)?;

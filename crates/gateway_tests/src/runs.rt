@@ -1,6 +1,6 @@
 //! Runs over files, a sink, a poll set and programs of memory.
 ghost use Rattle.std.specs.Prelude.{All, IfOk};
-ghost use Rattle.driver_hosts.specs.Hosts.{IsUnused};
+ghost use Rattle.gateway.specs.driver_hosts.Hosts.{IsUnused};
 
 use gateway::{Ended, Hosted, gateway, host_drivers};
 use outside::{MemFiles, MemPoll, MemProgram, MemSink, MemSpawner, OpenGate};
@@ -61,6 +61,15 @@ pub fn holding(alloc: Global, script: &[u8]) -> Result<MemFiles, Fail> {
     Ok(files)
 }
 
+/// The words as a run takes them.
+pub fn owned_words(alloc: Global, words: &[&str]) -> Result<Vec<String>, Fail> {
+    let mut owned = Vec::new(alloc);
+    for word in words {
+        owned.push(String::from_str(alloc, word)?)?;
+    }
+    Ok(owned)
+}
+
 /// Runs the words over the files, the sink and the poll set, with the drivers of these tests.
 pub fn run<R: Sync + Threads + Wait>(
     rt: &R,
@@ -70,10 +79,7 @@ pub fn run<R: Sync + Threads + Wait>(
     poll: MemPoll,
     alloc: Global,
 ) -> Result<Ended<MemPoll>, Fail> {
-    let mut owned = Vec::new(alloc);
-    for word in words {
-        owned.push(String::from_str(alloc, word)?)?;
-    }
+    let owned = owned_words(alloc, words)?;
     let drivers = hosts(alloc)?;
     Ok(gateway(
         rt,

@@ -1,20 +1,11 @@
 -- How what a run left is written, and why not.
-use Rattle.std.specs.Prelude.{◌≡◌, ◌≢◌, ℕ, ◌⊎◌, List, ◌++◌, All, Option, Some, None, Result, Ok, Err, IsSomeAnd}
-use Rattle.std.specs.Option.{option_map}
+use Rattle.std.specs.Prelude.{◌≡◌, ◌≢◌, ℕ, ◌⊎◌, List, ◌++◌, All, Some, None, Result, Ok, Err, IsSomeAnd}
 use Rattle.outside.specs.Causes.{Told, Rose}
 use Rattle.outside.specs.Log.{NamedBytes}
 use Rattle.script_input.specs.Files.{FilesView}
+pub use Rattle.script_input.specs.program_io.Sink.{SinkView, sink_view, TookText, PutFailed}
 use Rattle.run_output.specs.declared.writing.OutputFault.{OutputFault}
 use Rattle.run_output.specs.declared.writing.OutputFault.TheVariants.{WriteFault, NoMemory}
-
--- what a sink shows: what was written, where it tells it, the bytes that it took, and how many puts failed
-pub record SinkView : Type 0 where
-  pub written : Option (List ℕ)
-  pub took : List ℕ
-  pub faults : ℕ
-
-abbrev pub sink_view : {K : Type 0} → (K → Option (List ℕ)) → (K → List ℕ) → (K → ℕ) → K → SinkView
-sink_view written took faults sink = record { written = written sink; took = took sink; faults = faults sink }
 
 -- what is told of every name that none of these writes has stays, and whether the files tell stays too
 abbrev pub OthersStay : Told → Told → List NamedBytes → Type 0
@@ -46,23 +37,6 @@ abbrev pub FilesEnd : List NamedBytes → FilesView → FilesView → Result (Un
 FilesEnd all old new (Ok _) = WroteAll all old new
 FilesEnd all old new (Err WriteFault) = WroteFront all old new × Rose old.writes new.writes
 FilesEnd all old new (Err NoMemory) = WroteFront all old new × (new.writes ≡ old.writes)
-
--- the sink took this text, and no put failed
-pub record TookText (old new : SinkView) (text : List ℕ) : Type 0 where
-  pub took : new.took ≡ old.took ++ text
-  pub written : new.written ≡ option_map (λ written. written ++ text) old.written
-  pub faults : new.faults ≡ old.faults
-
--- a part of this text was written, from its front
-abbrev pub WrotePart : Option (List ℕ) → Option (List ℕ) → List ℕ → Type 0
-WrotePart None new text = new ≡ None
-WrotePart (Some old) new text = (part : List ℕ) × (rest : List ℕ) × (text ≡ part ++ rest) × (new ≡ Some (old ++ part))
-
--- the put of this text failed
-pub record PutFailed (old new : SinkView) (text : List ℕ) : Type 0 where
-  pub took : new.took ≡ old.took
-  pub written : WrotePart old.written new.written text
-  pub rose : Rose old.faults new.faults
 
 -- how the put of this text ends: the sink took it, failed, or memory was wanting before
 abbrev pub TextEnds : List ℕ → SinkView → SinkView → Result (Unit {0}) OutputFault → Type 0

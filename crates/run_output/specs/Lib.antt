@@ -1,3 +1,6 @@
+-- What crates above name of the definitions below.
+pub use Rattle.script_run.specs.run_opening as run_opening
+pub use Rattle.script_run.specs as script_run
 pub mod Reported
 pub mod Writes
 pub mod Ends

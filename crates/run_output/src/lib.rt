@@ -5,4 +5,5 @@ mod reporting;
 mod writing;
 
 pub use reporting::report_of;
-pub use writing::{OutputFault, write_output};
+pub use script_run::{RunEnd, RunFault, ScriptRan, run_script};
+pub use writing::{OutputFault, write_output, write_summary};

@@ -1,6 +1,6 @@
 ghost use Rattle.std.specs.Prelude.{◌≡◌, ◌<◌, [], ◌∷◌, map, length, All, IfOk};
-ghost use Rattle.run_report.specs.Ports.{HasEnded};
-ghost use Rattle.run_report.specs.Report.{text_of};
+ghost use Rattle.run_report.specs.Ports.{HasEnded, IsOfProcesses};
+ghost use Rattle.run_report.specs.Report.{summary_of, text_of};
 ghost use Rattle.run_output.specs.Ends.{sink_view, FilesEnd, OutputEnds, TextEnds};
 ghost use Rattle.script_input.specs.Files.{files_view};
 ghost use Rattle.run_output.specs.Writes.{journal_write, save_write, writes_of};
@@ -9,7 +9,7 @@ use journal_text::print_histories;
 use no_memory::NoMemory;
 use outside::{FileFault, Files, Sink};
 use port_model::Reason;
-use run_report::{ProcReport, Report, report_text, saved_bytes};
+use run_report::{ProcReport, Report, load_text, report_text, saved_bytes};
 use script_input::RunWrites;
 use script_plan::SaveDecl;
 use std::alloc::Global;
@@ -126,16 +126,36 @@ fn write_files<F: Files>(
     }
 }
 
+fn put_text<K: Sink>(out: &mut K, text: &[u8]) -> Result<(), OutputFault>
+    ensures { TextEnds text.now (sink_view K.written K.took K.faults out.old) (sink_view K.written K.took K.faults out.new) result }
+{
+    match out.put(text) {
+        Ok(()) => Ok(()),
+        Err(_) => Err(OutputFault::WriteFault),
+    }
+}
+
 /// Puts the text of a report.
 fn write_report<K: Sink>(alloc: Global, out: &mut K, report: &Report) -> Result<(), OutputFault>
     requires { All (HasEnded (length report.now.processes)) report.now.ports }
     ensures { TextEnds (text_of report.now) (sink_view K.written K.took K.faults out.old) (sink_view K.written K.took K.faults out.new) result }
 {
     let text = report_text(alloc, report)?;
-    match out.put(text.as_slice()) {
-        Ok(()) => Ok(()),
-        Err(_) => Err(OutputFault::WriteFault),
-    }
+    put_text(out, text.as_slice())
+}
+
+/// Puts the summary of the load of this number, and touches no file.
+pub fn write_summary<K: Sink>(
+    alloc: Global,
+    out: &mut K,
+    number: u64,
+    report: &Report,
+) -> Result<(), OutputFault>
+    requires { All (IsOfProcesses (length report.now.processes)) report.now.ports }
+    ensures { TextEnds (summary_of number report.now) (sink_view K.written K.took K.faults out.old) (sink_view K.written K.took K.faults out.new) result }
+{
+    let text = load_text(alloc, number, report)?;
+    put_text(out, text.as_slice())
 }
 
 /// Writes what a run left: the data that is saved, in the order of the script, then the journal, and at last the text of the report.

@@ -8,9 +8,9 @@ use Rattle.std.proofs.lemmas.List.Elements.{filter_map-append}
 use Rattle.std.proofs.lemmas.List.Sums.{sum_by-append}
 use Rattle.outside.specs.Causes.{Told, Rose}
 use Rattle.script_plan.specs.declared.step.Step.{Step}
-use Rattle.script_input.specs.declared.input.InputFault.{InputFault}
-use Rattle.script_input.specs.declared.input.InputFault.TheVariants.{Script, ReadFault, Limit, NoMemory}
-use Rattle.script_input.specs.Files.{FilesView, NothingWritten, HasRead, IsUnread, ReadEnds}
+use Rattle.program_io.specs.declared.fault.InputFault.{InputFault}
+use Rattle.program_io.specs.declared.fault.InputFault.TheVariants.{Script, ReadFault, Limit, NoMemory}
+use Rattle.program_io.specs.Files.{FilesView, NothingWritten, HasRead, IsUnread, ReadEnds}
 use Rattle.script_input.specs.Contents.{file_of, file_names, named, total, HaveAnswered, HaveRead, SomeRead, FilesEnd}
 
 -- ---- lists

@@ -5,9 +5,9 @@ use Rattle.outside.specs.Log.{NamedBytes}
 use Rattle.script_plan.specs.declared.step.Step.{Step}
 use Rattle.script_plan.specs.declared.step.Act.{Act}
 use Rattle.script_plan.specs.declared.step.Act.TheVariants.{File}
-use Rattle.script_input.specs.declared.input.InputFault.{InputFault}
-use Rattle.script_input.specs.declared.input.InputFault.TheVariants.{Script, ReadFault, Limit, NoMemory}
-use Rattle.script_input.specs.Files.{FilesView, IsUnread}
+use Rattle.program_io.specs.declared.fault.InputFault.{InputFault}
+use Rattle.program_io.specs.declared.fault.InputFault.TheVariants.{Script, ReadFault, Limit, NoMemory}
+use Rattle.program_io.specs.Files.{FilesView, IsUnread}
 
 -- the name of the file that an act sends
 abbrev pub file_of : Act → Option (List ℕ)

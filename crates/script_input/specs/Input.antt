@@ -3,7 +3,7 @@ use Rattle.std.specs.Prelude.{◌≡◌, ℕ, List, length}
 use Rattle.script_plan.specs.Plan.{Plan}
 use Rattle.run_setting.specs.declared.RunScript.{RunScript}
 use Rattle.script_input.specs.declared.input.RunInput.{RunInput}
-use Rattle.script_input.specs.Files.{FilesView}
+use Rattle.program_io.specs.Files.{FilesView}
 use Rattle.script_input.specs.Contents.{HaveRead}
 use Rattle.script_input.specs.Names.{AreNamesOf, AreWritesOf}
 use Rattle.script_input.specs.Programs.{AreProgramsOf}

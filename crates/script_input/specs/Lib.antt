@@ -1,6 +1,9 @@
+-- What crates above name of the definitions below.
+pub use Rattle.program_io.specs as program_io
+pub use Rattle.program_io.specs.Files
+pub use Rattle.program_io.specs.Script
+pub use Rattle.run_setting.specs as run_setting
 pub mod Words
-pub mod Files
-pub mod Script
 pub mod Contents
 pub mod Names
 pub mod Programs

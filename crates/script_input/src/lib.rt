@@ -8,9 +8,9 @@ mod naming;
 mod reading;
 mod words;
 
-pub use input::{InputFault, PortName, RunInput, RunNames, RunWrites};
+pub use input::{PortName, RunInput, RunNames, RunWrites};
 pub use loading::load_programs;
-pub use reading::read_run_script;
+pub use program_io::{InputFault, read_run_script};
 pub use run_seats::Program;
 pub use run_setting::RunScript;
-pub use words::{RunWords, run_words};
+pub use words::{RunSource, RunWords, run_words};

@@ -1,14 +1,15 @@
 ghost use Rattle.std.specs.Prelude.{◌≤◌, IfOk, IfErr};
 ghost use Rattle.run_setting.specs.Script.{IsRunnable};
-ghost use Rattle.script_input.specs.Files.{files_view, NothingWritten};
+ghost use Rattle.program_io.specs.Files.{files_view, NothingWritten};
 ghost use Rattle.script_input.specs.Contents.{FilesEnd};
 ghost use Rattle.script_input.specs.Input.{IsInputOf};
 
 use crate::dealing::deal_steps;
 use crate::naming::names_of;
 use crate::reading::read_contents;
-use crate::{InputFault, RunInput, RunScript, RunWrites};
+use crate::{RunInput, RunScript, RunWrites};
 use outside::Files;
+use program_io::InputFault;
 use script_plan::{Script, ScriptParts};
 use std::alloc::Global;
 

@@ -2,7 +2,9 @@ ghost use Rattle.std.specs.Prelude.{◌≡◌, ◌<◌, ◌≤◌, ◌^◌, map,
 ghost use Rattle.std.specs.List.{list_all};
 ghost use Rattle.std.specs.Option.{SomeIff};
 ghost use Rattle.script_text.specs.Tokens.{is_digit, value_of};
-ghost use Rattle.script_input.specs.Words.{asked, is_count, is_number, is_word, told, with_schedulers, with_script, with_workers};
+ghost use Rattle.script_input.specs.Words.{asked, is_count, is_load_number, is_number, source_of, told, with_load_number, with_schedulers, with_script, with_workers};
+
+use program_io::may_name_file;
 
 /// How many schedulers run a script where nothing is said.
 const SCHEDULERS: u32 = 4;
@@ -14,26 +16,36 @@ const MAX_SCHEDULERS: u32 = 16;
 
 const MAX_WORKERS: u32 = 8;
 
-/// What the words of a run ask for: the name of the script, and how many schedulers and workers run it.
+/// Where the script of a run comes from.
+#[derive(Clone, Copy)]
+pub enum RunSource<'a> {
+    /// The file of this name.
+    File { name: &'a str },
+    /// The load generator, which makes it of this number.
+    Load { number: u64 },
+}
+
+/// What the words of a run ask for: where the script comes from, and how many schedulers and workers run it.
 #[derive(Clone, Copy)]
 pub struct RunWords<'a> {
-    pub script: &'a str,
+    pub source: RunSource<'a>,
     pub schedulers: u32,
     pub workers: u32,
 }
 
-/// What the words ask for, `run SCRIPT [SCHEDULERS [WORKERS]]`. They exclude the program's own name. Otherwise the first word, from 1, at which no accepted list of
-/// words goes on; one that is missing is told as the place behind the last.
+/// What the words ask for, `run SCRIPT [SCHEDULERS [WORKERS]]` or `load NUMBER [SCHEDULERS [WORKERS]]`. They exclude the program's own name. Otherwise the first word,
+/// from 1, at which no accepted list of words goes on; one that is missing is told as the place behind the last.
 ///
-/// SCRIPT isn't empty and doesn't begin with `-`. SCHEDULERS are 1 to 16, and 4 where nothing is said; WORKERS are 1 to 8, and 2 where nothing is said. Each is
-/// written with 1 to 20 decimal digits.
+/// SCRIPT isn't empty and doesn't begin with `-`. NUMBER has 64 bits. SCHEDULERS are 1 to 16, and 4 where nothing is said; WORKERS are 1 to 8, and 2 where nothing is
+/// said. Each number is written with 1 to 20 decimal digits.
 pub fn run_words(words: &[String]) -> Result<RunWords<'_>, u32>
     ensures asked { told result ≡ asked (map (λ w. string_bytes w) words.now) }
     ensures schedulers { IfOk result (λ w. (1 ≤ w.schedulers) × (w.schedulers ≤ 16)) }
     ensures workers { IfOk result (λ w. (1 ≤ w.workers) × (w.workers ≤ 8)) }
 {
     match words {
-        [run, rest @ ..] if run.as_str() == "run" => with_script(rest),
+        [first, rest @ ..] if first.as_str() == "run" => with_script(rest),
+        [first, rest @ ..] if first.as_str() == "load" => with_load_number(rest),
         _ => Err(1),
     }
 }
@@ -45,38 +57,57 @@ fn with_script(words: &[String]) -> Result<RunWords<'_>, u32>
 {
     match words {
         [script, rest @ ..] if may_name_file(script.as_str()) => {
-            with_schedulers(script.as_str(), rest)
+            let name = script.as_str();
+            with_schedulers(RunSource::File { name }, rest)
         }
         _ => Err(2),
     }
 }
 
-fn with_schedulers<'a>(script: &'a str, words: &[String]) -> Result<RunWords<'a>, u32>
-    ensures asked { told result ≡ with_schedulers script.now (map (λ w. string_bytes w) words.now) }
+fn with_load_number(words: &[String]) -> Result<RunWords<'_>, u32>
+    ensures asked { told result ≡ with_load_number (map (λ w. string_bytes w) words.now) }
+    ensures schedulers { IfOk result (λ w. (1 ≤ w.schedulers) × (w.schedulers ≤ 16)) }
+    ensures workers { IfOk result (λ w. (1 ≤ w.workers) × (w.workers ≤ 8)) }
+{
+    let [word, rest @ ..] = words else {
+        return Err(2);
+    };
+    match load_number(word.as_bytes()) {
+        Some(number) => with_schedulers(RunSource::Load { number }, rest),
+        None => Err(2),
+    }
+}
+
+fn with_schedulers<'a>(source: RunSource<'a>, words: &[String]) -> Result<RunWords<'a>, u32>
+    ensures asked { told result ≡ with_schedulers (source_of source.entry) (map (λ w. string_bytes w) words.now) }
     ensures schedulers { IfOk result (λ w. (1 ≤ w.schedulers) × (w.schedulers ≤ 16)) }
     ensures workers { IfOk result (λ w. (1 ≤ w.workers) × (w.workers ≤ 8)) }
 {
     let [word, rest @ ..] = words else {
         return Ok(RunWords {
-            script,
+            source,
             schedulers: SCHEDULERS,
             workers: WORKERS,
         });
     };
     match count_up_to(MAX_SCHEDULERS, word.as_bytes()) {
-        Some(schedulers) => with_workers(script, schedulers, rest),
+        Some(schedulers) => with_workers(source, schedulers, rest),
         None => Err(3),
     }
 }
 
-fn with_workers<'a>(script: &'a str, schedulers: u32, words: &[String]) -> Result<RunWords<'a>, u32>
-    ensures asked { told result ≡ with_workers script.now schedulers (map (λ w. string_bytes w) words.now) }
+fn with_workers<'a>(
+    source: RunSource<'a>,
+    schedulers: u32,
+    words: &[String],
+) -> Result<RunWords<'a>, u32>
+    ensures asked { told result ≡ with_workers (source_of source.entry) schedulers (map (λ w. string_bytes w) words.now) }
     ensures schedulers { IfOk result (λ w. w.schedulers ≡ schedulers) }
     ensures workers { IfOk result (λ w. (1 ≤ w.workers) × (w.workers ≤ 8)) }
 {
     let [word, rest @ ..] = words else {
         return Ok(RunWords {
-            script,
+            source,
             schedulers,
             workers: WORKERS,
         });
@@ -88,17 +119,10 @@ fn with_workers<'a>(script: &'a str, schedulers: u32, words: &[String]) -> Resul
         return Err(5);
     }
     Ok(RunWords {
-        script,
+        source,
         schedulers,
         workers,
     })
-}
-
-/// Whether a word may name a file: it isn't empty, and doesn't begin with `-`.
-fn may_name_file(word: &str) -> bool
-    ensures { result ≡ is_word word.now }
-{
-    !word.is_empty() && !word.as_bytes().starts_with(b"-")
 }
 
 /// Whether a word is 1 to 20 decimal digits.
@@ -125,6 +149,17 @@ fn number_of(digits: &[u8]) -> Option<u64>
         number = number.checked_mul(10)?.checked_add(digit)?;
     }
     Some(number)
+}
+
+/// The number of a load that a word spells, if it has 64 bits.
+fn load_number(word: &[u8]) -> Option<u64>
+    ensures { result ≡ (if is_load_number word.now then Some (value_of word.now) else None) }
+{
+    if is_number(word) {
+        number_of(word)
+    } else {
+        None
+    }
 }
 
 /// The number that a word spells, if it is one of 1 to `most`.

@@ -7,7 +7,7 @@ use Rattle.port_driver.specs.declared.life.Life.{Life}
 use Rattle.port_body.specs.Body.{BodyView, name_of}
 use Rattle.driver_hosts.specs.declared.hosted.Hosted.{Hosted}
 use Rattle.driver_hosts.specs.Returning.{AreReturned}
-use Rattle.closed_ports.specs.Closed.{HaveComeBack}
+use Rattle.closed_lanes.specs.closed_ports.Closed.{HaveComeBack}
 
 module _ {D : Type 0} (kind : D → Kind) (stage : D → Life) (faults : D → ℕ) (own : D → Own) (program : D → Option ToldProgram) where
   -- ports that made no turn and ended have come back

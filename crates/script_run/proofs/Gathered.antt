@@ -7,7 +7,7 @@ use Rattle.port_model.specs.declared.mail.Mail.{Mail}
 use Rattle.port_body.specs.Body.{BodyName}
 use Rattle.port_words.specs.busy.Known.{PortKnown}
 use Rattle.process_receipts.specs.declared.receipt.Receipt.{Receipt}
-use Rattle.served_port.specs.View.{end_names}
+use Rattle.closed_mail.specs.served_port.View.{end_names}
 use Rattle.run_end.specs.Ran.{RanProcess}
 use Rattle.run_setting.specs.Setting.{Setting}
 use Rattle.closed_lanes.specs.declared.closing.ClosedPort.{ClosedPort}

@@ -4,3 +4,5 @@ mod Gathered
 mod Given
 mod Back
 mod Run
+mod Told
+mod Answered

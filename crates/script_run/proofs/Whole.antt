@@ -28,8 +28,8 @@ use Rattle.driver_hosts.specs.Hosts.{IsUnused, is_named}
 use Rattle.driver_hosts.specs.Laws.{KeepNames}
 use Rattle.driver_hosts.specs.Opening.{place_of}
 use Rattle.driver_hosts.proofs.ComingBack.{served-come-back}
-use Rattle.closed_ports.specs.Closed.{HaveComeBack}
-use Rattle.settled_ports.specs.Senders.{IsOfAnEnd}
+use Rattle.closed_lanes.specs.closed_ports.Closed.{HaveComeBack}
+use Rattle.closed_lanes.specs.settled_ports.Senders.{IsOfAnEnd}
 use Rattle.script_plan.specs.declared.decl.PortDecl.{PortDecl}
 use Rattle.run_end.specs.Ran.{RanProcess, calls_made}
 use Rattle.run_lanes.specs.declared.parts.PortLanes.{PortLanes}
@@ -44,7 +44,7 @@ use Rattle.run_end.specs.Shown.{Calls, HasCause, adds_of}
 use Rattle.port_words.specs.busy.Queue.{bytes_of, period_of}
 use Rattle.process_end.specs.Bounds.{queue_bound}
 use Rattle.run_seats.specs.declared.plans.Program.{Program}
-use Rattle.process_end.specs.Views.{ProcView}
+use Rattle.process_end.specs.Views.{LaneEnd, ProcView}
 use Rattle.process_job.specs.Asks.{made_asks}
 use Rattle.port_model.specs.declared.mail.Mail.{Mail}
 use Rattle.run_setting.specs.Setting.{IsSetting}
@@ -53,9 +53,10 @@ use Rattle.script_run.specs.declared.running.PortLeft.{PortLeft}
 use Rattle.script_run.specs.declared.running.ProcessLeft.{ProcessLeft}
 use Rattle.script_run.specs.declared.running.ScriptRan.{ScriptRan}
 use Rattle.script_run.specs.Ran.{HasRun, IsAmong, IsFrom, PairHolds, PortHolds, PortServed, PortWordsHold, ProcessHolds, all_calls, calls_of, opening_of}
+use Rattle.script_run.specs.Readiness.{ReadyRowsAreAnswered}
 use Rattle.script_run.specs.Left.{AreProcessesLeft, IsGathered, IsLeft}
 use Rattle.closed_mail.specs.Joined.{rows_of, PortWordsHold as WordsOfPort}
-use Rattle.recorded_port.specs.Asks.{resumed_words}
+use Rattle.port_body.specs.recorded_port.Asks.{resumed_words}
 use Rattle.port_mail.specs.Ends.{MailEnd}
 use Rattle.process_job.specs.Mails.{Came, own_mails, readable, AreReplied, HasReply}
 use Rattle.process_receipts.specs.Asks.{Asked}
@@ -67,7 +68,7 @@ use Rattle.run_end.specs.Tell.{AllCallsTell}
 use Rattle.run_opening.specs.Opened.{soft_at}
 use Rattle.run_lanes.specs.declared.size.LaneSize.{LaneSize}
 use Rattle.run_lanes.specs.Keyed.{key_of}
-use Rattle.recorded_port.specs.View.{stat_marks}
+use Rattle.port_body.specs.recorded_port.View.{stat_marks}
 use Rattle.port_history.specs.State.{state}
 use Rattle.port_words.specs.busy.Known.{PortKnown}
 use Rattle.port_body.specs.Ends.{IsLeftByCalls}
@@ -78,7 +79,7 @@ use Rattle.port_body.specs.LanePort.{rows_from}
 use Rattle.std.specs.Str.{bytes_eq}
 use Rattle.std.specs.Option.{option_map_or}
 use Rattle.run_opening.specs.Opened.{limits_of}
-use Rattle.served_port.specs.View.{end_name}
+use Rattle.closed_mail.specs.served_port.View.{end_name}
 use Rattle.script_run.specs.Parted.{port_left, ran_processes}
 use Rattle.script_run.proofs.Parts.{some}
 
@@ -375,10 +376,10 @@ module _ {D S : Type 0} {gh : Ghosts BodyView} (kind : D → Kind) (stage : D �
   -- the port of this number, by what its parts left
   port-served : RunLaws → (script : RunScript) (poll : S) (old mid new : List (Hosted D)) (seated : SeatedScript BodyView S gh) (ended : List BodyView) (ran : List RanProcess) (left : ScriptRan)
       → (is : IsSeatedScript kind faults script poll old mid seated) → map name_of ended ≡ map name_of is.bodies → HaveServed kind stage faults seated.places.items old new
-      → (whole : IsLeft kind own program is.setting ran (map name_of ended) seated.places.items new left) → (k : ℕ) (decl : PortDecl) (p : PortLeft) (h : Hosted D) → k < length script.ports.items
+      → (poller : List LaneEnd) (whole : IsLeft kind own program is.setting ran poller (map name_of ended) seated.places.items new left) → (k : ℕ) (decl : PortDecl) (p : PortLeft) (h : Hosted D) → k < length script.ports.items
       → PortServed kind own program script left (λ n. came-of is.setting ran whole.closed left whole.gathered n (cases_lt n (length ran))) k (get_or script.ports.items k decl) (get_or left.ports.items k p)
       (get_or new (slice_index seated.places.items k) h)
-  port-served laws script poll old mid new seated ended ran left is same served whole k decl p h below =
+  port-served laws script poll old mid new seated ended ran left is same served poller whole k decl p h below =
       let s = is.setting in
       let closed = whole.are_closed in
       let g = whole.gathered in
@@ -458,8 +459,9 @@ module _ {D S : Type 0} {gh : Ghosts BodyView} (kind : D → Kind) (stage : D �
 
   pub has-run : RunLaws → (script : RunScript) (poll : S) (old mid new : List (Hosted D)) (seated : SeatedScript BodyView S gh) (ended : List BodyView) (jobs : List EndedProcess) (left : ScriptRan) → All (IsUnused stage) old
       → (is : IsSeatedScript kind faults script poll old mid seated) → map name_of ended ≡ map name_of is.bodies → HaveComeBack kind stage faults own program ended seated.places.items mid new
-      → IsLeft kind own program is.setting (ran_processes is.plans jobs) (map name_of ended) seated.places.items new left → HasRun kind stage faults own program script old new left
-  has-run laws script poll old mid new seated ended jobs left unused is same back whole =
+      → (poller : List LaneEnd) → IsLeft kind own program is.setting (ran_processes is.plans jobs) poller (map name_of ended) seated.places.items new left
+      → (before : List ℕ) (after : Option (List ℕ)) → ReadyRowsAreAnswered before after left → HasRun kind stage faults own program script old new before after left
+  has-run laws script poll old mid new seated ended jobs left unused is same back poller whole before after ready =
       let s = is.setting in
       let ran = ran_processes is.plans jobs in
       let g = whole.gathered in
@@ -477,11 +479,12 @@ module _ {D S : Type 0} {gh : Ghosts BodyView} (kind : D → Kind) (stage : D �
         ports_many = omega (arith, left_many, closed_many, ports_many);
         processes_many = omega (arith, processes_many, ran_many, sized);
         came = λ n. came-of s ran whole.closed left g n (cases_lt n (length ran));
-        ports = port-served laws script poll old mid new seated ended ran left is same served whole;
+        ports = port-served laws script poll old mid new seated ended ran left is same served poller whole;
         processes = λ n p l below.
             let within : n < length ran = omega (arith, ran_many, sized, below) in
             came-holds s ran whole.closed left g
             (λ came. ProcessHolds (length script.ports.items) (soft_at kind old seated.places.items) (calls_of (length script.ports.items) (get_or script.programs.items n p) (get_or left.processes.items n l)) (get_or left.processes.items n l) came)
             n within
             (λ low. process-holds laws.tells script s ran whole.closed left g is.is.is whole.have_run closed_many is.is.ports_are is.is.programs_are (soft_at kind old seated.places.items) is.is.soft_are n p l low);
+        ready = ready;
       }

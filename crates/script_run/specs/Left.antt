@@ -82,10 +82,10 @@ pub record IsGathered (s : Setting) (ran : List RanProcess) (closed : List Close
   pub joined : AreJoined s ran parts.peers mails
   pub processes : AreProcessesLeft ran mails left
 
--- this is left of the ports and the processes of a run with this setting: its ports are closed, and its mail and words put together
-pub record IsLeft {D : Type 0} (kind : D → Kind) (own : D → Own) (program : D → Option ToldProgram) (s : Setting) (ran : List RanProcess) (names : List BodyName) (places : List ℕ) (hosts : List (Hosted D))
-    (left : ScriptRan) : Type 0 where
+-- this is left of the ports and the processes of a run with this setting, whose poller gave back these ends of the ports' lanes: its ports are closed, and its mail and words put together
+pub record IsLeft {D : Type 0} (kind : D → Kind) (own : D → Own) (program : D → Option ToldProgram) (s : Setting) (ran : List RanProcess) (poller : List LaneEnd) (names : List BodyName) (places : List ℕ)
+    (hosts : List (Hosted D)) (left : ScriptRan) : Type 0 where
   pub have_run : HaveRunIn s ran
   pub closed : List ClosedPort
-  pub are_closed : AreClosedIn kind own program s ran names places closed hosts
+  pub are_closed : AreClosedIn kind own program s ran poller names places closed hosts
   pub gathered : IsGathered s ran closed left

@@ -1,3 +1,6 @@
+-- What crates above name of the definitions below.
+pub use Rattle.run_opening.specs as run_opening
+pub mod Readiness
 pub mod Ran
 pub mod Ends
 pub mod Parted

@@ -15,8 +15,8 @@ use Rattle.port_model.specs.declared.signal.Sender.TheVariants.{Process, Poller,
 use Rattle.process_receipts.specs.Receipts.{accepted, AreReceipts}
 use Rattle.process_job.specs.Asks.{made_asks}
 use Rattle.process_job.specs.Mails.{Came, mail_from, own_mails, readable, AreReplied}
-use Rattle.recorded_port.specs.Asks.{resumed_words}
-use Rattle.recorded_port.specs.View.{stat_marks}
+use Rattle.port_body.specs.recorded_port.Asks.{resumed_words}
+use Rattle.port_body.specs.recorded_port.View.{stat_marks}
 use Rattle.port_body.specs.Ends.{IsLeftByCalls}
 use Rattle.port_body.specs.LanePort.{rows_from}
 use Rattle.driver_hosts.specs.declared.hosted.Hosted.{Hosted}
@@ -33,6 +33,7 @@ use Rattle.run_setting.specs.declared.RunScript.{RunScript}
 use Rattle.script_run.specs.declared.running.PortLeft.{PortLeft}
 use Rattle.script_run.specs.declared.running.ProcessLeft.{ProcessLeft}
 use Rattle.script_run.specs.declared.running.ScriptRan.{ScriptRan}
+use Rattle.script_run.specs.Readiness.{ReadyRowsAreAnswered}
 
 -- the rows of a port, newest first
 abbrev pub history_of : PortLeft → List Row
@@ -123,8 +124,10 @@ module _ {D : Type 0} where
         (calls_of (length script.ports.items) (slice_index_or script.programs.items s p) (slice_index_or ran.processes.items s l)) (came s)
     pub words : PortWordsHold number (length script.programs.items) (kind driver) decl port (all_calls (length script.ports.items) script.programs.items ran.processes.items)
 
-  -- The run of a script was made, with the drivers that the search finds for its ports. They are back, each with its port and stopped, and the others are as they were handed in
-  pub record HasRun (kind : D → Kind) (stage : D → Life) (faults : D → ℕ) (own : D → Own) (program : D → Option ToldProgram) (script : RunScript) (old new : List (Hosted D)) (ran : ScriptRan) : Type 0 where
+  -- The run of a script was made, with the drivers that the search finds for its ports. They are back, each with its port and stopped, and the others are as they were handed in. No port was told of an event
+  -- and a direction more often than the event was answered: `before` and `after` are all events that waits of the poll set had answered, as the call began and at its end
+  pub record HasRun (kind : D → Kind) (stage : D → Life) (faults : D → ℕ) (own : D → Own) (program : D → Option ToldProgram) (script : RunScript) (old new : List (Hosted D)) (before : List ℕ)
+      (after : Option (List ℕ)) (ran : ScriptRan) : Type 0 where
     pub places : List ℕ
     pub found : Found kind old script.ports.items places
     pub served : HaveServed kind stage faults places old new
@@ -136,3 +139,4 @@ module _ {D : Type 0} where
     pub processes : (s : ℕ) (p : Program) (l : ProcessLeft) → s < length script.programs.items
         → ProcessHolds (length script.ports.items) (soft_at kind old places) (calls_of (length script.ports.items) (slice_index_or script.programs.items s p) (slice_index_or ran.processes.items s l))
         (slice_index_or ran.processes.items s l) (came s)
+    pub ready : ReadyRowsAreAnswered before after ran

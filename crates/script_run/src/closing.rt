@@ -1,7 +1,7 @@
 //! The end of a run that nobody stopped: its lanes are closed, its mail is taken, and what it leaves is put together.
 ghost use Rattle.std.specs.Prelude.{◌≡◌, ◌≢◌, ◌<◌, List, length, map, All, AllPairs, Some, IfOk, IfErr};
 ghost use Rattle.closed_lanes.specs.Closed.{AreClosedIn};
-ghost use Rattle.closed_ports.specs.Closed.{HaveComeBack};
+ghost use Rattle.closed_lanes.specs.closed_ports.Closed.{HaveComeBack};
 ghost use Rattle.driver_model.specs.Calls.{Kind, Own};
 ghost use Rattle.port_body.specs.Body.{BodyName, name_of};
 ghost use Rattle.run_end.specs.Ran.{RanProcess};
@@ -72,7 +72,7 @@ fn close_parts<D: Driver, R: Wait>(
     requires ended { (s : Setting) × (ran : List RanProcess) × HaveJobParts s (map name_of bodies.items) ran parts.ends parts.receipts.items parts.peers }
     ensures returned { HaveComeBack D.kind D.stage D.faults D.own D.program bodies.items places.now hosts.old.items hosts.new.items }
     ensures left { (s : Setting) (ran : List RanProcess) → HaveJobParts s (map name_of bodies.items) ran parts.ends parts.receipts.items parts.peers
-        → IfOk result (IsLeft D.kind D.own D.program s ran (map name_of bodies.items) places.now hosts.new.items) }
+        → IfOk result (IsLeft D.kind D.own D.program s ran parts.ends.poller.items (map name_of bodies.items) places.now hosts.new.items) }
 {
     let JobParts {
         ends,
@@ -127,7 +127,7 @@ pub(crate) fn close_run<D: Driver, S: PollSet + Drop, R: Wait>(
     requires ended { (s : Setting) × (plans : List Plan) × (poll : S) × HasEndedIn S.faults S.answered s plans poll (map name_of bodies.items) jobs }
     ensures returned { HaveComeBack D.kind D.stage D.faults D.own D.program bodies.items places.now hosts.old.items hosts.new.items }
     ensures left { (s : Setting) (plans : List Plan) (poll : S) → HasEndedIn S.faults S.answered s plans poll (map name_of bodies.items) jobs
-        → IfOk result.0 (IsLeft D.kind D.own D.program s (ran_processes plans jobs.processes.items) (map name_of bodies.items) places.now hosts.new.items) }
+        → IfOk result.0 (IsLeft D.kind D.own D.program s (ran_processes plans jobs.processes.items) jobs.poller.lanes.items (map name_of bodies.items) places.now hosts.new.items) }
     ensures poll { result.1 ≡ jobs.poller.watch.poll }
 {
     let EndedJobs {

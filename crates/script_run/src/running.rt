@@ -1,4 +1,5 @@
 ghost use Rattle.std.specs.Prelude.{◌≡◌, All, Ok, IfOk, IfErr, MatchResult};
+ghost use Rattle.std.specs.Option.{option_map};
 ghost use Rattle.driver_hosts.specs.Back.{AllCameBack};
 ghost use Rattle.driver_hosts.specs.Hosts.{IsUnused};
 ghost use Rattle.run_setting.specs.Script.{IsRunnable};
@@ -115,7 +116,7 @@ pub fn run_script<
 ) -> RunEnd<S>
     requires runnable { IsRunnable script }
     requires unused { All (IsUnused D.stage) hosts.old.items }
-    ensures ran { IfOk result.ran (HasRun D.kind D.stage D.faults D.own D.program script hosts.old.items hosts.new.items) }
+    ensures ran { IfOk result.ran (HasRun D.kind D.stage D.faults D.own D.program script hosts.old.items hosts.new.items (S.answered poll) (option_map S.answered result.poll)) }
     ensures fault { IfErr result.ran (IsNotRun D.kind D.stage D.faults script.ports.items hosts.old.items hosts.new.items) }
     ensures back { AllCameBack D.kind D.stage D.faults hosts.old.items hosts.new.items }
     ensures poll { PollIsBack S.faults poll result.ran result.poll }

@@ -8,29 +8,29 @@ pub returns-in-Err-clause-run : goal.returns-in-Err-clause-run
 returns-in-Err-clause-run g c =
     rw c.without_report.ensures
     (ends_unread g.D.Driver.kind g.D.Driver.stage g.D.Driver.faults g.D.Driver.own g.D.Driver.program _ c.in-Err.cause (rw c.as_slice.ensures.value at c.in-Err.ensures.cause) c.prepare.ensures.files
-    refl refl c.requires)
+    c.prepare.ensures.load refl refl c.requires)
 
 pub returns-in-Err-ran-clause-run : goal.returns-in-Err-ran-clause-run
 returns-in-Err-ran-clause-run g c =
     let poll = rw c.in-Err-ran.is at c.run_script-ran.ensures.poll in
     rw c.without_report-in-Err-ran.ensures (rw c.run_cause.ensures
-    (ends_unmade g.D.Driver.kind g.D.Driver.stage g.D.Driver.faults g.D.Driver.own g.D.Driver.program _ c.in-Ok.ensures.input.0 c.in-Ok.input c.in-Err-ran.fault c.in-Ok.ensures.input.1
-    (rw c.in-Err-ran.is at c.run_script-ran.ensures.fault) (poll-rose g.P.PollSet.faults c.args.poll c.run_script-ran.result.poll c.in-Err-ran.fault poll) c.prepare.ensures.files refl
+    (ends_unmade g.D.Driver.kind g.D.Driver.stage g.D.Driver.faults g.D.Driver.own g.D.Driver.program _ c.in-Ok.ensures.input.0 c.in-Ok.prepared.input c.in-Err-ran.fault c.in-Ok.ensures.input.1
+    (rw c.in-Err-ran.is at c.run_script-ran.ensures.fault) (poll-rose g.P.PollSet.faults c.args.poll c.run_script-ran.result.poll c.in-Err-ran.fault poll) c.prepare.ensures.files c.prepare.ensures.load refl
     c.run_script-ran.ensures.back))
 
 pub write_left-cause-requires-clause-saves : goal.write_left-cause-requires-clause-saves
 write_left-cause-requires-clause-saves g c =
-    saves-within g.D.Driver.kind g.D.Driver.stage g.D.Driver.faults g.D.Driver.own g.D.Driver.program _ _ _ c.in-Ok.ensures.input.0 c.in-Ok.input _ _ c.in-Ok-ran.left c.in-Ok.ensures.input.1
+    saves-within g.D.Driver.kind g.D.Driver.stage g.D.Driver.faults g.D.Driver.own g.D.Driver.program _ _ _ c.in-Ok.ensures.input.0 c.in-Ok.prepared.input _ _ _ _ c.in-Ok-ran.left c.in-Ok.ensures.input.1
     (rw c.in-Ok-ran.is at c.run_script-ran.ensures.ran)
 
 pub write_left-cause-requires-clause-ended : goal.write_left-cause-requires-clause-ended
 write_left-cause-requires-clause-ended g c =
-    all-ended g.D.Driver.kind g.D.Driver.stage g.D.Driver.faults g.D.Driver.own g.D.Driver.program _ _ _ c.in-Ok.ensures.input.0 c.in-Ok.input _ _ c.in-Ok-ran.left c.in-Ok.ensures.input.1
+    all-ended g.D.Driver.kind g.D.Driver.stage g.D.Driver.faults g.D.Driver.own g.D.Driver.program _ _ _ c.in-Ok.ensures.input.0 c.in-Ok.prepared.input _ _ _ _ c.in-Ok-ran.left c.in-Ok.ensures.input.1
     (rw c.in-Ok-ran.is at c.run_script-ran.ensures.ran)
 
 pub returns-clause-run : goal.returns-clause-run
 returns-clause-run g c =
     let poll = rw c.in-Ok-ran.is at c.run_script-ran.ensures.poll in
-    ends_made g.D.Driver.kind g.D.Driver.stage g.D.Driver.faults g.D.Driver.own g.D.Driver.program _ c.in-Ok.ensures.input.0 c.in-Ok.input _ c.in-Ok-ran.left _ _ c.prepare.ensures.files
-    c.in-Ok.ensures.input.1 (rw c.in-Ok-ran.is at c.run_script-ran.ensures.ran) (poll-kept g.P.PollSet.faults c.args.poll c.run_script-ran.result.poll c.in-Ok-ran.left poll)
+    ends_made g.D.Driver.kind g.D.Driver.stage g.D.Driver.faults g.D.Driver.own g.D.Driver.program _ c.in-Ok.ensures.input.0 c.in-Ok.prepared.input _ _ c.in-Ok-ran.left _ _ c.prepare.ensures.files
+    c.in-Ok.ensures.input.1 c.in-Ok.ensures.source c.prepare.ensures.load (rw c.in-Ok-ran.is at c.run_script-ran.ensures.ran) (poll-kept g.P.PollSet.faults c.args.poll c.run_script-ran.result.poll c.in-Ok-ran.left poll)
     c.write_left-cause.ensures c.run_script-ran.ensures.back

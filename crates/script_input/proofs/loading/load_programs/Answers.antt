@@ -1,7 +1,7 @@
 use Rattle.std.proofs.Common.{List, length, refl, sym, ap, subst, ◌∙◌}
 use Rattle.script_plan.specs.Plan.{Plan}
 use Rattle.script_plan.specs.declared.step.Step.{Step}
-use Rattle.script_input.specs.declared.input.InputFault.TheVariants.{NoMemory}
+use Rattle.program_io.specs.declared.fault.InputFault.TheVariants.{NoMemory}
 use Rattle.script_input.specs.Contents.{file_names}
 use Rattle.script_input.proofs.Contents.{told-ends, none-done, all-done}
 use Rattle.script_input.specs.Programs.{AreProgramsOf}

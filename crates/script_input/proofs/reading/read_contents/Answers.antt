@@ -1,5 +1,5 @@
 use Rattle.std.proofs.Common.{◌+◌, [], ◌∷◌, ◌++◌, Some, sym, ap, ◌∙◌, arith}
-use Rattle.script_input.specs.declared.input.InputFault.TheVariants.{NoMemory}
+use Rattle.program_io.specs.declared.fault.InputFault.TheVariants.{NoMemory}
 use Rattle.script_input.proofs.Contents.{read-past, read-more, file-ends, some-read, told-ends, still-unwritten, take-one-more, total-more}
 use Rattle.script_input.proofs.reading.read_contents.Goals as goal
 

@@ -1,5 +1,5 @@
 use Rattle.std.proofs.Common.{◌≡◌, ◌+◌, take}
-use Rattle.script_input.specs.Files.{files_view, NothingWritten}
+use Rattle.program_io.specs.Files.{files_view, NothingWritten}
 use Rattle.script_input.specs.Contents.{total, HaveRead}
 use Rattle.script_input.proofs.reading.read_contents.Given as goal
 

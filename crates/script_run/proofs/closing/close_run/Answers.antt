@@ -1,6 +1,8 @@
-use Rattle.std.proofs.Common.{map}
+use Rattle.std.proofs.Common.{map, subst}
+use Rattle.std.specs.Prelude.{IfOk}
 use Rattle.port_body.specs.Body.{name_of}
 use Rattle.script_run.proofs.Back.{back-at-once}
+use Rattle.script_run.specs.Left.{IsLeft}
 use Rattle.script_run.specs.Parted.{ran_processes}
 use Rattle.script_run.proofs.Given.{job-parts}
 use Rattle.script_run.proofs.closing.close_run.Goals as goal
@@ -16,4 +18,7 @@ close_parts-ran-requires-clause-ended g c =
 
 pub returns-clause-left : goal.returns-clause-left
 returns-clause-left g c s plans poll has =
-    c.close_parts-ran.ensures.left s (ran_processes plans c.args.jobs.processes.items) (job-parts g.S.PollSet.faults g.S.PollSet.answered s plans poll (map name_of c.args.bodies.items) c.args.jobs has _ _ _ c.in-Ok.ensures)
+    let ran = ran_processes plans c.args.jobs.processes.items in
+    let names = map name_of c.args.bodies.items in
+    subst (λ ends. IfOk c.close_parts-ran.result (IsLeft g.D.Driver.kind g.D.Driver.own g.D.Driver.program s ran ends names c.args.places.now c.close_parts-ran.new.hosts.items)) c.in-Ok.ensures.poller_is
+    (c.close_parts-ran.ensures.left s ran (job-parts g.S.PollSet.faults g.S.PollSet.answered s plans poll names c.args.jobs has _ _ _ c.in-Ok.ensures))

@@ -1,11 +1,13 @@
-use Rattle.std.proofs.Common.{◌∙◌, length, map, ap, subst}
+use Rattle.std.proofs.Common.{◌∙◌, length, map, ap, subst, sym, Some}
 use Rattle.std.specs.Prelude.{IfOk, IfErr}
-use Rattle.closed_ports.specs.Closed.{HaveComeBack}
+use Rattle.closed_lanes.specs.closed_ports.Closed.{HaveComeBack}
 use Rattle.ended_jobs.specs.Ended.{HaveEndedFor, StopComes}
 use Rattle.port_body.specs.Body.{name_of}
 use Rattle.script_run.specs.Left.{IsLeft}
 use Rattle.script_run.specs.Parted.{ran_processes}
 use Rattle.script_run.specs.Ran.{HasRun}
+use Rattle.script_run.specs.Readiness.{ReadyRowsAreAnswered}
+use Rattle.script_run.proofs.Answered.{ready-rows}
 use Rattle.script_run.proofs.Back.{back-at-once}
 use Rattle.script_run.proofs.Run.{has-ended, places-many, poll-made, poll-stopped, told-made, weaker}
 use Rattle.script_run.proofs.Whole.{all-served, has-run}
@@ -68,10 +70,18 @@ returns-clause-ran g c =
     let back = subst (λ p. HaveComeBack g.D.Driver.kind g.D.Driver.stage g.D.Driver.faults g.D.Driver.own g.D.Driver.program c.run_ports-bodies.result.bodies.items p c.seat_script.new.hosts.items c.close_run-ran.new.hosts.items) places
     c.close_run-ran.ensures.returned in
     let left = c.close_run-ran.ensures.left is.setting is.plans c.args.poll has in
-    told-made (HasRun g.D.Driver.kind g.D.Driver.stage g.D.Driver.faults g.D.Driver.own g.D.Driver.program c.args.script c.args.hosts.now.items c.close_run-ran.new.hosts.items) c.close_run-ran.result.0 c.made.result c.made.ensures
+    let jobs = c.in-Ok-jobs.jobs in
+    let ended_names = map name_of c.run_ports-bodies.result.bodies.items in
+    let new = c.close_run-ran.new.hosts.items in
+    let before = g.S.PollSet.answered c.args.poll in
+    told-made (HasRun g.D.Driver.kind g.D.Driver.stage g.D.Driver.faults g.D.Driver.own g.D.Driver.program c.args.script c.args.hosts.now.items new before (Some (g.S.PollSet.answered c.close_run-ran.result.1)))
+    c.close_run-ran.result.0 c.made.result c.made.ensures
     (weaker _ _ c.close_run-ran.result.0 (λ ran whole. has-run g.D.Driver.kind g.D.Driver.stage g.D.Driver.faults g.D.Driver.own g.D.Driver.program (record { senders = c.each_sender_has_an_end.ensures.senders; tells = c.calls_tell.ensures; resumed = c.resumed_calls_are_listed.ensures; listed = c.listed_calls_are_suspended.ensures }) c.args.script c.args.poll
-    c.args.hosts.now.items c.seat_script.new.hosts.items c.close_run-ran.new.hosts.items c.in-Ok.seated c.run_ports-bodies.result.bodies.items c.in-Ok-jobs.jobs.processes.items ran c.requires.unused is same back
-    (subst (λ p. IsLeft g.D.Driver.kind g.D.Driver.own g.D.Driver.program is.setting (ran_processes is.plans c.in-Ok-jobs.jobs.processes.items) (map name_of c.run_ports-bodies.result.bodies.items) p c.close_run-ran.new.hosts.items ran) places whole)) left)
+    c.args.hosts.now.items c.seat_script.new.hosts.items new c.in-Ok.seated c.run_ports-bodies.result.bodies.items jobs.processes.items ran c.requires.unused is same back jobs.poller.lanes.items
+    (subst (λ p. IsLeft g.D.Driver.kind g.D.Driver.own g.D.Driver.program is.setting (ran_processes is.plans jobs.processes.items) jobs.poller.lanes.items ended_names p new ran) places whole)
+    before (Some (g.S.PollSet.answered c.close_run-ran.result.1))
+    (subst (λ poll. ReadyRowsAreAnswered before (Some (g.S.PollSet.answered poll)) ran) (sym c.close_run-ran.ensures.poll)
+    (ready-rows g.D.Driver.kind g.D.Driver.own g.D.Driver.program g.S.PollSet.faults g.S.PollSet.answered is.setting is.plans c.args.poll ended_names jobs (ran_processes is.plans jobs.processes.items) _ new ran has whole))) left)
 
 pub returns-clause-back : goal.returns-clause-back
 returns-clause-back g c =

@@ -4,9 +4,9 @@ use Rattle.script_plan.specs.Plan.{Plan}
 use Rattle.script_plan.specs.declared.fault.ScriptFault.{ScriptFault}
 use Rattle.script_plan.specs.declared.fault.ScriptFault.TheVariants.{NoMemory as NoMemoryForScript}
 use Rattle.gateway_script.specs.Script.{script}
-use Rattle.script_input.specs.declared.input.InputFault.{InputFault}
-use Rattle.script_input.specs.declared.input.InputFault.TheVariants.{Script, ReadFault, Limit, NoMemory}
-use Rattle.script_input.specs.Files.{FilesView, HasRead, NothingRead, ReadEnds}
+use Rattle.program_io.specs.declared.fault.InputFault.{InputFault}
+use Rattle.program_io.specs.declared.fault.InputFault.TheVariants.{Script, ReadFault, Limit, NoMemory}
+use Rattle.program_io.specs.Files.{FilesView, HasRead, NothingRead, ReadEnds}
 
 -- one read answered, of the file of this name, with at most 1,048,576 bytes, and they say this plan, or have this fault
 pub record ScriptRead (before after : FilesView) (name : List ℕ) (said : Result Plan ScriptFault) : Type 0 where

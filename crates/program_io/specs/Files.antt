@@ -2,8 +2,8 @@
 use Rattle.std.specs.Prelude.{◌≡◌, ℕ, ◌<◌, ◌≤◌, ◌⊎◌, List, length, Some, None, IfSome, IsSomeAnd}
 use Rattle.outside.specs.Causes.{Told, Rose}
 use Rattle.outside.specs.Log.{NamedBytes, noted}
-use Rattle.script_input.specs.declared.input.InputFault.{InputFault}
-use Rattle.script_input.specs.declared.input.InputFault.TheVariants.{Script, ReadFault, Limit, NoMemory}
+use Rattle.program_io.specs.declared.fault.InputFault.{InputFault}
+use Rattle.program_io.specs.declared.fault.InputFault.TheVariants.{Script, ReadFault, Limit, NoMemory}
 
 -- what files show: what they hold, where they tell it, the names and the bytes of the reads and of the writes that answered, and how many reads and how many writes failed
 pub record FilesView : Type 0 where

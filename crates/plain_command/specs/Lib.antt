@@ -1,0 +1,4 @@
+pub mod Words
+pub mod Command
+pub mod Ends
+pub mod Stages

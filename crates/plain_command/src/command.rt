@@ -1,0 +1,59 @@
+ghost use Rattle.std.specs.Prelude.{◌≡◌, map, string_bytes};
+ghost use Rattle.program_io.specs.Files.{files_view};
+ghost use Rattle.program_io.specs.Sink.{sink_view};
+ghost use Rattle.run_report.specs.Cause.{status_of};
+ghost use Rattle.plain_command.specs.Ends.{PlainEnds};
+ghost use Rattle.plain_command.specs.Words.{asked};
+
+use crate::checking::check_script;
+use crate::words::{PlainWords, plain_words};
+use outside::{Files, Sink};
+use run_report::Cause;
+use std::alloc::Global;
+
+/// How a command ended that runs nothing: the status with which the program ends, and its cause.
+#[derive(Clone, Copy, Debug, PartialEq, Eq)]
+pub struct Plain {
+    pub status: u8,
+    pub cause: Cause,
+}
+
+impl Plain {
+    fn of(cause: Cause) -> Plain
+        ensures { result ≡ record { status = status_of cause; cause = cause } }
+    {
+        Plain {
+            status: cause.status(),
+            cause,
+        }
+    }
+}
+
+/// Does what the words ask for: `check SCRIPT`. They exclude the program's own name.
+///
+/// SCRIPT isn't empty and doesn't begin with `-`. The script is read from `files` and has at most 1,048,576 bytes. What is put to `out` is one line, ended with byte 10:
+/// `ok processes=P ports=Q steps=S`. No file that the script names is read, and none is written.
+///
+/// `Usage` tells a word that is missing as the place behind the last. In `ReadFault` and `Limit` the line is 0. `NoDriver`, `StartRefused`, `PollFault`, `Illegal` and
+/// `JournalText` are no causes of a check.
+pub fn plain_command<F: Files, K: Sink>(
+    alloc: Global,
+    words: &[String],
+    files: &mut F,
+    out: &mut K,
+) -> Plain
+    ensures status { result.status ≡ status_of result.cause }
+    ensures ends { PlainEnds
+        (record {
+          words = asked (map (λ w. string_bytes w) words.now);
+          files = files_view F.told F.answered F.wrote F.reads F.writes files.old;
+          files_after = files_view F.told F.answered F.wrote F.reads F.writes files.new;
+          sink = sink_view K.written K.took K.faults out.old;
+          sink_after = sink_view K.written K.took K.faults out.new;
+        }) result.cause }
+{
+    match plain_words(words) {
+        Ok(PlainWords::Check { script }) => Plain::of(check_script(alloc, files, out, script)),
+        Err(at) => Plain::of(Cause::Usage { at }),
+    }
+}
