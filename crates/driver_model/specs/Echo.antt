@@ -1,6 +1,6 @@
 -- Echo sends the data of each command back, and answers control 1 and call 1 with their bytes.
 use Rattle.std.specs.Prelude.{◌==◌, List, [], ◌∷◌, if◌then◌else◌}
-use Rattle.io_vector.specs.declared.flag.Flag.TheVariants.{Plain}
+use Rattle.port_model.specs.io_vector.declared.flag.Flag.TheVariants.{Plain}
 use Rattle.port_model.specs.declared.effect.Effect.{Effect}
 use Rattle.port_model.specs.declared.effect.Effect.TheVariants.{Message, Reply, ReplyBadarg}
 use Rattle.driver_model.specs.Calls.{Callback, Outputv, Control, Call}

@@ -2,8 +2,8 @@
 use Rattle.std.specs.Prelude.{◌==◌, ◌&&◌, ℕ, List, [], ◌∷◌, Bool, true, false, not, nat_eq}
 use Rattle.std.specs.Cmp.Lexicographic.{pointwise}
 use Rattle.std.specs.Ordering.{int_eq}
-use Rattle.io_vector.specs.declared.flag.Flag.{Flag}
-use Rattle.io_vector.specs.declared.flag.Flag.TheVariants.{Plain, Eol, Noeol}
+use Rattle.port_model.specs.io_vector.declared.flag.Flag.{Flag}
+use Rattle.port_model.specs.io_vector.declared.flag.Flag.TheVariants.{Plain, Eol, Noeol}
 use Rattle.port_model.specs.declared.event.Dir.{Dir}
 use Rattle.port_model.specs.declared.event.Dir.TheVariants.{Read, Write}
 use Rattle.port_model.specs.declared.effect.Effect.{Effect}

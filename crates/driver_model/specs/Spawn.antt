@@ -1,15 +1,15 @@
 -- The driver of a program: it frames the data of commands and offers it to the program, and unframes what the program gives.
 use Rattle.std.specs.Prelude.{◌==◌, ◌&&◌, ◌||◌, not, ℕ, ◌+◌, ◌-◌, List, [], ◌∷◌, ◌++◌, length, take, drop, map, min, nat_le, nat_lt, Bool, true, false, if◌then◌else◌, codes}
-use Rattle.io_vector.specs.declared.flag.Flag.TheVariants.{Plain}
-use Rattle.packet_framing.specs.declared.mode.Mode.{Mode}
-use Rattle.packet_framing.specs.declared.mode.Mode.TheVariants.{Line, Stream}
-use Rattle.packet_framing.specs.declared.message.Message.{Message as Unframed}
-use Rattle.packet_framing.specs.Frames.{header_len, header_limit, frame_of}
-use Rattle.packet_framing.specs.Packets.{told_len}
-use Rattle.packet_framing.specs.Messages.{last_message, messages_of, rest_of}
+use Rattle.port_model.specs.io_vector.declared.flag.Flag.TheVariants.{Plain}
+use Rattle.port_config.specs.packet_framing.declared.mode.Mode.{Mode}
+use Rattle.port_config.specs.packet_framing.declared.mode.Mode.TheVariants.{Line, Stream}
+use Rattle.port_config.specs.packet_framing.declared.message.Message.{Message as Unframed}
+use Rattle.port_config.specs.packet_framing.Frames.{header_len, header_limit, frame_of}
+use Rattle.port_config.specs.packet_framing.Packets.{told_len}
+use Rattle.port_config.specs.packet_framing.Messages.{last_message, messages_of, rest_of}
 use Rattle.port_config.specs.declared.config.Config.{Config}
-use Rattle.port_signal.specs.declared.row.Outside.{Outside}
-use Rattle.port_signal.specs.declared.row.Outside.TheVariants.{Took, Got, Again, End, Failed, Status}
+use Rattle.port_model.specs.port_signal.declared.row.Outside.{Outside}
+use Rattle.port_model.specs.port_signal.declared.row.Outside.TheVariants.{Took, Got, Again, End, Failed, Status}
 use Rattle.port_model.specs.declared.event.Dir.TheVariants.{Read, Write}
 use Rattle.port_model.specs.declared.effect.Effect.{Effect}
 use Rattle.port_model.specs.declared.effect.Effect.TheVariants.{Message, Eof, Status as TellStatus, Busy, Select, ReplyBadarg, Fail}

@@ -2,7 +2,7 @@
 -- Numbers in data have the most significant byte first.
 use Rattle.std.specs.Prelude.{◌==◌, ◌&&◌, ◌-◌, ℕ, List, [], ◌∷◌, ◌++◌, length, take, drop, nat_le, Bool, if◌then◌else◌}
 use Rattle.std.specs.Int.{w32, w64, to_be_bytes, from_be_bytes}
-use Rattle.io_vector.specs.declared.flag.Flag.TheVariants.{Plain}
+use Rattle.port_model.specs.io_vector.declared.flag.Flag.TheVariants.{Plain}
 use Rattle.port_model.specs.declared.effect.Effect.{Effect}
 use Rattle.port_model.specs.declared.effect.Effect.TheVariants.{Message, Reply, ReplyBadarg}
 use Rattle.driver_model.specs.Calls.{Callback, Outputv, Control, Call, Flush, DriverCall}

@@ -2,7 +2,7 @@
 -- in a term; by control 2 it watches the caller, and when a process that it watches ends it sends that process's number in one byte.
 use Rattle.std.specs.Prelude.{◌==◌, ◌%◌, ℕ, List, [], ◌∷◌, ◌++◌, length, sum_by, if◌then◌else◌, codes, pos}
 use Rattle.std.specs.Int.{w64, to_be_bytes}
-use Rattle.io_vector.specs.declared.flag.Flag.TheVariants.{Plain}
+use Rattle.port_model.specs.io_vector.declared.flag.Flag.TheVariants.{Plain}
 use Rattle.port_model.specs.declared.effect.Effect.{Effect}
 use Rattle.port_model.specs.declared.effect.Effect.TheVariants.{Message, Watch, Reply, ReplyBadarg}
 use Rattle.port_terms.specs.Tree.{int, atom, tuple, none, more}

@@ -1,6 +1,6 @@
 -- A valve sends the data of each command back; control 1 sets its port busy, control 2 frees it.
 use Rattle.std.specs.Prelude.{◌==◌, List, [], ◌∷◌, true, false, if◌then◌else◌}
-use Rattle.io_vector.specs.declared.flag.Flag.TheVariants.{Plain}
+use Rattle.port_model.specs.io_vector.declared.flag.Flag.TheVariants.{Plain}
 use Rattle.port_model.specs.declared.effect.Effect.{Effect}
 use Rattle.port_model.specs.declared.effect.Effect.TheVariants.{Message, Busy, Reply, ReplyBadarg}
 use Rattle.driver_model.specs.Calls.{Callback, Outputv, Control, Call}

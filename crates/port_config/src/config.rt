@@ -1,9 +1,8 @@
 ghost use Rattle.std.specs.Prelude.{◌≡◌, IfOk};
 ghost use Rattle.port_config.specs.Config.{plain, is_config};
 
-use io_vector::Piece;
 use no_memory::NoMemory;
-use packet_framing::Mode;
+use packet_framing::{Mode, Piece};
 use std::alloc::Global;
 
 /// The low limit of a queue where nothing is said, in bytes.

@@ -1,8 +1,8 @@
 -- The ends of a port's lane: the processes by their numbers, then the poller, then the workers, and last the timer.
 use Rattle.std.specs.Prelude.{◌≡◌, ◌≤◌, ℕ, ◌+◌, ◌-◌, ◌==◌, Bool, true, nat_lt, if◌then◌else◌}
 use Rattle.atomic_table.specs.Seated.{TableId}
-use Rattle.port_model.specs.declared.signal.Sender.{Sender}
-use Rattle.port_model.specs.declared.signal.Sender.TheVariants.{Process, Poller, Worker, Timer}
+use Rattle.port_history.specs.port_model.declared.signal.Sender.{Sender}
+use Rattle.port_history.specs.port_model.declared.signal.Sender.TheVariants.{Process, Poller, Worker, Timer}
 
 -- how many processes and workers there are, and the table of the port's words
 pub record Key : Type 0 where

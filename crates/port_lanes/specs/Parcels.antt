@@ -1,10 +1,10 @@
 -- What lies in a port's lane, and which end may put it.
 use Rattle.std.specs.Prelude.{◌≡◌, ℕ, Bool, true, nat_lt, Option, IfSome, is_some}
 use Rattle.port_words.specs.busy.Known.{WeightKnown}
-use Rattle.port_model.specs.declared.signal.Signal.{Signal}
-use Rattle.port_model.specs.declared.signal.Signal.TheVariants.{Connect, OwnerConnect}
-use Rattle.port_model.specs.Signals.{data_size, is_command}
-use Rattle.port_model.specs.Tasks.{TaskView}
+use Rattle.port_history.specs.port_model.declared.signal.Signal.{Signal}
+use Rattle.port_history.specs.port_model.declared.signal.Signal.TheVariants.{Connect, OwnerConnect}
+use Rattle.port_history.specs.port_model.Signals.{data_size, is_command}
+use Rattle.port_history.specs.port_model.Tasks.{TaskView}
 use Rattle.port_history.specs.Laws.{may_send}
 use Rattle.port_lanes.specs.Keys.{Key, sender_at}
 

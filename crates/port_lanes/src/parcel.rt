@@ -1,5 +1,5 @@
 ghost use Rattle.std.specs.Prelude.{◌≡◌, true, false, None, Some};
-ghost use Rattle.port_model.specs.Signals.{data_size, is_command};
+ghost use Rattle.port_history.specs.port_model.Signals.{data_size, is_command};
 ghost use Rattle.port_lanes.specs.Parcels.{IsParcel};
 
 use crate::LaneKey;

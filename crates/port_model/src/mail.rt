@@ -1,6 +1,6 @@
 use crate::{Answer, Reason};
 use io_vector::{Flag, Piece};
-use task_queue::Fits;
+use port_signal::Fits;
 
 /// What a port sends to a process. Ports go by their place in the order of declaration, from 0.
 #[derive(Drop)]

@@ -1,17 +1,17 @@
 -- What the jobs of a run leave that nobody stopped, by what they were set up with.
 use Rattle.std.specs.Prelude.{◌≡◌, ◌<◌, ℕ, List, [], All, length, slice_index_or}
 use Rattle.async_jobs.specs.Pool.{PoolEnd}
-use Rattle.process_end.specs.Views.{LaneEnd, proc_view}
+use Rattle.run_end.specs.process_end.Views.{LaneEnd, proc_view}
 use Rattle.run_end.specs.Ran.{RanProcess, HasRunWhole}
-use Rattle.run_jobs.specs.declared.finish.FinishEnd.TheVariants.{Told}
-use Rattle.run_jobs.specs.declared.worker.WorkerEnd.TheVariants.{Finished}
-use Rattle.run_jobs.specs.Finishing.{TellsWorkers}
-use Rattle.run_jobs.specs.Telling.{PortTask, Sends}
-use Rattle.run_jobs.specs.Working.{WorksTo}
-use Rattle.run_lanes.specs.declared.parts.ProcessLanes.{ProcessLanes}
-use Rattle.run_lanes.specs.declared.parts.WorkerLanes.{WorkerLanes}
+use Rattle.run_seats.specs.run_jobs.declared.finish.FinishEnd.TheVariants.{Told}
+use Rattle.run_seats.specs.run_jobs.declared.worker.WorkerEnd.TheVariants.{Finished}
+use Rattle.run_seats.specs.run_jobs.Finishing.{TellsWorkers}
+use Rattle.run_seats.specs.run_jobs.Telling.{PortTask, Sends}
+use Rattle.run_seats.specs.run_jobs.Working.{WorksTo}
+use Rattle.run_end.specs.run_lanes.declared.parts.ProcessLanes.{ProcessLanes}
+use Rattle.run_end.specs.run_lanes.declared.parts.WorkerLanes.{WorkerLanes}
 use Rattle.run_seats.specs.declared.plans.Program.{Program}
-use Rattle.threaded_jobs.specs.declared.parting.WorkerLeft.{WorkerLeft}
+use Rattle.run_seats.specs.threaded_jobs.declared.parting.WorkerLeft.{WorkerLeft}
 use Rattle.run_setting.specs.Setting.{Setting}
 
 -- the process of this number had these lanes and this program to begin with, and had made no call

@@ -1,7 +1,7 @@
 -- What a run can be made of.
 use Rattle.std.specs.Prelude.{ℕ, ◌<◌, ◌≤◌, All, length}
-use Rattle.process_job.specs.Jobs.{AreWithin}
-use Rattle.run_lanes.specs.declared.size.LaneSize.{LaneSize}
+use Rattle.run_end.specs.process_job.Jobs.{AreWithin}
+use Rattle.run_end.specs.run_lanes.declared.size.LaneSize.{LaneSize}
 use Rattle.run_opening.specs.Opened.{AreDeclared}
 use Rattle.run_setting.specs.declared.RunScript.{RunScript}
 

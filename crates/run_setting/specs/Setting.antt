@@ -1,14 +1,14 @@
 -- What a run is set up with, and the names of its bodies.
 use Rattle.std.specs.Prelude.{◌≡◌, ◌<◌, ℕ, Bool, List, length, map, slice_index_or}
-use Rattle.driver_model.specs.Calls.{Kind}
-use Rattle.port_words.specs.declared.busy.view.QueueLimits.{QueueLimits}
+use Rattle.run_opening.specs.driver_model.Calls.{Kind}
+use Rattle.run_end.specs.port_words.declared.busy.view.QueueLimits.{QueueLimits}
 use Rattle.script_plan.specs.declared.decl.PortDecl.{PortDecl}
-use Rattle.port_body.specs.Body.{BodyName}
-use Rattle.port_body.specs.Openings.{IsNameOf}
-use Rattle.driver_hosts.specs.Opening.{place_of}
-use Rattle.run_lanes.specs.declared.size.LaneSize.{LaneSize}
-use Rattle.run_lanes.specs.declared.parts.PortLanes.{PortLanes}
-use Rattle.run_lanes.specs.declared.parts.RunLanes.{RunLanes}
+use Rattle.run_opening.specs.port_body.Body.{BodyName}
+use Rattle.run_opening.specs.port_body.Openings.{IsNameOf}
+use Rattle.run_opening.specs.driver_hosts.Opening.{place_of}
+use Rattle.run_end.specs.run_lanes.declared.size.LaneSize.{LaneSize}
+use Rattle.run_end.specs.run_lanes.declared.parts.PortLanes.{PortLanes}
+use Rattle.run_end.specs.run_lanes.declared.parts.RunLanes.{RunLanes}
 use Rattle.run_opening.specs.Opened.{AreDeclared, AreRunLanes, limits_of, room_of}
 use Rattle.run_seats.specs.declared.plans.Program.{Program}
 
