@@ -1,6 +1,6 @@
 #!/usr/bin/env bash
-# Runs the scripts of this folder, and compares what each prints with the report beside it: NAME.txt with NAME.out. No report depends on how many
-# schedulers and workers there are, so each script is run with several numbers of them.
+# Runs the scripts of this folder, and compares what each prints with the report beside it: NAME.txt with NAME.out. load_N.out is the summary of the load of N.
+# None of them depends on how many schedulers and workers there are, so each is run with several numbers of them. A script is checked too, without running it.
 #
 #     docs/gallery/check.sh [PROGRAM]
 #
@@ -12,11 +12,13 @@ cd "$top" || exit 1
 saved=crates/gateway_cli/out/gallery_license
 mkdir -p "$(dirname "$saved")"
 
-# Runs a script with these further words.
+# Runs the command of a name, its script or its load, with these further words.
 check() {
     local name=$1 printed status
+    local -a command=(run "docs/gallery/$1.txt")
+    [ -e "docs/gallery/$1.txt" ] || command=(load "${1#load_}")
     shift
-    printed=$(timeout 600 "$program" run "docs/gallery/$name.txt" "$@" && echo .)
+    printed=$(timeout 600 "$program" "${command[@]}" "$@" && echo .)
     status=$?
     if [ "$status" -ne 0 ]; then
         echo "$name $*: status $status"
@@ -29,11 +31,24 @@ check() {
     fi
 }
 
+# Has the counts of a script printed without running it, and compares them with those of its report.
+count() {
+    local name=$1 counts
+    counts=$(timeout 600 "$program" check "docs/gallery/$name.txt")
+    if [ "${counts% steps=*}" != "$(sed -n '1s/^report /ok /p' "docs/gallery/$name.out")" ]; then
+        echo "check $name: printed $counts"
+        return 1
+    fi
+}
+
 # The program is built first, if it must be.
 "$program" run docs/gallery/echo.txt > /dev/null || exit 1
 failed=0
-for script in docs/gallery/*.txt; do
-    name=$(basename "$script" .txt)
+for report in docs/gallery/*.out; do
+    name=$(basename "$report" .out)
+    if [ -e "docs/gallery/$name.txt" ]; then
+        count "$name" || failed=$((failed + 1))
+    fi
     for words in "" "1 1" "2 1" "4 2" "16 8"; do
         # shellcheck disable=SC2086
         check "$name" $words || failed=$((failed + 1))

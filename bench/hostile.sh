@@ -1,0 +1,743 @@
+#!/usr/bin/env bash
+# Hostile use of the program under the shell:
+#
+#     bench/hostile.sh PROGRAM [PART]..
+#
+# A gate leaves the program in crates/gateway_cli/out/gateway_cli. The parts are the functions that are named at the end; where none is named all are done.
+# docs/HOSTILE.md tells what is tried. Nothing is printed of a case that goes as it must; the last line tells how many there were. All files lie in a folder
+# that is removed at the end.
+set -u
+if [ $# -eq 0 ] || [ ! -x "$1" ]; then
+    echo 'bench/hostile.sh: name the program' >&2
+    exit 2
+fi
+here=$(cd "$(dirname "$0")" && pwd)
+# shellcheck source-path=SCRIPTDIR
+. "$here/hostile_table.sh"
+program=$(readlink -f "$1")
+shift
+room=$(mktemp -d)
+cases=0
+wrongs=0
+left_out=''
+seconds=30
+
+# Ends what is left of the programs that told their numbers.
+end_told() {
+    local number
+    [ -f "$room/pids" ] || return 0
+    while read -r number; do
+        kill -9 "$number" 2>/dev/null
+    done <"$room/pids"
+}
+
+clean() {
+    local job
+    for job in $(jobs -p); do
+        kill "$job" 2>/dev/null
+    done
+    end_told
+    chmod -R u+rwx "$room" 2>/dev/null
+    rm -rf "$room"
+}
+trap clean EXIT
+trap 'exit 1' INT TERM HUP
+cd "$room" || exit 1
+
+# ---- what is wanted of a run
+
+# A case is wrong, and this is what was seen.
+wrong() {
+    wrongs=$((wrongs + 1))
+    echo "wrong: $*"
+}
+
+# The standard output and the standard error of the last run, as one line for a person to read.
+seen() {
+    printf 'status %s, output %s, error %s' "$status" "$(head -c 300 out | tr '\n' '|')" "$(head -c 300 err | tr '\n' '|')"
+}
+
+# A case: the last run ended with this status and this text on standard error, and where one is named its output is that of a file.
+must_end() {
+    local name=$1 wanted=$2 text=$3
+    cases=$((cases + 1))
+    if [ "$status" -ne "$wanted" ] || [ "$(cat err)" != "$text" ]; then
+        wrong "$name: $(seen)"
+    elif [ $# -gt 3 ] && ! cmp -s out "$4"; then
+        wrong "$name: another output: $(seen)"
+    fi
+}
+
+# A case that is true or not.
+must() {
+    local name=$1
+    shift
+    cases=$((cases + 1))
+    "$@" || wrong "$name: $(seen)"
+}
+
+# Runs the program with these words.
+run() {
+    timeout -k 5 "$seconds" "$program" "$@" >out 2>err </dev/null
+    status=$?
+}
+
+# Waits until a command is true, ten seconds at most.
+wait_for() {
+    local turn
+    for ((turn = 0; turn < 200; turn++)); do
+        "$@" && return 0
+        sleep 0.05
+    done
+    return 1
+}
+
+# No process has this number, or one that has ended.
+is_gone() {
+    [ ! -d "/proc/$1" ] || grep -q '^State:[[:space:]]*Z' "/proc/$1/status" 2>/dev/null
+}
+
+# All programs that told their numbers have ended.
+all_gone() {
+    local number
+    while read -r number; do
+        is_gone "$number" || return 1
+    done <pids
+}
+
+# So many programs told their numbers.
+told() {
+    [ -f pids ] && [ "$(wc -l <pids)" -ge "$1" ]
+}
+
+# The scripts that more than one case uses, and what their runs report.
+write_scripts() {
+    local of_abc=ba7816bf8f01cfea414140de5dae2223b00361a396177a9cb410ff61f20015ad
+    printf 'process a\nport p a echo\na command p "abc"\na close p\n' >first
+    printf 'process a\nport p a spawn run "cat"\na command p "abc"\na bytes p 3\na close p\n' >filter
+    printf 'process a\nport p a spawn run "./told cat"\nport q a spawn run "./told cat"\na expect p 1\n' >waits
+    printf 'x\n' >bad
+    : >empty
+    : >nothing
+    printf 'report processes=0 ports=0\n' >empty.out
+    printf 'report processes=1 ports=1\nport p driver=%s commands=1 late=0 bytes=3 end=normal\n' echo >first.out
+    printf 'report processes=1 ports=1\nport p driver=%s commands=1 late=0 bytes=3 end=normal\n' spawn >filter.out
+    printf 'process a commands=1 dropped=0 suspended=0 data=1 sha256=%s\n' $of_abc | tee -a first.out >>filter.out
+    # A program that tells its number and becomes another one.
+    printf '#!/bin/sh\necho $$ >>pids\nexec "$@"\n' >told
+    chmod +x told
+}
+
+# ---- standard input, output and error
+
+# Runs a script with some of the three closed, as the second word says.
+run_closed() {
+    (
+        exec >out 2>err </dev/null
+        eval "exec $2"
+        exec timeout -k 5 "$seconds" "$program" run "$1"
+    )
+    status=$?
+}
+
+closed_streams() {
+    local script
+    for script in first filter; do
+        run_closed $script '<&-'
+        must_end "$script with a closed input" 0 '' $script.out
+        run_closed $script '>&-'
+        must_end "$script with a closed output" 4 'gateway: write fault' nothing
+        run_closed $script '2>&-'
+        must_end "$script with closed errors" 0 '' $script.out
+        run_closed $script '<&- >&-'
+        must_end "$script with a closed input and output" 4 'gateway: write fault' nothing
+        run_closed $script '<&- 2>&-'
+        must_end "$script with a closed input and closed errors" 0 '' $script.out
+        run_closed $script '>&- 2>&-'
+        must_end "$script with a closed output and closed errors" 4 '' nothing
+        run_closed $script '<&- >&- 2>&-'
+        must_end "$script with all closed" 4 '' nothing
+        run_closed $script '1<&0'
+        must_end "$script with an output that is open for reading alone" 4 'gateway: write fault' nothing
+    done
+    run_closed bad '2>&-'
+    must_end 'a faulty script with closed errors' 2 '' nothing
+    run_closed bad '<&- >&- 2>&-'
+    must_end 'a faulty script with all closed' 2 '' nothing
+}
+
+full_streams() {
+    local script
+    for script in first filter; do
+        timeout -k 5 "$seconds" "$program" run $script >/dev/full 2>err
+        status=$?
+        : >out
+        must_end "$script to a full device" 4 'gateway: write fault'
+        { sleep 0.2; timeout -k 5 "$seconds" "$program" run $script 2>err; echo $? >status; } | true
+        status=$(cat status)
+        must_end "$script to a reader that has gone" 4 'gateway: write fault'
+        { sleep 0.2; (trap '' PIPE; timeout -k 5 "$seconds" "$program" run $script 2>err); echo $? >status; } | true
+        status=$(cat status)
+        must_end "$script to a reader that has gone, with SIGPIPE ignored" 4 'gateway: write fault'
+    done
+    : >err
+    timeout -k 5 "$seconds" "$program" run bad >out 2>/dev/full
+    status=$?
+    must_end 'errors to a full device' 2 '' nothing
+    { sleep 0.2; timeout -k 5 "$seconds" "$program" run bad 2>&1 >out; echo $? >status; } | true
+    status=$(cat status)
+    must_end 'errors to a reader that has gone' 2 '' nothing
+}
+
+# A limit of the size of files: the kernel ends a program that writes past it by SIGXFSZ, unless that signal is ignored.
+small_files() {
+    printf 'process a\nport p a echo\na command p "abc"\nsave a p "saved"\na close p\n' >saves
+    { (ulimit -f 0; exec timeout -k 5 "$seconds" "$program" run saves); echo $? >status; } 2>err | cat >out
+    status=$(cat status)
+    : >err
+    is_ignored 25 || must_end 'a save past the limit of file sizes' 153 '' nothing
+    { (trap '' XFSZ; ulimit -f 0; exec timeout -k 5 "$seconds" "$program" run saves 2>&1); echo $? >status; } | cat >out
+    status=$(cat status)
+    must 'a save past the limit, with SIGXFSZ ignored' test "$status: $(cat out)" = '4: gateway: write fault'
+    { (ulimit -f 0; exec timeout -k 5 "$seconds" "$program" run first); echo $? >status; } 2>/dev/null | cat >out
+    status=$(cat status)
+    must_end 'a report to a pipe under the limit of file sizes' 0 '' first.out
+    rm -f saved
+}
+
+# A limit of open files.
+few_files() {
+    (ulimit -n 5; exec timeout -k 5 "$seconds" "$program" run filter) >out 2>err </dev/null
+    status=$?
+    must_end 'no pipes can be opened' 6 'gateway: start refused at line 2: fault' nothing
+    (ulimit -n 4; exec timeout -k 5 "$seconds" "$program" run first) >out 2>err </dev/null
+    status=$?
+    must_end 'one file can be opened' 0 '' first.out
+}
+
+# ---- the script
+
+strange_scripts() {
+    local unread='gateway: read fault at line 0' big='gateway: limit at line 0' name long longest
+    long=$(printf '%5000s' '' | tr ' ' x)
+    longest=$(printf '%131071s' '' | tr ' ' x)
+    ln -s nowhere dangling
+    ln -s loop loop
+    mkdir folder
+    for name in folder / . missing missing/x first/ first/x dangling loop /proc/self/mem "$long" "$longest"; do
+        run run "$name"
+        must_end "the script ${name:0:40}" 3 "$unread" nothing
+    done
+    for name in empty /dev/null; do
+        run run "$name"
+        must_end "the script $name" 0 '' empty.out
+    done
+    run run /dev/zero
+    must_end 'a script without an end' 10 "$big" nothing
+    head -c 1048576 /dev/zero | tr '\0' '#' >largest
+    run run largest
+    must_end 'a script of 1,048,576 bytes' 0 '' empty.out
+    printf '#' >>largest
+    run run largest
+    must_end 'a script of one byte more' 10 "$big" nothing
+    truncate -s 1000G largest
+    run run largest
+    must_end 'a script of 1,000 gigabytes' 10 "$big" nothing
+    rm -f largest
+    for name in $'new\nline' 'sp ace' $'\xc3\xbc' "quote'\"" '*' "\$HOME" 'first;x' '~'; do
+        cp first "./$name"
+        run run "$name"
+        must_end "a script named $name" 0 '' first.out
+        rm -f "./$name"
+    done
+}
+
+# ---- another user, and few threads
+
+# Runs the program as a user who isn't root and has no other process.
+run_as_user() {
+    setpriv --reuid=64123 --regid=64123 --clear-groups timeout -k 5 "$seconds" "$program" run "$@" >out 2>err </dev/null
+    status=$?
+}
+
+# What root may read and write, other users may not.
+other_user() {
+    chmod 755 .
+    if [ "$(id -u)" -ne 0 ] || ! setpriv --reuid=64123 --regid=64123 --clear-groups test -x "$program" 2>/dev/null; then
+        left_out="$left_out another user,"
+        return
+    fi
+    cp first unreadable
+    chmod 0 unreadable
+    run_as_user unreadable
+    must_end 'an unreadable script' 3 'gateway: read fault at line 0' nothing
+    mkdir locked
+    printf 'process a\nport p a echo\na command p "abc"\nsave a p "locked/saved"\na close p\n' >saves
+    chmod 555 locked
+    run_as_user saves
+    must_end 'a save to a folder that is read only' 4 'gateway: write fault' nothing
+    few_threads
+}
+
+# Runs a script under a limit in a folder of its own. The words tell the folder, the limit, as `ulimit` takes it, the user, where it isn't the caller, the
+# script, and how many seconds it has.
+run_limited() {
+    local folder=$1 limit=$2 user=() script=$4 most=$5
+    [ -z "$3" ] || user=(setpriv --reuid="$3" --regid="$3" --clear-groups)
+    mkdir "$folder"
+    (
+        # shellcheck disable=SC2086
+        ulimit $limit && exec "${user[@]}" timeout -k 1 "$most" "$program" run "$room/$script" 1 1
+    ) >"$folder/out" 2>"$folder/err" </dev/null
+    echo $? >"$folder/status"
+}
+
+# Takes the end of such a run for the last one.
+take_limited() {
+    cp "$1/out" "$1/err" .
+    status=$(cat "$1/status")
+    rm -rf "$1"
+}
+
+# Whether a run of a script under a limit ended as it may: with its report, or for want of memory; one of a program also with a start or a call of the program
+# that failed.
+ended_well() {
+    case $status in
+    0) [ ! -s err ] && { cmp -s out "$1.out" || { [ "$1" = filter ] && grep -q 'end=eio$' out; }; } ;;
+    8) [ ! -s out ] && [[ $(cat err) =~ ^(gateway: no memory)?$ ]] ;;
+    6) [ "$1" = filter ] && [ "$(cat err)" = 'gateway: start refused at line 2: fault' ] && [ ! -s out ] ;;
+    127) grep -q 'loading shared libraries' err ;;
+    *) false ;;
+    esac
+}
+
+# Limits of threads: what needs none ends as ever, and a run that gets too few may not end, which is counted. Each limit is that of a user of its own.
+few_threads() {
+    local threads script user most hung=0 whole=0
+    for threads in 2 3 10 40 64 66 67 68 69 70 71 72 80; do
+        for script in bad first filter; do
+            case $script in bad) user=64200 most=$seconds ;; first) user=64400 most=6 ;; *) user=64600 most=6 ;; esac
+            run_limited threads.$threads.$script "-u $threads" $((user + threads)) $script "$most" 2>/dev/null &
+        done
+    done
+    wait
+    for threads in 2 3 10 40 64 66 67 68 69 70 71 72 80; do
+        take_limited threads.$threads.bad
+        must_end "a faulty script with $threads threads" 2 'gateway: script line 1: bad line' nothing
+        for script in first filter; do
+            take_limited threads.$threads.$script
+            case $status in
+            124 | 137) hung=$((hung + 1)) ;;
+            *) must "$script with $threads threads" ended_well $script ;;
+            esac
+            [ "$status" -ne 0 ] || whole=$((whole + 1))
+        done
+    done
+    echo "hostile: under limits of threads $whole runs had their report, and $hung didn't end in six seconds"
+}
+
+# ---- scripts that move
+
+# Scripts that come through pipes, or change while they are read.
+moving_scripts() {
+    local turn writer
+    mkfifo pipe
+    cat first >pipe &
+    run run pipe
+    must_end 'a script in a pipe' 0 '' first.out
+    { printf 'process a\nport p a ec'; sleep 0.3; printf 'ho\na command p "abc"\na close p\n'; } >pipe &
+    run run pipe
+    must_end 'a script that comes in two parts' 0 '' first.out
+    { printf 'process a\nport p a ec'; } >pipe &
+    run run pipe
+    must_end 'a script whose writer goes away' 5 'gateway: no driver for line 2, handed 0' nothing
+    head -c 1048577 /dev/zero >pipe 2>/dev/null &
+    run run pipe
+    must_end 'a script in a pipe that is too large' 10 'gateway: limit at line 0' nothing
+    yes '#' >pipe 2>/dev/null &
+    run run pipe
+    must_end 'a script in a pipe without an end' 10 'gateway: limit at line 0' nothing
+    wait
+    timeout -k 5 "$seconds" "$program" run /dev/stdin <first >out 2>err
+    status=$?
+    must_end 'a script on the standard input' 0 '' first.out
+    # One comment at each moment, of some length.
+    head -c 1000000 /dev/zero | tr '\0' '#' >comment
+    cp comment changing
+    while :; do
+        cat comment >changing
+        head -c 70000 comment >changing
+    done &
+    writer=$!
+    for ((turn = 0; turn < 10; turn++)); do
+        run run changing
+        must_end 'a script that changes' 0 '' empty.out
+    done
+    { kill $writer && wait $writer; } 2>/dev/null
+}
+
+# ---- the words
+
+# The words behind the first one are wrong from word N, the first one, on.
+usage_at() {
+    local at=$1
+    shift
+    run "$@"
+    must_end "the words ${*:0:60}" 1 "gateway: usage at word $at" nothing
+}
+
+strange_words() {
+    local word many numbers
+    usage_at 1
+    for word in '' ' ' - -- -h --help help Run RUN run1 ' run' 'run ' $'run\n' $'\xff' "$(printf '%131071s' '')"; do
+        usage_at 1 "$word"
+        usage_at 1 "$word" first
+    done
+    usage_at 2 run
+    for word in '' - -- -x --version -first $'\xff' $'first\xff' $'\xc0\xaf' $'\xed\xa0\x80'; do
+        usage_at 2 run "$word"
+        usage_at 2 run "$word" 1 1
+    done
+    numbers=('' ' ' 0 00 17 99 -1 +1 1x x1 ' 1' '1 ' 0x1 1.0 1e0 one $'1\n' $'\xff' 4294967297 18446744073709551617 000000000000000000001
+        340282366920938463463374607431768211457 "$(printf '%131071s' '' | tr ' ' 0)")
+    for word in "${numbers[@]}"; do
+        usage_at 3 run first "$word"
+        usage_at 4 run first 1 "$word"
+    done
+    usage_at 4 run first 1 9
+    usage_at 3 run first 17 9 x
+    usage_at 5 run first 1 1 ''
+    usage_at 5 run first 1 1 1
+    usage_at 5 run first 1 1 $'\xff' x
+    mapfile -t many < <(seq 10000)
+    usage_at 5 run first 1 1 "${many[@]}"
+    usage_at 2 run '' "${many[@]}"
+    for word in 1 16 01 00000000000000000016; do
+        run run first $word
+        must_end "$word schedulers" 0 '' first.out
+    done
+    for word in 8 00000000000000000001; do
+        run run first 16 $word
+        must_end "16 schedulers and $word workers" 0 '' first.out
+    done
+}
+
+# ---- signals
+
+# A signal that this shell was started to ignore is ignored by the program too.
+is_ignored() {
+    local ignored
+    ignored=$(awk '/^SigIgn/ { print $2 }' /proc/self/status)
+    [ $(((0x$ignored >> ($1 - 1)) & 1)) -eq 1 ]
+}
+
+# Starts the program with a script and the signals as they are by default, and waits until its two programs have told their numbers.
+start_waiting() {
+    rm -f pids
+    set -m
+    "$program" run waits >out 2>err </dev/null &
+    pid=$!
+    set +m
+    wait_for told 2
+}
+
+# The status with which it ends; after ten seconds it is killed.
+end_of_waiting() {
+    {
+        wait_for is_gone "$pid" || kill -9 "$pid"
+        wait "$pid"
+    } 2>/dev/null
+    status=$?
+}
+
+signals() {
+    local signal
+    for signal in HUP:1 INT:2 KILL:9 TERM:15; do
+        is_ignored "${signal#*:}" && continue
+        must 'two programs start' start_waiting
+        kill -"${signal%:*}" "$pid"
+        end_of_waiting
+        : >err
+        must_end "SIG${signal%:*} while it waits" $((128 + ${signal#*:})) '' nothing
+        must "the programs end after SIG${signal%:*}" wait_for all_gone
+    done
+    must 'two programs start' start_waiting
+    kill -STOP "$pid"
+    sleep 0.2
+    kill -CONT "$pid"
+    # One of its programs is ended, and a wait for data of it ends.
+    kill -9 "$(head -n 1 pids)"
+    kill -9 "$(tail -n 1 pids)"
+    end_of_waiting
+    must_end 'its programs are ended by SIGKILL, after it was stopped and continued' 0 ''
+    must 'both ports have ended' test "$(grep -c 'driver=spawn commands=0 late=0 bytes=0 end=normal' out)" -eq 2
+    rm -f pids
+}
+
+# ---- programs of the machine
+
+# 32 programs, each at a port of its own, with one process or with 32; and then eight such runs side by side.
+many_programs() {
+    local each n data=''
+    for each in 1 32; do
+        {
+            for ((n = 1; n <= each; n++)); do echo "process p$n"; done
+            for ((n = 1; n <= 32; n++)); do echo "port q$n p$((n % each + 1)) spawn run \"cat\""; done
+            for ((n = 1; n <= 32; n++)); do printf 'p%s command q%s "port %02d"\n' $((n % each + 1)) $n $n; done
+            for ((n = 1; n <= 32; n++)); do printf 'p%s bytes q%s 7\n' $((n % each + 1)) $n; done
+            for ((n = 1; n <= 32; n++)); do printf 'p%s close q%s\n' $((n % each + 1)) $n; done
+        } >many
+        {
+            echo "report processes=$each ports=32"
+            for ((n = 1; n <= 32; n++)); do echo "port q$n driver=spawn commands=1 late=0 bytes=7 end=normal"; done
+            if [ $each -eq 1 ]; then
+                data=$(for ((n = 1; n <= 32; n++)); do printf 'port %02d' $n; done | sha256sum)
+                echo "process p1 commands=32 dropped=0 suspended=0 data=32 sha256=${data%% *}"
+            else
+                for ((n = 1; n <= 32; n++)); do
+                    data=$(printf 'port %02d' $(((n + 30) % 32 + 1)) | sha256sum)
+                    echo "process p$n commands=1 dropped=0 suspended=0 data=1 sha256=${data%% *}"
+                done
+            fi
+        } >many.out
+        run run many
+        must_end "32 programs and $each processes" 0 '' many.out
+    done
+    many_runs
+}
+
+many_runs() {
+    local n
+    for ((n = 1; n <= 8; n++)); do
+        timeout -k 5 "$seconds" "$program" run many >"side.$n" 2>"side.$n.err" </dev/null &
+    done
+    wait
+    for ((n = 1; n <= 8; n++)); do
+        must 'one of eight runs side by side' cmp -s "side.$n" many.out
+    done
+    rm -f side.*
+}
+
+# A run of these lines, with its programs gone behind it.
+run_lines() {
+    rm -f pids
+    printf '%s\n' "$@" >lines
+    run run lines
+}
+
+# A program that writes without an end.
+endless_programs() {
+    run_lines 'process a' 'port p a spawn run "./told yes"' 'a bytes p 100000' 'a exit p kill'
+    must_end 'yes, which is killed' 0 ''
+    must 'its port was killed' grep -q '^port p driver=spawn commands=0 late=0 bytes=0 end=killed$' out
+    must 'yes has ended' wait_for all_gone
+    run_lines 'process a' 'process b' 'port p a spawn run "./told yes"' 'b bytes p 1' 'a bytes p 5000000'
+    must_end 'yes, whose owner ends' 0 ''
+    must 'its port has ended' grep -q '^port p driver=spawn commands=0 late=0 bytes=0 end=normal$' out
+    must 'yes has ended' wait_for all_gone
+    run_lines 'process a' 'port p a spawn run "./told yes" packet 4' 'a expect p 1'
+    must_end 'yes, taken for packets' 0 ''
+    must 'its port has failed' grep -q 'end=emsgsize$' out
+    run_lines 'process a' 'port p a spawn run "cat /dev/zero" line 262143' 'a expect p 1000000'
+    must_end 'zeros without an end' 0 ''
+    must 'its port has failed for too many bytes' grep -q 'end=enospc$' out
+}
+
+# Programs that don't read, die, or close their pipes.
+bad_programs() {
+    head -c 400000 /dev/urandom >noise
+    run_lines 'process a' 'process b' 'port p a spawn run "./told sleep 1000"' 'a file p 100000 "noise"' 'a expect p 1' 'b exit p kill'
+    must_end 'a program that never reads, and is killed' 0 ''
+    must 'its port was killed' grep -q 'end=killed$' out
+    end_told
+    printf '#!/bin/sh\nexec <&-\necho $$ >>pids\nexec sleep 1\n' >deaf
+    printf '#!/bin/sh\ncat noise\nkill -9 $$\n' >dying
+    printf '#!/bin/sh\nexec >&-\ncat >heard\nexit 3\n' >mute
+    chmod +x deaf dying mute
+    run_lines 'process a' 'port p a spawn run "./deaf"' 'a file p 1000 "noise"' 'a expect p 1'
+    must_end 'a program with a closed input' 0 ''
+    must 'its port has failed or ended' grep -Eq 'end=(eio|normal)$' out
+    run_lines 'process a' 'port p a spawn run "./told sleep 1"' 'a file p 1000 "noise"' 'a expect p 1'
+    must_end 'a program that never reads, and ends' 0 ''
+    must 'its port has failed or ended' grep -Eq 'end=(eio|normal)$' out
+    run_lines 'process a' 'port p a spawn run "head -c 5"' 'a command p "0123456789"' 'a expect p 1' 'a command p "x"' 'a expect p 2'
+    must_end 'a program that reads five bytes' 0 ''
+    must 'its five bytes came' grep -q "data=1 sha256=$(printf 01234 | sha256sum | cut -d ' ' -f 1)\$" out
+    run_lines 'process a' 'port p a spawn run "./dying" exit_status' 'save a p "saved"' 'a bytes p 400001'
+    must_end 'a program that is killed behind its last byte' 0 ''
+    must 'no byte of it is lost' cmp -s noise saved
+    run_lines 'process a' 'port p a spawn run "./mute" eof exit_status' 'a command p "abc"' 'a close p'
+    must_end 'a program that closes its output at once' 0 ''
+    rm -f saved heard
+}
+
+# A program is looked for in the folders of PATH, and in /bin and /usr/bin where there is none.
+few_variables() {
+    timeout -k 5 "$seconds" env -i "$program" run filter >out 2>err </dev/null
+    status=$?
+    must_end 'no variables' 0 '' filter.out
+    timeout -k 5 "$seconds" env PATH=/no/such/folder "$program" run filter >out 2>err </dev/null
+    status=$?
+    must_end 'a PATH without the program' 6 'gateway: start refused at line 2: fault' nothing
+    timeout -k 5 "$seconds" env PATH= "$program" run filter >out 2>err </dev/null
+    status=$?
+    must_end 'an empty PATH' 6 'gateway: start refused at line 2: fault' nothing
+    # shellcheck disable=SC2016
+    timeout -k 5 "$seconds" bash -c 'exec -a "" "$0" run filter' "$program" >out 2>err </dev/null
+    status=$?
+    must_end 'an empty name of the program' 0 '' filter.out
+    mkdir gone
+    (
+        cd gone && rmdir ../gone
+        exec timeout -k 5 "$seconds" "$program" run "$room/filter"
+    ) >out 2>err </dev/null
+    status=$?
+    must_end 'a folder that is gone' 0 '' filter.out
+}
+
+# Bytes that go through a program come back, each once and in their order.
+kept_bytes() {
+    local size
+    head -c 2000000 /dev/urandom >noise
+    for size in 1000 65536 262143; do
+        run_lines 'process a' 'port p a spawn run "cat"' 'save a p "saved"' "a file p $size \"noise\"" 'a bytes p 2000000' 'a close p'
+        must_end "2,000,000 bytes through cat, $size at a time" 0 ''
+        must 'they are the same bytes' cmp -s noise saved
+    done
+    run_lines 'process a' 'port p a spawn run "cat" packet 4' 'save a p "saved"' 'a file p 65536 "noise"' 'a bytes p 2000000' 'a close p'
+    must_end '2,000,000 bytes through cat, in packets' 0 ''
+    must 'they are the same bytes' cmp -s noise saved
+    rm -f saved noise
+}
+
+# Files of steps up to their limit, and one of more commands than a process may send.
+large_files() {
+    local sent='commands=131072 dropped=0 suspended=0 data=0'
+    head -c 200000 /dev/zero >zeros
+    run_lines 'process a' 'port p a tally msgq off' 'a file p 1 "zeros"' 'a file p 1 "zeros"' 'a close p'
+    must_end 'more than 131,072 commands' 0 ''
+    must 'as many came to the port' grep -q '^port p driver=tally commands=131072 late=0 bytes=131072 end=normal$' out
+    must 'as many were sent' grep -q "^process a $sent " out
+    rm -f zeros
+    truncate -s 33554432 huge
+    printf x >one
+    run_lines 'process a' 'port p a tally msgq off' 'a file p 262143 "huge"' 'a close p'
+    must_end 'a file of 33,554,432 bytes' 0 ''
+    must 'all of it was sent' grep -q '^port p driver=tally commands=129 late=0 bytes=33554432 end=normal$' out
+    run_lines 'process a' 'port p a tally msgq off' 'a file p 262143 "huge"' '#' 'a file p 1 "one"' 'a close p'
+    must_end 'files of one byte more' 10 'gateway: limit at line 5' nothing
+    run_lines 'process a' 'port p a tally msgq off' 'a file p 1 "one"' 'a file p 262143 "huge"'
+    must_end 'files of one byte more' 10 'gateway: limit at line 4' nothing
+    truncate -s 1000G huge
+    run_lines 'process a' 'port p a tally' 'a file p 1 "huge"'
+    must_end 'a file of 1,000 gigabytes' 10 'gateway: limit at line 3' nothing
+    rm -f huge one
+}
+
+# ---- waiting
+
+# How many thousandths of a second of processor time the command takes that is given.
+thousandths() {
+    local TIMEFORMAT='%U %S'
+    { time "$@" >out 2>err; } 2>&1 | awk '{ printf "%d\n", ($1 + $2) * 1000 }'
+}
+
+# A wait of five seconds takes less than half a second of processor time, and its start as much again.
+idle_waits() {
+    local words used
+    printf 'process a\nport p a spawn run "sleep 5"\na expect p 1\n' >sleeps
+    for words in '' '1 1'; do
+        # shellcheck disable=SC2086
+        used=$(thousandths timeout -k 5 "$seconds" "$program" run sleeps $words)
+        status=$used
+        must "a wait of five seconds takes less than 500 thousandths of processor time ($words), and took $used" test "$used" -lt 500
+    done
+}
+
+# ---- want of memory
+
+# Whether a script runs under a limit of so many kilobytes of address space.
+runs_within() {
+    (ulimit -v "$1" && exec timeout -k 1 2 "$program" run first 1 1) >out 2>err </dev/null
+    status=$?
+    [ "$status" -eq 0 ]
+}
+
+# The least limit of address space under which a script runs, to 8 megabytes. None is found for a program that wants very much from the start.
+least_limit() {
+    local low=0 high=65536 middle
+    until runs_within $high; do
+        low=$high
+        high=$((high * 2))
+        [ $high -le 16777216 ] || return 1
+    done
+    while [ $((high - low)) -gt 8192 ]; do
+        middle=$(((low + high) / 2))
+        if runs_within $middle; then high=$middle; else low=$middle; fi
+    done
+    least=$high
+}
+
+# Headers that tell up to four gigabytes, 64 megabytes above the need of the start.
+large_headers() {
+    local header
+    for header in '000\\\\004\\\\000\\\\000' '177\\\\377\\\\377\\\\377' '200\\\\000\\\\000\\\\000' '377\\\\377\\\\377\\\\377'; do
+        printf '%s\n' 'process a' "port p a spawn run \"printf \\\\$header\" packet 4" 'a expect p 1' >lines
+        (ulimit -v $((least + 65536)) && exec timeout -k 5 "$seconds" "$program" run lines 1 1) >out 2>err </dev/null
+        status=$?
+        must_end "the header $header" 0 ''
+        must 'its port has failed for its length' grep -q '^port p driver=spawn commands=0 late=0 bytes=0 end=emsgsize$' out
+    done
+}
+
+# Whether the program is loaded under a limit of so many kilobytes.
+loads_within() {
+    (ulimit -v "$1" && exec env LD_TRACE_LOADED_OBJECTS=1 "$program") >/dev/null 2>&1 && (ulimit -v "$1" && exec timeout 5 true) 2>/dev/null
+}
+
+# Runs under limits of address space in steps, up to what a run needs and some more. A run that gets no thread may not end, which is counted.
+refused_memory() {
+    local script step batch hung=0 whole=0
+    for script in first filter; do
+        for batch in 0 15; do
+            for ((step = batch + 1; step <= batch + 15; step++)); do
+                run_limited memory.$step "-v $((least * step / 27))" '' $script 3 2>/dev/null &
+            done
+            wait
+            for ((step = batch + 1; step <= batch + 15; step++)); do
+                take_limited memory.$step
+                loads_within $((least * step / 27)) 2>/dev/null || continue
+                case $status in
+                124 | 137) hung=$((hung + 1)) ;;
+                *) must "$script within $((least * step / 27)) kilobytes" ended_well $script ;;
+                esac
+                [ "$status" -ne 0 ] || whole=$((whole + 1))
+            done
+        done
+    done
+    echo "hostile: under limits of memory $whole runs had their report, and $hung didn't end in three seconds"
+}
+
+little_memory() {
+    if least_limit; then
+        large_headers
+        refused_memory
+    else
+        left_out="$left_out limits of memory,"
+    fi
+}
+
+# ---- all of it
+
+parts=(closed_streams full_streams small_files few_files strange_scripts other_user moving_scripts strange_words signals many_programs endless_programs
+    bad_programs few_variables kept_bytes large_files idle_waits little_memory check_table)
+[ $# -eq 0 ] || parts=("$@")
+write_scripts
+run run first
+must_end 'a script' 0 '' first.out
+for part in "${parts[@]}"; do
+    $part
+done
+[ -z "$left_out" ] || echo "hostile: left out:${left_out%,}"
+echo "hostile: $cases cases, $wrongs wrong"
+[ "$wrongs" -eq 0 ]
