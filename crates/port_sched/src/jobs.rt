@@ -3,6 +3,7 @@ ghost use Rattle.std.specs.Prelude.{All};
 ghost use denote.Param.Send.{IsSync, IsSend};
 ghost use Rattle.port_sched.specs.Jobs.{WentEach};
 
+use crate::meeting::Meeting;
 use std::sync::Wait;
 use std::thread;
 use std::thread::Threads;
@@ -20,8 +21,12 @@ pub trait Job {
         ensures { went self.old self.new };
 }
 
-/// Runs all jobs at the same time, and returns once all have ended.
-pub fn run_jobs<K: Job + Send, R: Threads + Wait + Sync>(rt: &R, jobs: &mut [K])
+// Runs all jobs at the same time once they have met, and returns once all have ended.
+pub(crate) fn run_jobs<K: Job + Send, R: Threads + Wait + Sync>(
+    rt: &R,
+    meeting: &Meeting,
+    jobs: &mut [K],
+)
     requires { All K.can_run jobs.old }
     ensures { WentEach K.went jobs.old jobs.new }
 {
@@ -32,6 +37,9 @@ pub fn run_jobs<K: Job + Send, R: Threads + Wait + Sync>(rt: &R, jobs: &mut [K])
     let run_one = move |_: usize, job: &mut K|
         requires { K.can_run job.now }
         ensures { K.went job.entry.now job.exit.now }
-    { job.run(rt) };
+    {
+        meeting.have_all_come(rt);
+        job.run(rt)
+    };
     thread::for_each_mut(rt, jobs, threads, &run_one);
 }

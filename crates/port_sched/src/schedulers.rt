@@ -7,6 +7,7 @@ ghost use Rattle.port_sched.specs.Schedulers.{CanSchedule, Scheduled, CanBegin, 
 use crate::body::PortBody;
 use crate::counts::TurnCounts;
 use crate::jobs::{Job, run_jobs};
+use crate::meeting::Meeting;
 use crate::scheduling::{SchedEnd, SchedSeats, counted_scheduler};
 use outside::Gate;
 use std::sync::Wait;
@@ -34,11 +35,25 @@ impl<B: PortBody> Scheduler<B> {
         }
     }
 
-    // Runs it to its end.
-    fn run<G: Gate, R: Wait>(&mut self, rt: &R, gate: &G)
+    // Stops the run without a turn, as where memory is wanting.
+    fn give_up(&mut self)
         requires { CanSchedule self.old.seats }
         ensures { Scheduled self.old.seats self.new.seats self.new.end self.new.counts }
     {
+        self.seats.over.stop();
+        self.end = Some(SchedEnd::NoMemory);
+        self.counts = TurnCounts { queued: 0, idle: 0 };
+    }
+
+    // Runs it to its end once all jobs of the run have met, and gives up where they don't.
+    fn run<G: Gate, R: Wait>(&mut self, rt: &R, gate: &G, meeting: &Meeting)
+        requires { CanSchedule self.old.seats }
+        ensures { Scheduled self.old.seats self.new.seats self.new.end self.new.counts }
+    {
+        if !meeting.have_all_come(rt) {
+            self.give_up();
+            return;
+        }
         let (end, counts) = counted_scheduler(rt, &mut self.seats, gate);
         self.end = Some(end);
         self.counts = counts;
@@ -49,6 +64,7 @@ impl<B: PortBody> Scheduler<B> {
 fn run_schedulers<B: PortBody + Send, G: Gate + Sync, R: Threads + Wait + Sync>(
     rt: &R,
     gate: &G,
+    meeting: &Meeting,
     schedulers: &mut [Scheduler<B>],
 )
     requires { All CanBegin schedulers.old }
@@ -61,12 +77,15 @@ fn run_schedulers<B: PortBody + Send, G: Gate + Sync, R: Threads + Wait + Sync>(
     let run_one = move |_: usize, scheduler: &mut Scheduler<B>|
         requires { CanBegin scheduler.now }
         ensures { Ended scheduler.entry.now scheduler.exit.now }
-    { scheduler.run(rt, gate) };
+    { scheduler.run(rt, gate, meeting) };
     thread::for_each_mut(rt, schedulers, threads, &run_one);
 }
 
 /// Runs the schedulers beside the other jobs, and returns once all have ended. It returns only if OVER tells the end of the run: so the other jobs have to finish
 /// their seats of OVER, or to stop the run.
+///
+/// All begin once each has a thread of its own. Where they don't within ten seconds, since a thread can't be made, the schedulers stop the run without a turn, and each
+/// other job is run all the same: it finds the run stopped.
 pub fn run<B: PortBody + Send, G: Gate + Sync, K: Job + Send, R: Threads + Wait + Sync>(
     rt: &R,
     gate: &G,
@@ -78,13 +97,15 @@ pub fn run<B: PortBody + Send, G: Gate + Sync, K: Job + Send, R: Threads + Wait 
     ensures schedulers { WentEach Ended schedulers.old schedulers.new }
     ensures others { WentEach K.went others.old others.new }
 {
+    let meeting = Meeting::new(schedulers.len().saturating_add(others.len()));
     let mut turns = ||
         requires { IsSync R.row × IsSync G.row × IsSend B.row × All CanBegin schedulers.now }
         ensures { WentEach Ended schedulers.entry.now schedulers.exit.now }
-    { run_schedulers(rt, gate, schedulers) };
+    { run_schedulers(rt, gate, &meeting, schedulers) };
     let mut jobs = ||
         requires { IsSync R.row × IsSend K.row × All K.can_run others.now }
         ensures { WentEach K.went others.entry.now others.exit.now }
-    { run_jobs(rt, others) };
-    join_mut(rt, &mut turns, &mut jobs);
+    { run_jobs(rt, &meeting, others) };
+    // where no thread can be made for the jobs, the schedulers are run before them, and stop the run
+    join_mut(rt, &mut jobs, &mut turns);
 }

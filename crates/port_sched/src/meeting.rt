@@ -1,0 +1,44 @@
+// The start of jobs that wait for each other.
+use crate::idle::Idle;
+use crossbeam_utils::atomic::AtomicCell;
+use std::sync::Wait;
+
+// How often a job looks for the others, with a pause of at most a millisecond behind each look: for ten seconds or a little more.
+const LOOKS: u32 = 10_000;
+
+// Where jobs wait for each other before they begin. Each of them runs beside the others only in a thread of its own: where one can't be made, a job is run behind another,
+// and jobs that wait for each other would never end so.
+#[derive(Drop)]
+pub(crate) struct Meeting {
+    wanted: usize,
+    came: AtomicCell<usize>,
+    was_left: AtomicCell<bool>,
+}
+
+impl Meeting {
+    // A meeting of so many jobs.
+    pub(crate) fn new(wanted: usize) -> Meeting {
+        Meeting {
+            wanted,
+            came: AtomicCell::new(0),
+            was_left: AtomicCell::new(false),
+        }
+    }
+
+    // Waits until all jobs have come. Answers whether they have: not where one of them left, as each does that has waited for ten seconds in vain.
+    pub(crate) fn have_all_come<R: Wait>(&self, rt: &R) -> bool {
+        self.came.fetch_add(1);
+        let idle = Idle::new();
+        for _ in 0..LOOKS {
+            if self.was_left.load() {
+                return false;
+            }
+            if self.came.load() >= self.wanted {
+                return true;
+            }
+            idle.wait(rt);
+        }
+        self.was_left.store(true);
+        false
+    }
+}
