@@ -1,6 +1,7 @@
 #!/usr/bin/env bash
 # Runs the scripts of this folder, and compares what each prints with the report beside it: NAME.txt with NAME.out. load_N.out is the summary of the load of N.
-# None of them depends on how many schedulers and workers there are, so each is run with several numbers of them. A script is checked too, without running it.
+# None of them depends on how many schedulers and workers there are, so each is run with several numbers of them. A script is checked too, without running it, and the journal of one is
+# judged, as it is and changed.
 #
 #     docs/gallery/check.sh [PROGRAM]
 #
@@ -57,5 +58,21 @@ done
 if ! cmp LICENSE "$saved"; then
     failed=$((failed + 1))
 fi
+
+# The journal of a run is legal, and one with another byte of data isn't.
+journal=crates/gateway_cli/out/gallery_journal
+judge() {
+    local told
+    told=$("$program" replay "$1" 2>&1)
+    if [ "$?: $told" != "$2" ]; then
+        echo "replay $1: $told"
+        return 1
+    fi
+}
+judge "$journal" '0: legal ports=1 rows=3' || failed=$((failed + 1))
+sed 's/plain 616263$/plain 616264/' "$journal" > "$journal.changed"
+judge "$journal.changed" '9: gateway: port 0 row 0 breaks law 4' || failed=$((failed + 1))
+sed '$d' "$journal" > "$journal.cut"
+judge "$journal.cut" "11: gateway: journal text at byte $(stat -c %s "$journal.cut")" || failed=$((failed + 1))
 echo "gallery: $failed failed"
 [ "$failed" -eq 0 ]

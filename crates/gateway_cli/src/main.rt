@@ -1,4 +1,4 @@
-//! The program `gateway`: it runs a script of processes and ports on threads and prints the report, or checks a script and prints how much it has.
+//! The program `gateway`: it runs a script of processes and ports on threads and prints the report, checks a script and prints how much it has, or reads a journal and tells whether its histories are legal.
 #![tactic(auto)]
 
 use either_driver::EitherDriver;

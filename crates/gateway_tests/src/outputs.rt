@@ -23,7 +23,7 @@ fn a_driver_comes_back_stopped_in_its_place(rt: HostRuntime) -> Result<(), Fail>
 }
 
 /// A script that saves the data of each of its two programs.
-const SAVES: &str =
+pub const SAVES: &str =
     "process a\nport c a spawn run \"first\"\nport d a spawn run \"second\" line 80 eof\n\
     save a d \"lines\"\nsave a c \"bytes\"\na command c \"abc\"\na expect c 1\na expect d 1\n";
 

@@ -8,7 +8,7 @@ use std::test::Fail;
 use std::thread::Threads;
 
 /// Scripts, and what each may report: a single text but where it isn't said which of two processes is first.
-const RUNS: [(&str, &[&str]); 23] = [
+pub const RUNS: [(&str, &[&str]); 23] = [
     // Nothing is declared.
     ("", &["report processes=0 ports=0\n"]),
     // A process with no step.

@@ -1,4 +1,5 @@
 pub mod Words
+pub mod Journals
 pub mod Command
 pub mod Ends
 pub mod Stages

@@ -1,5 +1,7 @@
--- How the stages of a check end: the script is read, and its line is put out.
-use Rattle.std.specs.Prelude.{◌≡◌, ℕ, ◌⊎◌, List, Ok}
+-- How the stages of a command end: a script or a journal is read, and its line is put out.
+use Rattle.std.specs.Prelude.{◌≡◌, ℕ, ◌⊎◌, List, Ok, true}
+use Rattle.history_replay.specs.declared.replaying.Verdict.TheVariants as verdict
+use Rattle.journal_text.specs.Books.{BookView, is_book}
 use Rattle.program_io.specs.declared.fault.InputFault.{InputFault}
 use Rattle.program_io.specs.declared.fault.InputFault.TheVariants as input
 use Rattle.program_io.specs.script_plan.Plan.{Plan}
@@ -7,28 +9,29 @@ use Rattle.program_io.specs.Files.{FilesView}
 use Rattle.program_io.specs.Script.{ScriptEnds, ScriptRead}
 use Rattle.program_io.specs.Sink.{SinkView, PutFailed, TookText}
 use Rattle.run_report.specs.declared.cause.Cause.{Cause}
-use Rattle.run_report.specs.declared.cause.Cause.TheVariants.{Done, Script, ReadFault, WriteFault, NoMemory, Limit}
-use Rattle.run_report.specs.Lines.{check_text_of}
+use Rattle.run_report.specs.declared.cause.Cause.TheVariants.{Done, Script, ReadFault, WriteFault, NoMemory, Illegal, Limit}
+use Rattle.run_report.specs.Lines.{check_text_of, replay_text_of}
+use Rattle.plain_command.specs.Journals.{HasVerdict, JournalRead, JournalEnds}
 
--- the cause of a command whose script wasn't read
+-- the cause of a command whose script or journal wasn't read
 abbrev pub input_cause : InputFault → Cause
 input_cause (input.Script fault) = Script fault
 input_cause (input.ReadFault line) = ReadFault line
 input_cause (input.Limit line) = Limit line
 input_cause input.NoMemory = NoMemory
 
--- how the line of a script is put out: the sink took it, failed, or memory was wanting before
-abbrev pub PrintEnds : Plan → SinkView → SinkView → Cause → Type 0
-PrintEnds plan old new Done = TookText old new (check_text_of plan)
-PrintEnds plan old new WriteFault = PutFailed old new (check_text_of plan)
-PrintEnds plan old new NoMemory = new ≡ old
-PrintEnds plan old new cause = ⊥
+-- how a line is put out: the sink took it, failed, or memory was wanting before
+abbrev pub PrintEnds : List ℕ → SinkView → SinkView → Cause → Type 0
+PrintEnds line old new Done = TookText old new line
+PrintEnds line old new WriteFault = PutFailed old new line
+PrintEnds line old new NoMemory = new ≡ old
+PrintEnds line old new cause = ⊥
 
 -- the script of this name was read, and its line was put out so
 pub record Printed (name : List ℕ) (before after : FilesView) (old new : SinkView) (cause : Cause) : Type 0 where
   pub plan : Plan
   pub read : ScriptRead before after name (Ok plan)
-  pub print : PrintEnds plan old new cause
+  pub print : PrintEnds (check_text_of plan) old new cause
 
 -- the script of this name wasn't read, by this fault, and nothing was put out
 pub record Unprinted (name : List ℕ) (before after : FilesView) (old new : SinkView) (cause : Cause) : Type 0 where
@@ -40,3 +43,27 @@ pub record Unprinted (name : List ℕ) (before after : FilesView) (old new : Sin
 -- how the check of the script of this name ends
 abbrev pub CheckEnds : List ℕ → FilesView → FilesView → SinkView → SinkView → Cause → Type 0
 CheckEnds name before after old new cause = Printed name before after old new cause ⊎ Unprinted name before after old new cause
+
+-- how a book is judged: it is legal, and its line was put out or the sink failed; it is illegal; or memory was wanting
+abbrev pub JudgeEnds : BookView → SinkView → SinkView → Cause → Type 0
+JudgeEnds book old new Done = HasVerdict book verdict.Legal × TookText old new (replay_text_of book.ports)
+JudgeEnds book old new WriteFault = HasVerdict book verdict.Legal × PutFailed old new (replay_text_of book.ports)
+JudgeEnds book old new NoMemory = new ≡ old
+JudgeEnds book old new (Illegal port row law) = HasVerdict book (verdict.Illegal port row law) × (new ≡ old)
+JudgeEnds book old new cause = ⊥
+
+-- the journal of this name was read, and its book was judged so
+pub record Judged (name : List ℕ) (before after : FilesView) (old new : SinkView) (cause : Cause) : Type 0 where
+  pub book : BookView
+  pub in_range : is_book book ≡ true
+  pub read : JournalRead before after name book
+  pub ends : JudgeEnds book old new cause
+
+-- the journal of this name wasn't read, and nothing was put out
+pub record Unjudged (name : List ℕ) (before after : FilesView) (old new : SinkView) (cause : Cause) : Type 0 where
+  pub ends : JournalEnds before after name cause
+  pub nothing : new ≡ old
+
+-- how the replay of the journal of this name ends
+abbrev pub ReplayEnds : List ℕ → FilesView → FilesView → SinkView → SinkView → Cause → Type 0
+ReplayEnds name before after old new cause = Judged name before after old new cause ⊎ Unjudged name before after old new cause

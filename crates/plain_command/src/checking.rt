@@ -1,35 +1,23 @@
+//! The check of a script.
 ghost use Rattle.std.specs.Prelude.{◌≡◌};
 ghost use Rattle.program_io.specs.Files.{files_view, NothingWritten};
 ghost use Rattle.program_io.specs.Sink.{sink_view};
-ghost use Rattle.plain_command.specs.Stages.{CheckEnds, PrintEnds, input_cause};
+ghost use Rattle.run_report.specs.Lines.{check_text_of};
+ghost use Rattle.plain_command.specs.Stages.{CheckEnds, PrintEnds};
 
+use crate::causes::{input_cause, put_line};
 use outside::{Files, Sink};
-use program_io::{InputFault, Script, read_run_script};
+use program_io::{Script, read_run_script};
 use run_report::{Cause, check_text};
 use std::alloc::Global;
 
-/// The cause of a command whose script wasn't read.
-fn input_cause(fault: InputFault) -> Cause
-    ensures { result ≡ input_cause fault }
-{
-    match fault {
-        InputFault::Script { fault } => Cause::Script { fault },
-        InputFault::ReadFault { line } => Cause::ReadFault { line },
-        InputFault::Limit { line } => Cause::Limit { line },
-        InputFault::NoMemory => Cause::NoMemory,
-    }
-}
-
 /// Puts out how many processes, ports and steps a script has.
 fn print_counts<K: Sink>(alloc: Global, out: &mut K, script: &Script) -> Cause
-    ensures { PrintEnds script.now (sink_view K.written K.took K.faults out.old) (sink_view K.written K.took K.faults out.new) result }
+    ensures { PrintEnds (check_text_of script.now) (sink_view K.written K.took K.faults out.old) (sink_view K.written K.took K.faults out.new) result }
 {
-    let Ok(text) = check_text(alloc, script) else {
-        return Cause::NoMemory;
-    };
-    match out.put(text.as_slice()) {
-        Ok(()) => Cause::Done,
-        Err(_) => Cause::WriteFault,
+    match check_text(alloc, script) {
+        Ok(line) => put_line(out, line.as_slice()),
+        Err(_) => Cause::NoMemory,
     }
 }
 

@@ -6,6 +6,7 @@ ghost use Rattle.plain_command.specs.Ends.{PlainEnds};
 ghost use Rattle.plain_command.specs.Words.{asked};
 
 use crate::checking::check_script;
+use crate::replaying::replay_journal;
 use crate::words::{PlainWords, plain_words};
 use outside::{Files, Sink};
 use run_report::Cause;
@@ -29,13 +30,14 @@ impl Plain {
     }
 }
 
-/// Does what the words ask for: `check SCRIPT`. They exclude the program's own name.
+/// Does what the words ask for: `check SCRIPT` or `replay JOURNAL`. They exclude the program's own name.
 ///
-/// SCRIPT isn't empty and doesn't begin with `-`. The script is read from `files` and has at most 1,048,576 bytes. What is put to `out` is one line, ended with byte 10:
-/// `ok processes=P ports=Q steps=S`. No file that the script names is read, and none is written.
+/// SCRIPT and JOURNAL aren't empty and don't begin with `-`. They are read from `files`; a script has at most 1,048,576 bytes, and a journal at most 268,435,456. What is
+/// put to `out` is one line, ended with byte 10: `ok processes=P ports=Q steps=S` of a script, and `legal ports=Q rows=R` of a journal, if its histories are legal. No file
+/// that the script names is read, and none is written.
 ///
-/// `Usage` tells a word that is missing as the place behind the last. In `ReadFault` and `Limit` the line is 0. `NoDriver`, `StartRefused`, `PollFault`, `Illegal` and
-/// `JournalText` are no causes of a check.
+/// `Usage` tells a word that is missing as the place behind the last. In `ReadFault` and `Limit` the line is 0. `NoDriver`, `StartRefused` and `PollFault` are no causes of
+/// these commands; `Illegal` and `JournalText` are causes of a replay alone, and `Script` of a check.
 pub fn plain_command<F: Files, K: Sink>(
     alloc: Global,
     words: &[String],
@@ -54,6 +56,9 @@ pub fn plain_command<F: Files, K: Sink>(
 {
     match plain_words(words) {
         Ok(PlainWords::Check { script }) => Plain::of(check_script(alloc, files, out, script)),
+        Ok(PlainWords::Replay { journal }) => {
+            Plain::of(replay_journal(alloc, files, out, journal))
+        }
         Err(at) => Plain::of(Cause::Usage { at }),
     }
 }

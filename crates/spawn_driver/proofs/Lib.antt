@@ -12,3 +12,5 @@ pub mod Fetches
 pub mod Endings
 pub mod Starts
 pub mod Callbacks
+pub mod Silent
+pub mod Cuts

@@ -10,7 +10,7 @@ use Rattle.port_model.specs.declared.effect.Effect.{Effect}
 use Rattle.port_model.specs.declared.effect.Effect.TheVariants.{Message, Eof, Status, Busy, Select, Unuse, Async, Watch, Reply, ReplyBadarg, Fail}
 use Rattle.driver_model.specs.Drivers.{held_by, with_event, without_event}
 use Rattle.port_driver.specs.Context.{Context}
-use Rattle.spawn_driver.specs.Recorded.{with_effects}
+use Rattle.spawn_driver.specs.Recorded.{with_effects, with_answers}
 use Rattle.spawn_driver.specs.Steps.{queue_kept}
 
 pub held_by-append : (xs ys : List Effect) (held : List ℕ) → held_by (xs ++ ys) held ≡ held_by ys (held_by xs held)
@@ -33,23 +33,20 @@ with_effects-append c xs ys =
     ∙ ap (λ (h : List ℕ). record c { effects = c.effects ++ (xs ++ ys); held = h }) (sym (held_by-append xs ys c.held))
 
 -- the parts of the end of the output, one after another
-pub ended-context : (c0 c1 c2 c3 c4 c5 c6 : Context) (last eof status select fail : List Effect) (answers : List Outside) → c1 ≡ with_effects c0 last
-    → c2 ≡ record c1 { outside = c1.outside ++ End ∷ [] } → c3 ≡ with_effects c2 eof
-    → c4 ≡ record (with_effects c3 status) { queue = queue_kept answers c3.queue; outside = c3.outside ++ answers } → c5 ≡ with_effects c4 select → c6 ≡ with_effects c5 fail
-    → c6 ≡ record (with_effects c0 (last ++ (eof ++ (status ++ (select ++ fail))))) { queue = queue_kept answers c0.queue; outside = c0.outside ++ End ∷ answers }
-ended-context c0 c1 c2 c3 c4 c5 c6 last eof status select fail answers e1 e2 e3 e4 e5 e6 =
-    let two : c2 ≡ record (with_effects c0 last) { outside = c0.outside ++ End ∷ [] } = rw e1 at e2 in
-    let three : c3 ≡ record (with_effects c0 (last ++ eof)) { outside = c0.outside ++ End ∷ [] } =
-    rw two at e3 ∙ ap (λ (c : Context). record c { outside = c0.outside ++ End ∷ [] }) (with_effects-append c0 last eof) in
-    let four : c4 ≡ record (with_effects c0 ((last ++ eof) ++ status)) { queue = queue_kept answers c0.queue; outside = (c0.outside ++ End ∷ []) ++ answers } =
-    rw three at e4 ∙ ap (λ (c : Context). record c { queue = queue_kept answers c0.queue; outside = (c0.outside ++ End ∷ []) ++ answers }) (with_effects-append c0 (last ++ eof) status) in
-    let five : c5 ≡ record (with_effects c0 (((last ++ eof) ++ status) ++ select)) { queue = queue_kept answers c0.queue; outside = (c0.outside ++ End ∷ []) ++ answers } =
-    rw four at e5 ∙ ap (λ (c : Context). record c { queue = queue_kept answers c0.queue; outside = (c0.outside ++ End ∷ []) ++ answers }) (with_effects-append c0 ((last ++ eof) ++ status) select) in
-    let six : c6 ≡ record (with_effects c0 ((((last ++ eof) ++ status) ++ select) ++ fail)) { queue = queue_kept answers c0.queue; outside = (c0.outside ++ End ∷ []) ++ answers } =
-    rw five at e6 ∙ ap (λ (c : Context). record c { queue = queue_kept answers c0.queue; outside = (c0.outside ++ End ∷ []) ++ answers }) (with_effects-append c0 (((last ++ eof) ++ status) ++ select) fail) in
-    six ∙ (ap (λ (es : List Effect). record (with_effects c0 es) { queue = queue_kept answers c0.queue; outside = (c0.outside ++ End ∷ []) ++ answers })
+pub ended-context : (c0 c1 c2 c3 c4 c5 : Context) (last eof status select fail : List Effect) (answers : List Outside) → c1 ≡ with_effects c0 last
+    → c2 ≡ with_effects c1 eof → c3 ≡ record (with_effects c2 status) { queue = queue_kept answers c2.queue }
+    → c4 ≡ with_effects c3 select → c5 ≡ with_effects c4 fail
+    → with_answers c5 (End ∷ answers) ≡ record (with_effects c0 (last ++ (eof ++ (status ++ (select ++ fail))))) { queue = queue_kept answers c0.queue; outside = c0.outside ++ End ∷ answers }
+ended-context c0 c1 c2 c3 c4 c5 last eof status select fail answers e1 e2 e3 e4 e5 =
+    let two : c2 ≡ with_effects c0 (last ++ eof) = rw e1 at e2 ∙ with_effects-append c0 last eof in
+    let three : c3 ≡ record (with_effects c0 ((last ++ eof) ++ status)) { queue = queue_kept answers c0.queue } =
+    rw two at e3 ∙ ap (λ (c : Context). record c { queue = queue_kept answers c0.queue }) (with_effects-append c0 (last ++ eof) status) in
+    let four : c4 ≡ record (with_effects c0 (((last ++ eof) ++ status) ++ select)) { queue = queue_kept answers c0.queue } =
+    rw three at e4 ∙ ap (λ (c : Context). record c { queue = queue_kept answers c0.queue }) (with_effects-append c0 ((last ++ eof) ++ status) select) in
+    let five : c5 ≡ record (with_effects c0 ((((last ++ eof) ++ status) ++ select) ++ fail)) { queue = queue_kept answers c0.queue } =
+    rw four at e5 ∙ ap (λ (c : Context). record c { queue = queue_kept answers c0.queue }) (with_effects-append c0 (((last ++ eof) ++ status) ++ select) fail) in
+    ap (λ (c : Context). with_answers c (End ∷ answers)) five ∙ ap (λ (es : List Effect). record (with_effects c0 es) { queue = queue_kept answers c0.queue; outside = c0.outside ++ End ∷ answers })
     (append_assoc ((last ++ eof) ++ status) select fail ∙ (append_assoc (last ++ eof) status (select ++ fail) ∙ append_assoc last eof (status ++ (select ++ fail))))
-    ∙ ap (λ (os : List Outside). record (with_effects c0 (last ++ (eof ++ (status ++ (select ++ fail))))) { queue = queue_kept answers c0.queue; outside = os }) (append_assoc c0.outside (End ∷ []) answers))
 
 -- one message more was sent
 pub sent-more : (c0 c1 c2 : Context) (ms : List Unframed) (i : ℕ) (m : Unframed) → i < length ms → m ≡ get_or ms i m → c1 ≡ with_effects c0 (map sent (take i ms))

@@ -1,5 +1,6 @@
 -- What a part of a callback records in its context.
 use Rattle.std.specs.Prelude.{◌≡◌, ◌≤◌, ◌+◌, ℕ, List, [], ◌∷◌, ◌++◌, length, Bool, true, false, ◌&&◌, not, nat_le, nat_lt, if◌then◌else◌}
+use Rattle.port_signal.specs.declared.row.Outside.{Outside}
 use Rattle.port_model.specs.declared.event.Dir.TheVariants.{Write}
 use Rattle.port_model.specs.declared.effect.Effect.{Effect}
 use Rattle.port_model.specs.declared.effect.Effect.TheVariants.{Busy, Select}
@@ -10,6 +11,10 @@ use Rattle.port_driver.specs.Context.{Context}
 -- the context with these effects more, which submit no job
 abbrev pub with_effects : Context → List Effect → Context
 with_effects context added = record context { effects = context.effects ++ added; held = held_by added context.held }
+
+-- the context with these answers more
+abbrev pub with_answers : Context → List Outside → Context
+with_answers context answers = record context { outside = context.outside ++ answers }
 
 -- the caller stays, and each list got at most so many entries
 pub record Adds (most : ℕ) (old new : Context) : Type 0 where

@@ -1,6 +1,8 @@
 -- The program of a port, with what its driver keeps beside the queue.
 use Rattle.std.specs.Prelude.{◌≡◌, ◌+◌, ◌-◌, ◌^◌, ℕ, ℤ, List, [], Option, None, Some, IsSome, min, if◌then◌else◌}
 use Rattle.std.specs.Option.{option_map}
+use Rattle.packet_framing.specs.declared.mode.Mode.{Mode}
+use Rattle.packet_framing.specs.declared.mode.Mode.TheVariants.{Stream}
 use Rattle.packet_framing.specs.Unframed.{Unframed}
 use Rattle.outside.specs.Children.{ChildView, Stand}
 use Rattle.driver_model.specs.Calls.{Own, Nothing, Running, Program, is_empty}
@@ -12,6 +14,11 @@ use Rattle.port_driver.specs.declared.life.Life.TheVariants.{Fresh, Started, Sto
 abbrev pub rest_in : Option Unframed → List ℕ
 rest_in None = []
 rest_in (Some unframer) = unframer.held
+
+-- an unframer of a stream holds no bytes back
+abbrev pub HoldsBack : Mode → List ℕ → Type 0
+HoldsBack Stream held = held ≡ []
+HoldsBack mode held = Unit {0}
 
 -- a program, with the count of its faults and what its driver keeps
 pub record Serving : Type 0 where

@@ -77,7 +77,7 @@ queue_kept answers queue = if has_failed answers then [] else queue
 -- the status was sent, or the call for it failed
 pub record TellsStatus (answers : List Outside) (old new : Program) (before after : Context) : Type 0 where
   pub program : new ≡ record old { failed = has_failed answers || old.failed }
-  pub context : after ≡ record (with_effects before (status_effects answers)) { queue = queue_kept answers before.queue; outside = before.outside ++ answers }
+  pub context : after ≡ record (with_effects before (status_effects answers)) { queue = queue_kept answers before.queue }
 
 -- the effects of the end of the output behind the last message
 abbrev pub closing_effects : Program → List Outside → List Effect

@@ -7,14 +7,12 @@ ghost use Rattle.spawn_driver.specs.Serving.{all_faults, own_of, program_of};
 use crate::kept::Kept;
 use crate::output::{front, select};
 use crate::starting::{begin, is_blank};
+use crate::told::MOST_FETCHED;
 use outside::{Child, Fetched, Offered, SpawnFault, Spawner};
 use port_driver::{Config, Driver, DriverCtx, Life, ReplyTo, StartRefusal};
 use port_model::{Dir, IoVec, NoMemory, Outside, Piece, Reason};
 use std::alloc::Global;
 use std::marker::Model;
-
-/// The most bytes of one fetch.
-const MOST_FETCHED: usize = 65_536;
 
 /// A program that was started, with what its driver keeps.
 #[derive(Drop)]

@@ -23,17 +23,27 @@ pub(crate) fn fail(ctx: &mut DriverCtx, reason: &[u8]) -> Result<(), NoMemory>
 }
 
 impl Kept {
-    /// Records that a call of the program failed. Nothing is queued any more, and the port fails `eio`.
+    /// Records that a call of the program failed, and gives up.
     pub(crate) fn note_failure(&mut self, ctx: &mut DriverCtx) -> Result<(), NoMemory>
-        requires outside { length ctx.old.outside < 1048576 }
+        requires outside { length ctx.old.outside < 1048575 }
         requires effects { length ctx.old.effects < 1048576 }
         ensures program { self.new ≡ record self.old { failed = true } }
         ensures ok { OnOk result (ctx.new ≡ record (with_effects ctx.old (Fail (codes "eio") ∷ [])) { queue = []; outside = ctx.old.outside ++ Failed ∷ [] }) }
         ensures adds { Adds 2 ctx.old ctx.new }
     {
+        self.give_up(ctx)?;
+        ctx.answered(Outside::Failed)
+    }
+
+    /// Queues nothing any more, once a call of the program has failed: the port fails `eio`.
+    pub(crate) fn give_up(&mut self, ctx: &mut DriverCtx) -> Result<(), NoMemory>
+        requires { length ctx.old.effects < 1048576 }
+        ensures program { self.new ≡ record self.old { failed = true } }
+        ensures ok { OnOk result (ctx.new ≡ record (with_effects ctx.old (Fail (codes "eio") ∷ [])) { queue = [] }) }
+        ensures adds { Adds 1 ctx.old ctx.new }
+    {
         self.failed = true;
         ctx.clear_queue();
-        ctx.answered(Outside::Failed)?;
         fail(ctx, b"eio")
     }
 }

@@ -29,7 +29,7 @@ impl Model for Kept {
     ghost use Rattle.packet_framing.specs.Messages.{IsServed};
     ghost use Rattle.packet_framing.specs.Unframed.{Unframed};
     ghost use Rattle.driver_model.specs.Calls.{Program};
-    ghost use Rattle.spawn_driver.specs.Serving.{rest_in};
+    ghost use Rattle.spawn_driver.specs.Serving.{rest_in, HoldsBack};
 
     ghost Value = { Program };
 
@@ -44,5 +44,5 @@ impl Model for Kept {
       failed = p.failed;
     } };
 
-    ghost invariant = { λ p. IsServed p.config.mode × IfSome p.unframer (λ (u : Unframed). (u.mode ≡ p.config.mode) × (u.oversize ≡ None)) };
+    ghost invariant = { λ p. IsServed p.config.mode × IfSome p.unframer (λ (u : Unframed). (u.mode ≡ p.config.mode) × (u.oversize ≡ None) × HoldsBack u.mode u.held) };
 }

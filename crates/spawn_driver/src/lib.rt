@@ -5,13 +5,17 @@
 //! It starts no program itself: it is handed what starts one, of memory or of the machine.
 #![tactic(auto)]
 
+mod cutting;
 mod driver;
 mod ending;
 mod failures;
 mod input;
 mod kept;
 mod output;
+mod recorded_program;
 mod starting;
+mod told;
 mod unframing;
 
 pub use driver::{SpawnDriver, spawn_driver};
+pub use recorded_program::RecordedProgram;

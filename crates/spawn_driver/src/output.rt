@@ -1,8 +1,9 @@
 //! What is written to a program.
 ghost use Rattle.std.specs.Prelude.{◌≡◌, ◌≤◌, ◌<◌, ◌++◌, ◌&&◌, ◌||◌, ◌∷◌, [], nat_le, length, take, min, if◌then◌else◌, IfOk, OnOk};
 ghost use Rattle.std.specs.List.{concat};
+ghost use Rattle.port_signal.specs.declared.row.Outside.TheVariants.{Took};
 ghost use Rattle.port_model.specs.declared.effect.Effect.TheVariants.{Select};
-ghost use Rattle.spawn_driver.specs.Recorded.{Adds, with_effects, write_selected, write_deselected, busy_set, busy_cleared};
+ghost use Rattle.spawn_driver.specs.Recorded.{Adds, with_effects, with_answers, write_selected, write_deselected, busy_set, busy_cleared};
 ghost use Rattle.spawn_driver.specs.Steps.{Queues, QueuesFrame, Takes};
 
 use crate::failures::fail;
@@ -14,7 +15,7 @@ use port_model::{Dir, IoVec, NoMemory, Outside, Piece};
 use std::alloc::Global;
 
 /// The most bytes of one offer.
-const MOST_OFFERED: u64 = 65_536;
+pub(crate) const MOST_OFFERED: u64 = 65_536;
 
 /// Selects or deselects an event. A driver of a program holds two events, so that it is never refused for their number.
 pub(crate) fn select(ctx: &mut DriverCtx, event: u32, dir: Dir, on: bool) -> Result<(), NoMemory>
@@ -141,7 +142,7 @@ impl Kept {
         Ok(())
     }
 
-    /// Drops the bytes that the program took from the queue, and looks whether the port is free and whether more is to be offered.
+    /// Records how many bytes the program took, and drops them.
     pub(crate) fn note_taken(&mut self, ctx: &mut DriverCtx, taken: u32) -> Result<(), NoMemory>
         requires within { taken ≤ length ctx.old.queue }
         requires outside { length ctx.old.outside ≤ 524288 }
@@ -149,7 +150,17 @@ impl Kept {
         ensures ok { OnOk result (Takes taken self.old self.new ctx.old ctx.new) }
         ensures adds { Adds 3 ctx.old ctx.new }
     {
-        ctx.answered(Outside::Took(taken))?;
+        self.drop_taken(ctx, taken)?;
+        ctx.answered(Outside::Took(taken))
+    }
+
+    /// Drops the bytes that the program took from the queue, and looks whether the port is free and whether more is to be offered.
+    pub(crate) fn drop_taken(&mut self, ctx: &mut DriverCtx, taken: u32) -> Result<(), NoMemory>
+        requires within { taken ≤ length ctx.old.queue }
+        requires effects { length ctx.old.effects ≤ 524288 }
+        ensures ok { OnOk result (Takes taken self.old self.new ctx.old (with_answers ctx.new (Took taken ∷ []))) }
+        ensures adds { Adds 2 ctx.old ctx.new }
+    {
         match ctx.deq(u64::from(taken)) {
             Ok(()) => {}
             Err(_) => unreachable!(),

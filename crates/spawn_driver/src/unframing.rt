@@ -12,7 +12,7 @@ use port_driver::DriverCtx;
 use port_model::NoMemory;
 
 /// The most bytes that are taken from one program.
-const MOST_TAKEN: u64 = 33_554_432;
+pub(crate) const MOST_TAKEN: u64 = 33_554_432;
 
 /// The most messages of one callback. No chunk of 65,536 bytes brings so many.
 const MOST_MESSAGES: usize = 131_000;

@@ -1,0 +1,6 @@
+pub mod Equal
+pub mod Replied
+pub mod Stopped
+pub mod Numbered
+pub mod Calls
+pub mod Rows

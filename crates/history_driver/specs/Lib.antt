@@ -1,0 +1,5 @@
+pub mod Kinds
+pub mod Samples
+pub mod Running
+pub mod Calling
+pub mod Handled

@@ -1,0 +1,5 @@
+//! Tests of the judge of journals, over the contracts of history_replay and journal_text.
+#![tactic(auto)]
+
+#[cfg(test)]
+mod laws;
