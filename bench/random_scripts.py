@@ -1,11 +1,12 @@
 #!/usr/bin/env python3
-"""Runs random scripts with the program and compares each report and journal with a plain reference.
+"""Runs random scripts with the program, compares each report and journal with a plain reference, and has the program judge the journal.
 
   bench/random_scripts.py COUNT [SEED]
 
 Each script has up to six processes and six ports, and all steps but those that wait for data and those that send files. It is run once, with 1, 2, 4
 or 16 schedulers by turns. The reference follows the rows of the journal: docs/PORT_RULES.md has the rules that it knows, docs/JOURNAL.md the text, docs/SCRIPT.md
-the report. The first difference is printed with its script, and the status is then 1.
+the report. Each journal has to be legal by `gateway replay`. Then one of its rows is left out, and the replay has to end with status 0, 9 or 11. The first difference is
+printed with its script, and the status is then 1.
 """
 import hashlib
 import os
@@ -312,16 +313,37 @@ def check_report(script, ports, report):
     assert lines == want + [""], "\n".join(["the report", *lines, "isn't", *want])
 
 
+def gateway(folder, *words):
+    """How the program ends with these words."""
+    command = [os.environ.get("GATEWAY", os.path.join(HERE, "gateway")), *words]
+    return subprocess.run(command, cwd=folder, capture_output=True, timeout=60, check=False)
+
+
+def judge(folder, journal, rng):
+    """Has the program judge the journal, and again without one of its rows."""
+    lines = journal.split(b"\n")[:-1]
+    rows = [at for at, line in enumerate(lines) if line[:2] in (b"h ", b"l ", b"s ", b"r ", b"m ")]
+    legal = f"legal ports={lines.count(b'end')} rows={len(rows)}\n".encode()
+    done = gateway(folder, "replay", "journal")
+    assert (done.returncode, done.stdout) == (0, legal), f"replay: status {done.returncode}: {done.stdout} {done.stderr}"
+    if rows:
+        left_out = rng.choice(rows)
+        with open(os.path.join(folder, "changed"), "wb") as it:
+            it.write(b"\n".join(lines[:left_out] + lines[left_out + 1:]) + b"\n")
+        done = gateway(folder, "replay", "changed")
+        assert done.returncode in (0, 9, 11), f"replay without line {left_out + 1}: status {done.returncode}: {done.stderr}"
+
+
 def run_script(script, schedulers, folder):
     path = os.path.join(folder, "script.txt")
     with open(path, "w", encoding="utf-8") as it:
         it.write(script.text())
-    command = [os.environ.get("GATEWAY", os.path.join(HERE, "gateway")), "run", "script.txt", str(schedulers), str(script.rng.randrange(1, 4))]
-    done = subprocess.run(command, cwd=folder, capture_output=True, timeout=60, check=False)
+    done = gateway(folder, "run", "script.txt", str(schedulers), str(script.rng.randrange(1, 4)))
     assert done.returncode == 0, f"status {done.returncode}: {done.stderr.decode()}"
     with open(os.path.join(folder, "journal"), "rb") as it:
-        ports = check_journal(script, it.read())
-    check_report(script, ports, done.stdout)
+        journal = it.read()
+    check_report(script, check_journal(script, journal), done.stdout)
+    judge(folder, journal, script.rng)
 
 
 def main():
@@ -337,7 +359,7 @@ def main():
                 print(script.text())
                 print(f"script {number} of seed {seed} with {schedulers} schedulers: {fault}")
                 return 1
-    print(f"{count} scripts of seed {seed}: each report and journal is as the reference says")
+    print(f"{count} scripts of seed {seed}: each report and journal is as the reference says, and each journal is legal")
     return 0
 
 

@@ -18,6 +18,7 @@
 #     schedulers schedulers_idle                                    schedulers under a load, and with nothing to do for N milliseconds
 #     program_cat                                                   bytes through `cat`, and then, as cat_alone, what `cat` takes by itself
 #     gateway_run                                                   whole runs of the program
+#     gateway_replay                                                whole replays of the journals of such runs
 #
 # The rows of `schedulers` are of 1, 2 and 4 schedulers, each of as many commands, and have more words at their end. The row of `schedulers_idle` has its
 # own form. crates/port_bench/src/main.rt tells both.
@@ -26,7 +27,7 @@
 # or the one that the variable GATEWAY names: a gate leaves one in crates/gateway_cli/out/gateway_cli. A time of `./gateway` has in it its look for newer sources.
 set -u
 here=$(cd "$(dirname "$0")/.." && pwd)
-program=${GATEWAY:-$here/gateway}
+program=$(readlink -f "${GATEWAY:-$here/gateway}")
 
 # A script of so many commands of 8 bytes. Its process is never suspended, and waits for all that comes back.
 write_script() {
@@ -35,12 +36,12 @@ write_script() {
     printf 'a expect p %d\n' "$1"
 }
 
-# The best time of five runs of a script with these further words, in microseconds.
+# The best time of five runs of the program with these words, in microseconds.
 best_run() {
     local best='' from to
     for _ in 1 2 3 4 5; do
         from=$(date +%s%N)
-        "$program" run "$@" >/dev/null || return 1
+        "$program" "$@" >/dev/null || return 1
         to=$(date +%s%N)
         if [ -z "$best" ] || [ $(((to - from) / 1000)) -lt "$best" ]; then best=$(((to - from) / 1000)); fi
     done
@@ -56,10 +57,27 @@ time_program() (
     trap 'rm -rf "$folder"' EXIT
     for count in "$first" $((first * 2)) $((first * 4)) $((first * 8)); do
         write_script "$count" >"$folder/script.txt"
-        time=$(best_run "$folder/script.txt" "$@") || return 1
+        time=$(best_run run "$folder/script.txt" "$@") || return 1
         growth=-
         [ -n "$before" ] && growth=$((time * 100 / before))
         echo "gateway_run $count $time $((time * 1000 / count)) $growth"
+        before=$time
+    done
+)
+
+# Replays of the journals of runs, each from the start of the program to its end, with so many commands and two, four and eight times as many.
+time_replay() (
+    before=''
+    folder=$(mktemp -d)
+    trap 'rm -rf "$folder"' EXIT
+    cd "$folder" || return 1
+    for count in "$1" $(($1 * 2)) $(($1 * 4)) $(($1 * 8)); do
+        { printf 'journal "journal"\n' && write_script "$count"; } >script.txt
+        "$program" run script.txt >/dev/null || return 1
+        time=$(best_run replay journal) || return 1
+        growth=-
+        [ -n "$before" ] && growth=$((time * 100 / before))
+        echo "gateway_replay $count $time $((time * 1000 / count)) $growth"
         before=$time
     done
 )
@@ -104,9 +122,10 @@ built() {
 
 case "${1:-all}" in
 gateway_run) time_program "${2:-2000}" "${@:3}" ;;
+gateway_replay) time_replay "${2:-2000}" ;;
 program_cat) built program_bench "${2:-8388608}" && time_cat "${2:-8388608}" ;;
 body_echo | body_waits | body_freed | schedulers | schedulers_idle) built port_bench "$@" ;;
-all) built bench all && built port_bench all && built program_bench 8388608 && time_cat 8388608 && time_program 2000 ;;
+all) built bench all && built port_bench all && built program_bench 8388608 && time_cat 8388608 && time_program 2000 && time_replay 2000 ;;
 terms_encode | terms_decode | vector_skip | queue_deq | queue_pushq | script_read) built bench "$@" ;;
 unframe_packets | unframe_lines | unframe_stream | unframe_packets_bytewise | unframe_lines_bytewise | unframe_stream_bytewise) built bench "$@" ;;
 *)
