@@ -54,6 +54,7 @@ module _ {D : Type 0} (kind : D → Kind) (own : D → Own) (program : D → Opt
     lawful = lawful;
     finished = closed.finished;
     senders = closed.senders;
+    listed = closed.listed;
     mailboxes_are = closed.mailboxes;
     mail = closed.sent.mail;
     config_is = closed.config;

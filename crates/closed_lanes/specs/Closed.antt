@@ -14,7 +14,7 @@ use Rattle.run_end.specs.process_receipts.Receipts.{accepted}
 use Rattle.driver_hosts.specs.recorded_port.Asks.{resumed_words}
 use Rattle.driver_hosts.specs.recorded_port.View.{stat_marks}
 use Rattle.driver_hosts.specs.port_body.Body.{BodyName}
-use Rattle.driver_hosts.specs.port_body.Ends.{IsLeftByCalls}
+use Rattle.driver_hosts.specs.port_body.Ends.{HasListedInOrder, IsLeftByCalls}
 use Rattle.driver_hosts.specs.port_body.LanePort.{rows_from}
 use Rattle.driver_hosts.specs.declared.hosted.Hosted.{Hosted}
 use Rattle.run_end.specs.Ran.{RanProcess, calls_made}
@@ -41,12 +41,14 @@ pub record GiveBack (s : Setting) (processes : List RanProcess) (ends : LaneEnds
   pub polled : HasToldPorts s ends.poller.items
   pub told : HasToldWorkers s ends.finish.items
 
--- The port that had this name is closed: its history keeps all laws and is finished, each row of a task is of a sender with an end of its lane, and the ends of the mailboxes, with what they sent,
--- the set-up, the joined seats and the marks of the words, and the events are those of that history and of the name. The words of its resumes are among those that it found
+-- The port that had this name is closed: its history keeps all laws and is finished, each row of a task is of a sender with an end of its lane, each sender was listed in the order of its tasks, which all
+-- have a row, and the ends of the mailboxes, with what they sent, the set-up, the joined seats and the marks of the words, and the events are those of that history and of the name. The words of its
+-- resumes are among those that it found
 pub record IsClosedPort (name : BodyName) (port : ClosedPort) : Type 0 where
   pub lawful : Lawful name.opening (history_of port)
   pub finished : IsFinished name.opening (history_of port)
   pub senders : All (IsOfAnEnd name.key) port.journal.rows
+  pub listed : HasListedInOrder (state name.opening (history_of port))
   pub mailboxes_are : end_names port.mailboxes ≡ name.mailboxes
   pub mail : (process : ℕ) (e : MailEnd) → process < length port.mailboxes → (slice_index_or port.mailboxes process e).sent ≡ mails name.opening process (history_of port)
   pub config_is : port.config ≡ name.opening.config

@@ -38,6 +38,7 @@ closed-one v ends p has left =
       finished = whole.finished has.settled.finished;
       rows = subst (λ (t : Taking ParcelView Key). RowsAreSent t.key ends (reverse p.journal.rows)) own.lane (rows-are-sent v p.journal.rows p.outlets p.lane ends has own.lane whole);
       senders = subst (λ (t : Taking ParcelView Key). All (IsOfAnEnd t.key) p.journal.rows) own.lane (every-row-is-of-an-end v p.journal.rows p.outlets p.lane whole);
+      listed = record { falling = whole.falling; have_rows = whole.have_rows has.settled.finished };
     }
 
 -- some end of a body's lane

@@ -4,8 +4,9 @@ use Rattle.driver_model.specs.Calls.{Kind, Own}
 use Rattle.driver_model.specs.Programs.{ToldProgram}
 use Rattle.driver_hosts.specs.port_driver.declared.life.Life.{Life}
 use Rattle.port_history.specs.Lawful.{IsFinished}
+use Rattle.port_history.specs.State.{state}
 use Rattle.driver_hosts.specs.port_body.Body.{BodyView, BodyName, name_of}
-use Rattle.driver_hosts.specs.port_body.Ends.{IsLeftByCalls, IsSentBy}
+use Rattle.driver_hosts.specs.port_body.Ends.{HasListedInOrder, IsLeftByCalls, IsSentBy}
 use Rattle.driver_hosts.specs.declared.ending.EndedPort.{EndedPort}
 use Rattle.driver_hosts.specs.declared.hosted.Hosted.{Hosted}
 use Rattle.driver_hosts.specs.Returning.{AreReturned}
@@ -20,7 +21,8 @@ pub record ArePortsOfLanes (bodies : List BodyView) (columns : List (List LaneEn
   pub all : AreAllColumns bodies columns
 
 -- A port with this name that took in all ends of its lane and came to rest. Its history is lawful but for what workers see to, and finished, and what it sent and marked is what that says; the
--- tasks of each sender that have a row are those that it sent, in its order, each once, and no row is of anybody else. Its options, its ends and its words are those of its name
+-- tasks of each sender that have a row are those that it sent, in its order, each once, and no row is of anybody else. Each sender was listed in the order of its tasks, and each of these has a row. Its options,
+-- its ends and its words are those of its name
 pub record IsClosed (name : BodyName) (ends : List LaneEnd) (port : EndedPort) : Type 0 where
   pub config : port.config ≡ name.opening.config
   pub mailboxes : end_names port.outlets.mailboxes ≡ name.mailboxes
@@ -33,6 +35,7 @@ pub record IsClosed (name : BodyName) (ends : List LaneEnd) (port : EndedPort) :
   pub finished : IsFinished name.opening (reverse port.journal.rows)
   pub rows : RowsAreSent name.key ends (reverse port.journal.rows)
   pub senders : All (IsOfAnEnd name.key) port.journal.rows
+  pub listed : HasListedInOrder (state name.opening (reverse port.journal.rows))
 
 -- so is each port, in the order of the ports
 pub record AreClosed (bodies : List BodyView) (columns : List (List LaneEnd)) (ports : List EndedPort) : Type 0 where

@@ -20,6 +20,7 @@ ended_holds v ended items h = record {
   due = all-map (IsDue v) (IsDue (record v { lane = record v.lane { ended = ended } })) items (λ y d. record { fits = d.fits; listed = d.listed; taken = d.taken }) h.due;
   entries = all-map (WasTaken v) (WasTaken (record v { lane = record v.lane { ended = ended } })) (state_of v.port).entries
       (λ e t. record { number = t.number; within = t.within; from = t.from; taken = t.taken }) h.entries;
+  falling = h.falling;
   from_ends = h.from_ends;
 }
 

@@ -20,7 +20,7 @@ use Rattle.recorded_port.specs.View.{RecordedView, IsSettled, state_of}
 use Rattle.recorded_port.specs.Taking.{IsSameRecorded}
 use Rattle.recorded_port.specs.Resuming.{MayList}
 use Rattle.recorded_port.proofs.Append.{rows-more}
-use Rattle.port_body.specs.LanePort.{LanePortView, HasEnd, Holds, Accounts, IsDue, WasTaken, AreNumbered, rows_from, tasks_of}
+use Rattle.port_body.specs.LanePort.{AreFalling, LanePortView, HasEnd, Holds, Accounts, IsDue, WasTaken, AreNumbered, rows_from, tasks_of}
 use Rattle.port_body.specs.Steps.{Came}
 use Rattle.port_body.proofs.Holding.{all-append, all-map, within-lane, among}
 use Rattle.port_body.proofs.Items.{items-append}
@@ -67,6 +67,7 @@ pub record Stands (v : LanePortView) (x : Item ParcelView) : Type 0 where
   pub due : AllByRecursion (IsDue v) v.waiting.items
   pub earlier : AllByRecursion (λ (y : Item ParcelView). (y.sender == x.sender) ≡ true → y.seq < x.seq) v.waiting.items
   pub entries : AllByRecursion (WasTaken v) (state_of v.port).entries
+  pub older : AllByRecursion (λ (o : Entry). same_sender (sender_at v.lane.key x.sender) o.from ≡ true → o.seq < x.seq) (state_of v.port).entries
   pub fresh : has_entry (entry (sender_at v.lane.key x.sender) x.seq) (state_of v.port).entries ≡ false
   pub taken : x.seq < length (items_of x.sender v.lane.taken)
   pub rows_fewer : length (rows_from (sender_at v.lane.key x.sender) (reverse v.port.rows)) ≤ x.seq
@@ -86,6 +87,15 @@ fresh-entry v before x (e ∷ entries) within next all =
       | false ↦ λ other. rw (same ∙ other) refl
     ] refl in
     rw (differs) (fresh-entry v before x entries within next all.1)
+
+-- an entry of the sender is of an earlier task
+older-entries : (v : LanePortView) (before : List (Item ParcelView)) (x : Item ParcelView) (entries : List Entry) → x.sender < end_of v.lane.key Timer → x.seq ≡ length (items_of x.sender before)
+    → AllByRecursion (WasTaken (before_view v before)) entries → AllByRecursion (λ (o : Entry). same_sender (sender_at v.lane.key x.sender) o.from ≡ true → o.seq < x.seq) entries
+older-entries v before x entries within next all =
+    let key = v.lane.key in
+    all-map (WasTaken (before_view v before)) (λ (o : Entry). same_sender (sender_at key x.sender) o.from ≡ true → o.seq < x.seq) entries (λ o t own.
+    let here : (x.sender == t.number) ≡ true = sym (ap (same_sender (sender_at key x.sender)) t.from ∙ apart key x.sender t.number within t.within) ∙ own in
+    subst (λ k. o.seq < k) (sym next) (subst (λ n. o.seq < length (items_of n before)) (sym (eqb-true x.sender t.number here)) t.taken)) all
 
 pub stands : (v : LanePortView) (x : Item ParcelView) → Came v x → Stands v x
 stands v x came =
@@ -118,6 +128,7 @@ stands v x came =
         from = t.from;
         taken = subst (λ l. e.seq < length (items_of t.number l)) (sym came.taken) (more-taken t.number came.before x e.seq t.taken);
       }) h.entries;
+      older = older-entries v came.before x (state_of v.port).entries within next h.entries;
       fresh = fresh-entry v came.before x (state_of v.port).entries within next h.entries;
       taken = subst (λ l. x.seq < length (items_of x.sender l)) (sym came.taken) (
           let all = ap length (items-append x.sender came.before (x ∷ [])) ∙ (length-append (items_of x.sender came.before) (items_of x.sender (x ∷ []))
@@ -152,6 +163,7 @@ plain-behind v x came plain =
         tt,
       );
       entries = s.entries;
+      falling = h.falling;
       from_ends = h.from_ends;
     }
 
@@ -233,6 +245,10 @@ listed-behind v x port process came suspends at settled same rows =
       entries = subst (AllByRecursion (WasTaken (record v { port = port }))) (sym entries) (
         record { number = x.sender; within = s.within; from = sym at; taken = s.taken },
         all-map (WasTaken v) (WasTaken (record v { port = port })) (state_of v.port).entries (λ e t. record { number = t.number; within = t.within; from = t.from; taken = t.taken }) s.entries,
+      );
+      falling = subst AreFalling (sym entries) (
+        subst (λ f. AllByRecursion (λ (o : Entry). same_sender f o.from ≡ true → o.seq < x.seq) (state_of v.port).entries) at s.older,
+        h.falling,
       );
       from_ends = subst (AllByRecursion (HasEnd key)) (sym (ap (λ o. (state o (reverse port.rows)).senders) same.opening ∙ ap (λ r. (state v.port.opening r).senders) history)) h.from_ends;
     }

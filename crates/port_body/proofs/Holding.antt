@@ -21,7 +21,7 @@ use Rattle.waiting_parcels.specs.Waiting.{Waiting, GoesFirst, has_sender}
 use Rattle.recorded_port.specs.View.{RecordedView, IsSettled, state_of}
 use Rattle.recorded_port.specs.Taking.{Takes, IsSameRecorded}
 use Rattle.recorded_port.specs.Resuming.{Resumes, may_go}
-use Rattle.port_body.specs.LanePort.{LanePortView, HasEnd, Holds, IsBody, OwnItems, IsDue, WasTaken, AreNumbered, rows_from, tasks_of}
+use Rattle.port_body.specs.LanePort.{AreFalling, LanePortView, HasEnd, Holds, IsBody, OwnItems, IsDue, WasTaken, AreNumbered, rows_from, tasks_of}
 use Rattle.port_body.proofs.Items.{items-moved}
 use Rattle.port_body.proofs.Places.{apart, not-lt}
 use Rattle.port_body.proofs.Rows.{OneTask, SameTasks, after-task, after-resumes}
@@ -61,6 +61,7 @@ first-moved v busy items x rest h goes =
           };
       due = (parts.1.0, subst (AllByRecursion (IsDue v)) (sym goes.left) (all-append (IsDue v) goes.before goes.after parts.0 parts.1.1));
       entries = h.entries;
+      falling = h.falling;
       from_ends = h.from_ends;
     }
   where
@@ -144,6 +145,7 @@ took old port x rest h settled same takes =
       }) h.due.1;
       entries = all-map (WasTaken old) (WasTaken (record old { port = port })) (state_of port).entries (λ e t. record { number = t.number; within = t.within; from = t.from; taken = t.taken })
           (subst (AllByRecursion (WasTaken old)) (sym entries) h.entries);
+      falling = subst AreFalling (sym entries) h.falling;
       from_ends = subst (AllByRecursion (HasEnd key)) (sym senders) (record { number = x.sender; within = inside; is = refl }, h.from_ends);
     }
 
@@ -182,6 +184,7 @@ resumed old port items h settled same resumes =
       }) h.due;
       entries = all-map (WasTaken old) (WasTaken (record old { port = port })) (state_of port).entries (λ e t. record { number = t.number; within = t.within; from = t.from; taken = t.taken })
           (subst (AllByRecursion (WasTaken old)) (sym entries) h.entries);
+      falling = subst AreFalling (sym entries) h.falling;
       from_ends = subst (AllByRecursion (HasEnd key)) (sym (ap (λ o. (state o (reverse port.rows)).senders) same.opening ∙ tasks.senders)) h.from_ends;
     }
 
@@ -198,6 +201,7 @@ waits v waiting items h senders = record {
   due = all-map (IsDue v) (IsDue (record v { waiting = waiting })) items (λ y d. record { fits = d.fits; listed = d.listed; taken = d.taken }) h.due;
   entries = all-map (WasTaken v) (WasTaken (record v { waiting = waiting })) (state_of v.port).entries (λ e t. record { number = t.number; within = t.within; from = t.from; taken = t.taken })
       h.entries;
+  falling = h.falling;
   from_ends = h.from_ends;
 }
 
@@ -231,6 +235,7 @@ rearranged v items others h same due = record {
       };
   due = due;
   entries = h.entries;
+  falling = h.falling;
   from_ends = h.from_ends;
 }
 
@@ -258,6 +263,7 @@ opened-body v settled rows items taken table processes workers opening senders =
     };
     due = tt;
     entries = subst (AllByRecursion (WasTaken v)) (sym (ap (λ r. (state v.port.opening (reverse r)).entries) rows)) tt;
+    falling = subst AreFalling (sym (ap (λ r. (state v.port.opening (reverse r)).entries) rows)) tt;
     from_ends = subst (AllByRecursion (HasEnd v.lane.key)) (sym (ap (λ r. (state v.port.opening (reverse r)).senders) rows)) tt;
   });
   owners = subst (OwnItems v.processes) (sym items) tt;

@@ -48,6 +48,7 @@ room_holds v room items h = record {
   due = all-map (IsDue v) (IsDue (record v { port = record v.port { room = room } })) items (λ y d. record { fits = d.fits; listed = d.listed; taken = d.taken }) h.due;
   entries = all-map (WasTaken v) (WasTaken (record v { port = record v.port { room = room } })) (state_of v.port).entries
       (λ e t. record { number = t.number; within = t.within; from = t.from; taken = t.taken }) h.entries;
+  falling = h.falling;
   from_ends = h.from_ends;
 }
 

@@ -7,10 +7,12 @@ use Rattle.port_driver.specs.driver_model.Drivers.{holds, read_event_of, write_e
 use Rattle.port_driver.specs.driver_model.Programs.{Tells, ToldProgram}
 use Rattle.port_driver.specs.port_config.declared.config.Config.{Config}
 use Rattle.port_driver.specs.declared.life.Life.TheVariants.{Stopped}
+use Rattle.port_events.specs.port_history.Laws.{count_of}
 use Rattle.port_events.specs.port_history.Lawful.{IsFinished}
 use Rattle.port_events.specs.port_history.Mail.{mails}
 use Rattle.port_events.specs.port_history.Opening.{Opening}
-use Rattle.port_events.specs.port_history.State.{is_open, state}
+use Rattle.port_events.specs.port_history.State.{State, is_open, state}
+use Rattle.port_events.specs.port_history.Suspension.{Entry}
 use Rattle.port_lanes.specs.Keys.{Key, end_of, sender_at}
 use Rattle.port_lanes.specs.Parcels.{ParcelView}
 use Rattle.port_model.specs.declared.row.Row.{Row}
@@ -21,7 +23,7 @@ use Rattle.recorded_port.specs.Laws.{IsLawful}
 use Rattle.recorded_port.specs.View.{removed_sizes, stat_marks, state_of}
 use Rattle.recorded_port.specs.declared.parts.PortOutlets.{PortOutlets}
 use Rattle.port_body.specs.Body.{BodyView, name_of}
-use Rattle.port_body.specs.LanePort.{HasEnd, rows_from, tasks_of}
+use Rattle.port_body.specs.LanePort.{AreFalling, HasEnd, rows_from, tasks_of}
 
 -- Its driver is stopped, and its faults didn't fall; rows, ends and words are as they were. It is broken from then on, unless its port had stopped the driver, and
 -- then nothing changed
@@ -65,13 +67,25 @@ pub record IsSentBy (port : Opening) (history : List Row) (outlets : PortOutlets
   pub removed : removed_sizes outlets.seat ≡ removals history
   pub resumed : All (λ word. Contains outlets.seat.known.words word) (resumed_words history)
 
+-- each task that was listed has a row
+abbrev pub HaveRows : State → Type 0
+HaveRows s = AllByRecursion (λ (e : Entry). e.seq < count_of e.from s.senders) s.entries
+
+-- a port listed each sender in the order of its tasks, and all those tasks have a row
+pub record HasListedInOrder (s : State) : Type 0 where
+  pub falling : AreFalling s.entries
+  pub have_rows : HaveRows s
+
 -- What an unbroken body ends with: its history is lawful, and what it sent and marked is what that says. Of each end of its lane the tasks that have a row, and then
--- those that wait, are what was taken of it, and no other sender has a row. Nothing waits where the port isn't open, and so of a body that has finished
+-- those that wait, are what was taken of it, and no other sender has a row. Each sender was listed in the order of its tasks. Nothing waits where the port isn't open, and so of a body that has finished,
+-- of which each task that was listed has a row
 pub record IsWholeEnd (v : BodyView) (rows : List Row) (outlets : PortOutlets) (lane : Taking ParcelView Key) : Type 0 where
   pub sent : IsSentBy v.lane_port.port.opening (reverse rows) outlets
   pub taken : (number : ℕ) → number < end_of lane.key Timer
       → rows_from (sender_at lane.key number) (reverse rows) ++ tasks_of number v.lane_port.waiting.items ≡ tasks_of number lane.taken
   pub from_ends : AllByRecursion (HasEnd lane.key) (state v.lane_port.port.opening (reverse rows)).senders
+  pub falling : AreFalling (state v.lane_port.port.opening (reverse rows)).entries
   pub closed : is_open (state v.lane_port.port.opening (reverse rows)) ≡ false → v.lane_port.waiting.items ≡ []
   pub finished : v.finished ≡ true → IsFinished v.lane_port.port.opening (reverse rows)
   pub none_waits : v.finished ≡ true → v.lane_port.waiting.items ≡ []
+  pub have_rows : v.finished ≡ true → HaveRows (state v.lane_port.port.opening (reverse rows))

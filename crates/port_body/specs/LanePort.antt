@@ -64,6 +64,11 @@ pub record WasTaken (v : LanePortView) (e : Entry) : Type 0 where
   pub from : e.from ≡ sender_at v.lane.key number
   pub taken : e.seq < length (items_of number v.lane.taken)
 
+-- newest first, each entry has a higher number than the older ones of its sender
+abbrev pub AreFalling : List Entry → Type 0
+AreFalling [] = Unit {0}
+AreFalling (e ∷ older) = AllByRecursion (λ (o : Entry). same_sender e.from o.from ≡ true → o.seq < e.seq) older × AreFalling older
+
 -- the sender has an end of the lane
 pub record HasEnd (key : Key) (from : Sender) : Type 0 where
   pub number : ℕ
@@ -81,6 +86,7 @@ pub record Holds (v : LanePortView) (items : List (Item ParcelView)) : Type 0 wh
   pub accounts : (number : ℕ) → number < end_of v.lane.key Timer → Accounts v items number
   pub due : AllByRecursion (IsDue v) items
   pub entries : AllByRecursion (WasTaken v) (state_of v.port).entries
+  pub falling : AreFalling (state_of v.port).entries
   pub from_ends : AllByRecursion (HasEnd v.lane.key) (state_of v.port).senders
 
 -- there is room for so many rows, beside one for each sender who is listed

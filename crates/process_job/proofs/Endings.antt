@@ -1,8 +1,9 @@
 -- The end of a process that made its steps.
-use Rattle.std.proofs.Common.{◌≡◌, ℕ, ◌+◌, List, [], ◌∷◌, ◌++◌, length, Bool, true, false, cond, ◌&&◌, zero, suc, None, refl, sym, ap, ◌∙◌, subst, append_assoc, arith, zero-add}
+use Rattle.std.proofs.Common.{◌≡◌, ℕ, ◌+◌, ◌<◌, List, [], ◌∷◌, ◌++◌, length, Bool, true, false, cond, ◌&&◌, zero, suc, None, refl, sym, ap, ◌∙◌, subst, append_assoc, arith, zero-add}
 use Rattle.std.specs.Prelude.{map, reverse}
 use Rattle.std.proofs.lemmas.List.{append-nil, reverse-append, reverse-reverse}
 use Rattle.port_model.specs.declared.mail.Mail.{Mail}
+use Rattle.port_words.specs.busy.Known.{SendKnown}
 use Rattle.process_end.specs.process_receipts.declared.receipt.Receipt.{Receipt}
 use Rattle.process_end.specs.process_receipts.Asks.{Asked}
 use Rattle.process_end.specs.process_receipts.Receipts.{is_put}
@@ -17,6 +18,7 @@ use Rattle.process_job.specs.Mails.{Came, mail_from, own_mails, is_closed, nopro
 use Rattle.process_job.specs.Going.{ProcessState, state, AreSamePorts, HasHeard}
 use Rattle.process_job.specs.Jobs.{IsFreshProcess}
 use Rattle.process_job.specs.Steps.{HasMadeSteps, HasRunToEnd}
+use Rattle.process_job.proofs.Closing.{told-shown}
 use Rattle.process_job.proofs.Mailing.{own_mails-append, replied_append}
 use Rattle.process_job.proofs.Ports.{same_ports, ports_then, ports_made}
 use Rattle.process_job.proofs.Stepping.{waited_all_later}
@@ -60,6 +62,11 @@ gone_replied reason from (receipt ∷ receipts) mails (suc count) = (λ e. absur
 length-gone : (reason : List ℕ) (from count : ℕ) → length (gone_asks reason from count) ≡ count
 length-gone reason from zero = refl
 length-gone reason from (suc count) = ap suc (length-gone reason from count)
+
+-- a place of a list has a seat
+with-seat : {A : Type 0} (seats : List SendKnown) (k : ℕ) → k < length seats → (SendKnown → A) → A
+with-seat [] k below f = absurd (omega (arith, below))
+with-seat (seat ∷ seats) k below f = f seat
 
 pub run_to_end : (steps : List Step) (files : List (List ℕ)) (old mid : ProcView) (reason : List ℕ) (end : ProcEnd) (mails : List Mail) → IsFreshProcess old
     → HasMadeSteps steps files (state old []) (state mid mails) reason → HasEnded reason mid end.receipts end.mailbox end.lanes.items end.seats.items
@@ -107,6 +114,11 @@ run_to_end steps files old mid reason end mails fresh m e =
           ∙ ap (λ l. own_mails l (told ++ m.receipts)) (sym newest)
           ∙ ap (λ l. own_mails (reverse (reverse (gone ++ m.asks))) l) (sym received);
       waited = waited_all_later steps (state mid mails) mails e.new.seats (record { more = []; mails_are = sym (append-nil mails); closed = λ k d c. (t.ports.same_seats k d).closed c }) m.waited;
+      shown = λ k below closed.
+          let lanes : length e.new.lanes ≡ length old.lanes = t.ports.lanes_many ∙ goes.ports.lanes_many in
+          let seats = e.keeps.seats in
+          let all_told = e.all in
+          with-seat e.new.seats k (omega (arith, lanes, seats, below)) (λ d. told-shown reason mid told e.new e.told.told k d (omega (arith, start)) (omega (arith, all_told, lanes, below)) (closed d));
       replied = subst (λ l. AreReplied l e.new.receipts mails) (sym newest) (subst (λ l. AreReplied (gone ++ m.asks) l mails) (sym received)
           (replied_append gone m.asks told m.receipts mails many (gone_replied reason 0 told mails count) m.makes.replied));
     }

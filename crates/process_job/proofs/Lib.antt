@@ -6,5 +6,6 @@ pub mod Seating
 pub mod Resuming
 pub mod Made
 pub mod Stepping
+pub mod Closing
 pub mod Endings
 pub mod Sent

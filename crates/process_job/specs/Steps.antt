@@ -1,5 +1,5 @@
 -- What a process has done once it made steps, and once it made all of them and ended.
-use Rattle.std.specs.Prelude.{◌≡◌, ℕ, List, [], ◌∷◌, ◌++◌, Bool, true, not, length, map, reverse, None, slice_index_or}
+use Rattle.std.specs.Prelude.{◌≡◌, ℕ, ◌<◌, List, [], ◌∷◌, ◌++◌, Bool, true, not, length, map, reverse, None, slice_index_or}
 use Rattle.port_model.specs.declared.mail.Mail.{Mail}
 use Rattle.port_words.specs.busy.Known.{SendKnown}
 use Rattle.process_end.specs.process_receipts.declared.receipt.Receipt.{Receipt}
@@ -13,7 +13,7 @@ use Rattle.script_plan.specs.declared.step.Step.{Step}
 use Rattle.script_plan.specs.declared.step.Act.{Act}
 use Rattle.process_job.specs.Asks.{asks_of, calls_of, end_reason, ends_file, made_asks, made_of, made_of_step}
 use Rattle.process_job.specs.Mails.{Came, mail_from, own_mails, AreReplied}
-use Rattle.process_job.specs.Waits.{HasWaited, HaveWaited}
+use Rattle.process_job.specs.Waits.{FoundClosed, HasWaited, HaveWaited, ShowsClosed}
 use Rattle.process_job.specs.Going.{ProcessState, AreSamePorts, HasHeard, MakesCalls}
 
 -- of the calls of a step these were made, with these receipts, both newest first, whatever receipts come later
@@ -68,7 +68,7 @@ pub record HasMadeSteps (steps : List Step) (files : List (List ℕ)) (old new :
 
 -- A process made all its steps and ended; `old` is what it had to begin with. The calls are read oldest first: those of the steps that were made, by the receipts, and one
 -- for each port. The mail came from the mailbox, each that is to be read once and in the order of its port, and from the process itself, where a closed port refused
--- a link or a monitor
+-- a link or a monitor. A port that it ever found closed is closed by its last receipt for that port too
 pub record HasRunToEnd (steps : List Step) (files : List (List ℕ)) (old : ProcView) (end : ProcEnd) (mails : List Mail) : Type 0 where
   pub asks : List Asked
   pub asks_are : asks ≡ made_asks (length old.lanes) steps files end.receipts
@@ -88,4 +88,5 @@ pub record HasRunToEnd (steps : List Step) (files : List (List ℕ)) (old : Proc
   pub heard : HasHeard came old.mailbox last.mailbox
   pub own : mail_from None came ≡ own_mails (reverse asks) last.receipts
   pub waited : HaveWaited mails last.seats steps
+  pub shown : (k : ℕ) → k < length old.lanes → FoundClosed k last.seats → ShowsClosed k last.receipts
   pub replied : AreReplied (reverse asks) last.receipts mails

@@ -1,7 +1,9 @@
 -- When a step has waited enough.
-use Rattle.std.specs.Prelude.{◌≡◌, ◌⊎◌, ℕ, ◌≤◌, List, [], ◌∷◌, true, false, slice_index_or}
+use Rattle.std.specs.Prelude.{◌≡◌, ◌⊎◌, ℕ, ◌≤◌, ◌==◌, List, [], ◌∷◌, true, false, Option, Some, None, if◌then◌else◌, slice_index_or}
 use Rattle.port_model.specs.declared.mail.Mail.{Mail}
 use Rattle.port_words.specs.busy.Known.{SendKnown}
+use Rattle.port_words.specs.busy.Stat.{tells_closed}
+use Rattle.process_end.specs.process_receipts.declared.receipt.Receipt.{Receipt}
 use Rattle.process_end.specs.process_receipts.Ledgers.{saw_closed}
 use Rattle.script_plan.specs.declared.step.Step.{Step}
 use Rattle.script_plan.specs.declared.step.Act.{Act}
@@ -23,3 +25,19 @@ HasWaited mails seats _ = Unit {0}
 abbrev pub HaveWaited : List Mail → List SendKnown → List Step → Type 0
 HaveWaited mails seats [] = Unit {0}
 HaveWaited mails seats (step ∷ steps) = HasWaited mails seats step.act × (is_die step.act ≡ false → HaveWaited mails seats steps)
+
+-- the last of these receipts that is for this port. They are read newest first
+abbrev pub last_receipt : ℕ → List Receipt → Option Receipt
+last_receipt port [] = None
+last_receipt port (receipt ∷ older) = if receipt.port == port then Some receipt else last_receipt port older
+
+-- the STAT word of a receipt, if there are both
+abbrev pub stat_shown : Option Receipt → Option ℕ
+stat_shown None = None
+stat_shown (Some receipt) = receipt.stat
+
+-- the last receipt for this port shows that it was closed
+pub record ShowsClosed (port : ℕ) (receipts : List Receipt) : Type 0 where
+  pub stat : ℕ
+  pub shown : stat_shown (last_receipt port receipts) ≡ Some stat
+  pub closed : tells_closed stat ≡ true

@@ -4,3 +4,4 @@ pub mod Merges
 pub mod Tells
 pub mod Rows
 pub mod TakingRests
+pub mod Waited

@@ -12,5 +12,6 @@ pub mod Ran
 pub mod Merge
 pub mod Tell
 pub mod Rows
+pub mod Waited
 pub mod Whole
 pub mod Mailboxes

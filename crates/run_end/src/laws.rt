@@ -3,6 +3,7 @@ ghost use Rattle.run_end.specs.Shown.{ShownWordsHold};
 ghost use Rattle.run_end.specs.Mailboxes.{AllMailIsMerge};
 ghost use Rattle.run_end.specs.Merge.{MailIsMerge};
 ghost use Rattle.run_end.specs.Tell.{AllCallsTell, AllRowsStay, AllSeatsShow};
+ghost use Rattle.run_end.specs.Waited.{AllWaitsAreShown};
 ghost use Rattle.run_end.specs.Whole.{RunPortsHold, RunWordsHold};
 
 /// The words in the receipts of all processes agree with the marks of the port to which the calls were made, have bytes within the bound of its message queue, and show it busy only with a
@@ -24,6 +25,11 @@ pub fn all_mail_is_merge()
 /// The receipts of a process are those of its calls, and each port's end and seat are as the receipts tell.
 pub fn calls_tell()
     ensures { AllCallsTell }
+{}
+
+/// A process had the data for which it waited, or its last receipt for the port shows that it was closed.
+pub fn waits_are_shown()
+    ensures { AllWaitsAreShown }
 {}
 
 /// The seats of one port that all processes give back show their calls.

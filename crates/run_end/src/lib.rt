@@ -8,7 +8,7 @@ mod words;
 
 pub use laws::{
     all_mail_is_merge, calls_tell, mail_is_merge, port_words_hold, rows_stay, run_words_hold,
-    seats_show, shown_words_hold,
+    seats_show, shown_words_hold, waits_are_shown,
 };
 pub use mailboxes::take_all_rest;
 pub use no_memory::NoMemory;

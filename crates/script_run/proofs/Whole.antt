@@ -61,10 +61,11 @@ use Rattle.port_mail.specs.Ends.{MailEnd}
 use Rattle.process_job.specs.Mails.{Came, own_mails, readable, AreReplied, HasReply}
 use Rattle.process_receipts.specs.Asks.{Asked}
 use Rattle.process_receipts.specs.declared.receipt.Receipt.{Receipt}
-use Rattle.suspended_calls.specs.Listed.{ListedCallsAreSuspended, ResumedCallsAreListed}
+use Rattle.suspended_calls.specs.Listed.{ListedCallsAreInOrder, SuspendedCallsAreListed}
 use Rattle.process_job.specs.declared.job.EndedProcess.{EndedProcess}
 use Rattle.run_end.specs.Merge.{IsFromPort}
 use Rattle.run_end.specs.Tell.{AllCallsTell}
+use Rattle.run_end.specs.Waited.{AllWaitsAreShown, WaitsAreShown}
 use Rattle.run_opening.specs.Opened.{soft_at}
 use Rattle.run_lanes.specs.declared.size.LaneSize.{LaneSize}
 use Rattle.run_lanes.specs.Keyed.{key_of}
@@ -126,8 +127,9 @@ from-end senders key (Mark kind) has = tt
 pub record RunLaws : Type 0 where
   pub senders : NumbersHaveSenders
   pub tells : AllCallsTell
-  pub resumed : ResumedCallsAreListed
-  pub listed : ListedCallsAreSuspended
+  pub waited : AllWaitsAreShown
+  pub in_order : ListedCallsAreInOrder
+  pub listed : SuspendedCallsAreListed
 
 -- names that are the same by place
 name-at : (xs ys : List BodyView) (k : ℕ) (v w : BodyView) → map name_of xs ≡ map name_of ys → k < length xs → name_of (get_or xs k v) ≡ name_of (get_or ys k w)
@@ -283,11 +285,11 @@ receipts-newest : {kept told : List Receipt} → told ≡ reverse kept → kept 
 receipts-newest {kept} {told} is = sym (reverse-reverse kept) ∙ ap reverse (sym is)
 
 -- what is said of a process
-process-holds : AllCallsTell → (script : RunScript) (s : Setting) (ran : List RanProcess) (closed : List ClosedPort) (left : ScriptRan) (g : IsGathered s ran closed left) → IsSetting s → HaveRunIn s ran → length closed ≡ length s.ports
+process-holds : AllCallsTell → AllWaitsAreShown → (script : RunScript) (s : Setting) (ran : List RanProcess) (closed : List ClosedPort) (left : ScriptRan) (g : IsGathered s ran closed left) → IsSetting s → HaveRunIn s ran → length closed ≡ length s.ports
     → s.ports ≡ script.ports.items → s.programs ≡ script.programs.items → (soft : List Bool) → s.soft ≡ soft → (n : ℕ) (q : Program) (l : ProcessLeft) (below : n < length ran)
-    → ProcessHolds (length script.ports.items) soft (calls_of (length script.ports.items) (get_or script.programs.items n q) (get_or left.processes.items n l)) (get_or left.processes.items n l)
+    → ProcessHolds (length script.ports.items) soft (get_or script.programs.items n q) (calls_of (length script.ports.items) (get_or script.programs.items n q) (get_or left.processes.items n l)) (get_or left.processes.items n l)
     (g.joined.merges n (some ran n below) [] below).merge.came
-process-holds tell script s ran closed left g is have closed_many ports programs soft softs n q l below =
+process-holds tell waits script s ran closed left g is have closed_many ports programs soft softs n q l below =
     let r = some ran n below in
     let calls = process-calls script s ran left is have ports programs n q l r below (g.processes.receipts_are n l r below) in
     let told = tell (get_or ran n r) (have.ran n r below) in
@@ -311,6 +313,11 @@ process-holds tell script s ran closed left g is have closed_many ports programs
           (replied-later (calls_made (get_or ran n r)).asks (calls_made (get_or ran n r)).receipts (get_or ran n r).mails grown.0
           (subst (λ asks. AreReplied (reverse asks) (reverse (get_or ran n r).end.receipts) (get_or ran n r).mails) whole.asks_are
           (subst (λ receipts. AreReplied (reverse whole.asks) receipts (get_or ran n r).mails) (receipts-newest whole.receipts_are) whole.replied))));
+      waited = subst (λ steps. WaitsAreShown (get_or left.processes.items n l).mails.items
+          (calls_of (length script.ports.items) (get_or script.programs.items n q) (get_or left.processes.items n l)).receipts steps) (set.steps ∙ ap (λ (x : List Program). (get_or x n q).steps.items) programs)
+          (subst (λ (x : Calls). WaitsAreShown (get_or left.processes.items n l).mails.items x.receipts (get_or ran n r).steps) (sym calls)
+          (subst (λ m. WaitsAreShown m (calls_made (get_or ran n r)).receipts (get_or ran n r).steps) (sym (g.processes.mails_are n l [] below ∙ grown.1))
+          (waits (get_or ran n r) grown.0 (have.ran n r below))));
       among = λ some-port. subst (λ m. All (λ (c : Came). IsFromPort m c.from) at.merge.came) all (at.merge.among (omega (arith, all, some-port)));
     }
 
@@ -332,21 +339,24 @@ words-hold k processes of decl name port all closed same words = record {
 }
 
 -- what is said of a process and a closed port
-pair-holds : ResumedCallsAreListed → ListedCallsAreSuspended → (s : Setting) (names : List BodyName) (ran : List RanProcess) (closed : List ClosedPort) (left : ScriptRan) (g : IsGathered s ran closed left) (k n : ℕ) (c : ClosedPort) (of : Kind) (decl : PortDecl) (name : BodyName)
+pair-holds : ListedCallsAreInOrder → SuspendedCallsAreListed → (s : Setting) (names : List BodyName) (ran : List RanProcess) (closed : List ClosedPort) (left : ScriptRan) (g : IsGathered s ran closed left) (k n : ℕ) (c : ClosedPort) (of : Kind) (decl : PortDecl) (name : BodyName)
     (calls : Calls) (below : n < length ran) → IsClosedPort name (get_or closed k c) → name.opening ≡ opening_of k s.size.processes of decl (port_left (get_or closed k c)) → k < length closed → n < length (get_or closed k c).mailboxes
     → rows_from (Process n) (reverse (get_or closed k c).journal.rows) ≡ accepted k (calls_made (get_or ran n (some ran n below))).asks (calls_made (get_or ran n (some ran n below))).receipts
     → calls ≡ calls_made (get_or ran n (some ran n below)) → (soft : List Bool) → AreReceipts soft (calls_made (get_or ran n (some ran n below))).asks (calls_made (get_or ran n (some ran n below))).receipts
     → PairHolds k n s.size.processes of decl (port_left (get_or closed k c)) calls (g.joined.merges n (some ran n below) [] below).merge.came
-pair-holds resumed listed s names ran closed left g k n c of decl name calls below port same inside fits tasks made soft told =
+pair-holds in_order listed s names ran closed left g k n c of decl name calls below port same inside fits tasks made soft told =
     let at = g.joined.merges n (some ran n below) [] below in
     let e = some (get_or closed k c).mailboxes n fits in
     let ends_many : length at.ends ≡ length closed = at.column.many ∙ ap length g.are_parts.ends_are ∙ length-map closed (λ (x : ClosedPort). x.mailboxes) in
     let given = tasks ∙ ap (λ (x : Calls). accepted k x.asks x.receipts) (sym made) in
+    let order = in_order name.opening n (reverse (get_or closed k c).journal.rows) port.listed in
+    let same-calls = listed name.opening k n (reverse (get_or closed k c).journal.rows) soft calls.asks calls.receipts
+    (record { lawful = port.lawful; are_receipts = subst (λ (x : Calls). AreReceipts soft x.asks x.receipts) (sym made) told; tasks = given }) port.finished order in
     record {
       tasks = given;
-      listed = listed name.opening k n (reverse (get_or closed k c).journal.rows) soft calls.asks calls.receipts
-          (record { lawful = port.lawful; are_receipts = subst (λ (x : Calls). AreReceipts soft x.asks x.receipts) (sym made) told; tasks = given });
-      resumed = resumed name.opening n (reverse (get_or closed k c).journal.rows) port.lawful port.finished;
+      listed = same-calls.0;
+      resumed = same-calls.1;
+      rising = order.rising;
       mail = at.merge.ports k e (omega (arith, ends_many, inside))
           ∙ ap (λ (x : MailEnd). readable x.sent) (column-end s names ran closed left g k n c e e below inside)
           ∙ ap readable (port.mail n e fits)
@@ -445,7 +455,7 @@ module _ {D S : Type 0} {gh : Ghosts BodyView} (kind : D → Kind) (stage : D �
             (λ came. PairHolds k m s.size.processes (kind stopped.driver) it (port_left port) (calls_of (length script.ports.items) (get_or script.programs.items m q) (get_or left.processes.items m l)) came) m within
             (λ low.
             let r = some ran m low in
-            pair-holds laws.resumed laws.listed s names ran whole.closed left g k m c (kind stopped.driver) it name (calls_of (length script.ports.items) (get_or script.programs.items m q) (get_or left.processes.items m l)) low shut as-opened here
+            pair-holds laws.in_order laws.listed s names ran whole.closed left g k m c (kind stopped.driver) it name (calls_of (length script.ports.items) (get_or script.programs.items m q) (get_or left.processes.items m l)) low shut as-opened here
             (let boxes = mailboxes-many s k it d name port is.is.is (record { kind = kind before; faults = faults before; opened = called }) shut inside in omega (arith, boxes, ran_many, low))
             (closed.signals k m c r inside low)
             (process-calls script s ran left is.is.is whole.have_run is.is.ports_are is.is.programs_are m q l r low (g.processes.receipts_are m l r low))
@@ -483,8 +493,8 @@ module _ {D S : Type 0} {gh : Ghosts BodyView} (kind : D → Kind) (stage : D �
         processes = λ n p l below.
             let within : n < length ran = omega (arith, ran_many, sized, below) in
             came-holds s ran whole.closed left g
-            (λ came. ProcessHolds (length script.ports.items) (soft_at kind old seated.places.items) (calls_of (length script.ports.items) (get_or script.programs.items n p) (get_or left.processes.items n l)) (get_or left.processes.items n l) came)
+            (λ came. ProcessHolds (length script.ports.items) (soft_at kind old seated.places.items) (get_or script.programs.items n p) (calls_of (length script.ports.items) (get_or script.programs.items n p) (get_or left.processes.items n l)) (get_or left.processes.items n l) came)
             n within
-            (λ low. process-holds laws.tells script s ran whole.closed left g is.is.is whole.have_run closed_many is.is.ports_are is.is.programs_are (soft_at kind old seated.places.items) is.is.soft_are n p l low);
+            (λ low. process-holds laws.tells laws.waited script s ran whole.closed left g is.is.is whole.have_run closed_many is.is.ports_are is.is.programs_are (soft_at kind old seated.places.items) is.is.soft_are n p l low);
         ready = ready;
       }

@@ -1,5 +1,6 @@
 -- What a run of a script promises of each port and each process, whatever the schedule.
 use Rattle.std.specs.Prelude.{◌≡◌, ◌<◌, ℕ, Bool, List, [], ◌∷◌, length, map, reverse, All, Option, Some, None, slice_index, slice_index_or}
+use Rattle.std.specs.List.Sorted.{IsStrictlyIncreasing}
 use Rattle.driver_model.specs.Calls.{Kind, Own}
 use Rattle.driver_model.specs.Drivers.{kind_name, refusal_of}
 use Rattle.driver_model.specs.Programs.{ToldProgram}
@@ -24,11 +25,11 @@ use Rattle.driver_hosts.specs.Back.{HaveServed}
 use Rattle.driver_hosts.specs.Finding.{Found}
 use Rattle.run_end.specs.Merge.{IsFromPort}
 use Rattle.run_end.specs.Shown.{Calls, QueueWordsHold, WordsHold}
+use Rattle.run_end.specs.Waited.{WaitsAreShown}
 use Rattle.run_opening.specs.Opened.{limits_of, soft_at}
 use Rattle.run_seats.specs.declared.plans.Program.{Program}
 use Rattle.script_plan.specs.declared.decl.PortDecl.{PortDecl}
-use Rattle.suspended_calls.specs.Listed.{ListsSuspended}
-use Rattle.suspended_calls.specs.Numbers.{listed_numbers, resumed_numbers}
+use Rattle.suspended_calls.specs.Numbers.{listed_numbers, resumed_numbers, suspended_numbers}
 use Rattle.run_setting.specs.declared.RunScript.{RunScript}
 use Rattle.script_run.specs.declared.running.PortLeft.{PortLeft}
 use Rattle.script_run.specs.declared.running.ProcessLeft.{ProcessLeft}
@@ -86,23 +87,25 @@ pub record PortHolds (number processes workers : ℕ) (kind : Kind) (decl : Port
   pub finished : IsFinished (opening_of number processes kind decl port) (history_of port)
   pub senders : All (IsFrom processes workers) port.journal.rows
 
--- Of a process and a port: the tasks of the process that have a row are those that its receipts show accepted, in the order sent, each once; of the calls that have a row those are listed that suspended the
--- process, each once, and it was resumed of each that was listed, in the same order; and the mail that came from the port is what the port's rows sent it, in their order, but for mail that resumes, which is
--- for nobody to read
+-- Of a process and a port: the tasks of the process that have a row are those that its receipts show accepted, in the order sent, each once; the calls for which it was listed, and those
+-- after which it was resumed, are those that suspended it, in the order in which it made them, each once; and the mail that came from the port is what the port's rows sent it, in their order, but for mail
+-- that resumes, which is for nobody to read
 pub record PairHolds (number process processes : ℕ) (kind : Kind) (decl : PortDecl) (port : PortLeft) (calls : Calls) (came : List Came) : Type 0 where
   pub tasks : rows_from (Process process) (history_of port) ≡ accepted number calls.asks calls.receipts
-  pub listed : ListsSuspended number process (history_of port) calls.receipts
-  pub resumed : resumed_numbers process (history_of port) ≡ listed_numbers process (history_of port)
+  pub listed : listed_numbers process (history_of port) ≡ suspended_numbers number calls.receipts
+  pub resumed : resumed_numbers process (history_of port) ≡ suspended_numbers number calls.receipts
+  pub rising : IsStrictlyIncreasing (listed_numbers process (history_of port))
   pub mail : mail_from (Some number) came ≡ readable (mails (opening_of number processes kind decl port) process (history_of port))
 
--- A process has one receipt for each of its calls. Its mail came from the ports, but for what it added itself, which is one `noproc` for each link and each monitor that a closed port refused; and each
--- signal that is answered, and was put, has its answer in it
-pub record ProcessHolds (ports : ℕ) (soft : List Bool) (calls : Calls) (left : ProcessLeft) (came : List Came) : Type 0 where
+-- A process has one receipt for each of its calls. Its mail came from the ports, but for what it added itself, which is one `noproc` for each link and each monitor that a closed port refused; each
+-- signal that is answered, and was put, has its answer in it; and it has the data for which a step waited, or the last receipt for the port shows that it was closed
+pub record ProcessHolds (ports : ℕ) (soft : List Bool) (program : Program) (calls : Calls) (left : ProcessLeft) (came : List Came) : Type 0 where
   pub receipts : AreReceipts soft calls.asks calls.receipts
   pub mails_are : left.mails.items ≡ map (λ c. c.mail) came
   pub own : mail_from None came ≡ own_mails calls.asks calls.receipts
   pub among : 0 < ports → All (λ c. IsFromPort ports c.from) came
   pub replied : AreReplied calls.asks calls.receipts left.mails.items
+  pub waited : WaitsAreShown left.mails.items calls.receipts program.steps.items
 
 -- the words that the receipts of all processes show of a port agree with the marks of its history, keep the bound of its message queue, and show it busy only with a cause; and so do the words with which
 -- its rows resume senders, but for the marks
@@ -137,6 +140,7 @@ module _ {D : Type 0} where
     pub ports : (k : ℕ) (decl : PortDecl) (p : PortLeft) (h : Hosted D) → k < length script.ports.items
         → PortServed kind own program script ran came k (slice_index_or script.ports.items k decl) (slice_index_or ran.ports.items k p) (slice_index_or new (slice_index places k) h)
     pub processes : (s : ℕ) (p : Program) (l : ProcessLeft) → s < length script.programs.items
-        → ProcessHolds (length script.ports.items) (soft_at kind old places) (calls_of (length script.ports.items) (slice_index_or script.programs.items s p) (slice_index_or ran.processes.items s l))
+        → ProcessHolds (length script.ports.items) (soft_at kind old places) (slice_index_or script.programs.items s p)
+        (calls_of (length script.ports.items) (slice_index_or script.programs.items s p) (slice_index_or ran.processes.items s l))
         (slice_index_or ran.processes.items s l) (came s)
     pub ready : ReadyRowsAreAnswered before after ran

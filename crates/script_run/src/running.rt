@@ -17,14 +17,14 @@ use port_config::Config;
 use port_lanes::each_sender_has_an_end;
 use port_model::{Journal, Mail};
 use process_receipts::Receipts;
-use run_end::calls_tell;
+use run_end::{calls_tell, waits_are_shown};
 use run_opening::{Driver, Hosted, OpenFault, StartRefusal};
 use run_setting::RunScript;
 use seated_script::{SeatedScript, Unseated, seat_script};
 use std::alloc::Global;
 use std::sync::Wait;
 use std::thread::Threads;
-use suspended_calls::{listed_calls_are_suspended, resumed_calls_are_listed};
+use suspended_calls::{listed_calls_are_in_order, suspended_calls_are_listed};
 use threaded_jobs::Stop;
 
 /// What a port leaves of a run: its options, the events of its program's output and input, 0 and 0 without one, and the history of its driver.
@@ -142,8 +142,9 @@ pub fn run_script<
     };
     each_sender_has_an_end();
     calls_tell();
-    resumed_calls_are_listed();
-    listed_calls_are_suspended();
+    waits_are_shown();
+    listed_calls_are_in_order();
+    suspended_calls_are_listed();
     let (ran, poll) = close_run(rt, alloc, hosts, places.as_slice(), bodies, jobs);
     RunEnd {
         ran: made(ran),

@@ -8,13 +8,13 @@ use Rattle.std.proofs.lemmas.List.Elements.{All-from_recursion}
 use Rattle.port_model.specs.declared.row.Row.{Row}
 use Rattle.port_model.specs.declared.row.Row.TheVariants.{Handled, Late, Listed, Resumed, Mark}
 use Rattle.port_model.specs.declared.signal.Sender.TheVariants.{Process}
-use Rattle.port_body.specs.LanePort.{rows_from}
+use Rattle.port_body.specs.LanePort.{AreFalling, rows_from}
 use Rattle.port_history.specs.Laws.{count_of}
 use Rattle.port_history.specs.Opening.{Opening, same_sender}
 use Rattle.port_history.specs.State.{state}
 use Rattle.port_history.specs.Suspension.{Entry}
 use Rattle.suspended_calls.specs.Numbers.{number_from, listed_numbers}
-use Rattle.suspended_calls.specs.Listed.{AreFalling, ListedCallsAreInOrder}
+use Rattle.suspended_calls.specs.Listed.{ListedCallsAreInOrder}
 use Rattle.suspended_calls.proofs.Counting.{many-rows}
 use Rattle.suspended_calls.proofs.Rising.{Rising}
 use Rattle.suspended_calls.proofs.Senders.{sender-is}

@@ -1,15 +1,13 @@
 -- The calls that suspended a process are those for which it was listed, and after which it was resumed.
-use Rattle.std.specs.Prelude.{◌≡◌, ℕ, ◌<◌, ◌≤◌, List, [], ◌∷◌, length, nat_eq, count_by, All, Bool, true}
-use Rattle.std.specs.List.{AllByRecursion}
+use Rattle.std.specs.Prelude.{◌≡◌, ℕ, ◌<◌, ◌≤◌, List, length, nat_eq, count_by, All, Bool}
 use Rattle.std.specs.List.Sorted.{IsStrictlyIncreasing}
 use Rattle.port_model.specs.declared.row.Row.{Row}
 use Rattle.port_model.specs.declared.signal.Sender.TheVariants.{Process}
+use Rattle.port_body.specs.Ends.{HasListedInOrder}
 use Rattle.port_body.specs.LanePort.{rows_from}
-use Rattle.port_history.specs.Laws.{count_of}
 use Rattle.port_history.specs.Lawful.{Lawful, IsFinished}
-use Rattle.port_history.specs.Opening.{Opening, same_sender}
-use Rattle.port_history.specs.State.{State, state}
-use Rattle.port_history.specs.Suspension.{Entry}
+use Rattle.port_history.specs.Opening.{Opening}
+use Rattle.port_history.specs.State.{state}
 use Rattle.process_receipts.specs.declared.receipt.Receipt.{Receipt}
 use Rattle.process_receipts.specs.Asks.{Asked}
 use Rattle.process_receipts.specs.Receipts.{AreReceipts, accepted}
@@ -25,16 +23,6 @@ pub record HasRows (port : Opening) (number process : ℕ) (history : List Row) 
 pub record AreInOrder (process : ℕ) (history : List Row) : Type 0 where
   pub rising : IsStrictlyIncreasing (listed_numbers process history)
   pub have_rows : All (λ seq. seq < length (rows_from (Process process) history)) (listed_numbers process history)
-
--- newest first, each entry has a higher number than the older ones of its sender
-abbrev pub AreFalling : List Entry → Type 0
-AreFalling [] = Unit {0}
-AreFalling (e ∷ older) = AllByRecursion (λ o. same_sender e.from o.from ≡ true → o.seq < e.seq) older × AreFalling older
-
--- a port listed each sender in the order of its tasks, and all those tasks have a row
-pub record HasListedInOrder (s : State) : Type 0 where
-  pub falling : AreFalling s.entries
-  pub have_rows : AllByRecursion (λ e. e.seq < count_of e.from s.senders) s.entries
 
 -- no call is listed twice, and of the calls that have a row those are listed that suspended the process
 pub record ListsSuspended (number process : ℕ) (history : List Row) (receipts : List Receipt) : Type 0 where
