@@ -5,7 +5,7 @@ use either_driver::EitherDriver;
 use gateway::{Cause, Ended, ScriptFault, StartRefusal, cause_text, host_drivers, run_hosted};
 use no_memory::NoMemory;
 use outside::{OpenGate, PollSet, RealFiles, RealSink, Spawner};
-use outside_programs::{RealPoll, RealSpawner};
+use outside_programs::{PipeServer, RealPoll, RealSpawner};
 use plain_command::{Plain, is_plain, plain_command};
 use port_driver::Driver;
 use sample_drivers::{Digest, Echo, Refuse, Refused, Store, Tally, Valve};
@@ -172,9 +172,12 @@ fn main(rt: HostRuntime) -> ExitCode {
     let Ok(poll) = RealPoll::new(alloc, rt, EVENTS) else {
         return ExitCode::from(NO_MEMORY);
     };
+    let Ok(pipes) = PipeServer::new(alloc, rt, &poll) else {
+        return ExitCode::from(NO_MEMORY);
+    };
     let mut spawners = Vec::new(alloc);
     for number in 0..DRIVERS {
-        let Ok(spawner) = RealSpawner::new(alloc, rt, &poll, 2 * number, 2 * number + 1) else {
+        let Ok(spawner) = RealSpawner::new(rt, &pipes, 2 * number, 2 * number + 1) else {
             return ExitCode::from(NO_MEMORY);
         };
         if spawners.push(spawner).is_err() {

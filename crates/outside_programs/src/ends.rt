@@ -122,7 +122,7 @@ impl InputEnd {
         }
     }
 
-    /// Hands the writing thread one piece, or none while it writes another.
+    /// Hands the writing thread one piece, or none where it has as many as it takes.
     pub(crate) fn offer<R: Wait>(&mut self, rt: &R, alloc: Global, bytes: &[u8]) -> Offered
         ensures { Takes (length bytes.now) result }
     {

@@ -3,23 +3,22 @@ ghost use Rattle.std.specs.List.{IsDistinct};
 ghost use Rattle.outside.specs.Sublist.{IsSublist};
 
 use crate::counts::Counts;
+use crate::pauses::Pauses;
 use outside::{EventLog, FaultCount, NoMemory, PollFault, PollSet};
 use std::alloc::{AllocError, Global};
 use std::thread;
 use std::time::{Clock, Duration};
 
-/// How long a wait pauses where nothing is ready, in milliseconds.
-const PAUSE: u64 = 1;
-
 /// The readiness of the events of real children.
 ///
 /// A read event is ready as long as something is there to fetch, and a write event as long as the input
 /// takes a piece: an event stays ready until it is met. Where none is ready, a wait pauses for a
-/// millisecond and looks once more. It never fails.
+/// millisecond at most and looks once more. It never fails.
 #[derive(Drop)]
 pub struct RealPoll<R> {
     rt: R,
     counts: Counts,
+    pauses: Pauses,
     faults: FaultCount,
     answered: EventLog,
 }
@@ -34,6 +33,7 @@ impl<R: Clock + Drop> RealPoll<R> {
         Ok(RealPoll {
             rt,
             counts,
+            pauses: Pauses::new(),
             faults: FaultCount::new(),
             answered: EventLog::new(),
         })
@@ -56,14 +56,19 @@ impl<R: Clock + Drop> RealPoll<R> {
     }
 
     /// The ready events. Where there are none, those that are ready after a pause.
-    fn ready_soon(&self, alloc: Global, armed: &[u32]) -> Result<Vec<u32>, AllocError>
+    fn ready_soon(
+        &self,
+        alloc: Global,
+        armed: &[u32],
+        pause: Duration,
+    ) -> Result<Vec<u32>, AllocError>
         ensures { IfOk result (λ events. IsSublist events.items armed.now) }
     {
         let events = self.ready(alloc, armed)?;
         if !events.is_empty() {
             return Ok(events);
         }
-        thread::sleep(&self.rt, Duration::from_millis(PAUSE));
+        thread::sleep(&self.rt, pause);
         self.ready(alloc, armed)
     }
 }
@@ -74,7 +79,9 @@ impl<R: Clock + Drop> PollSet for RealPoll<R> {
     ghost answered = { λ p. p.answered };
 
     fn wait(&mut self, alloc: Global, armed: &[u32]) -> Result<Vec<u32>, PollFault> {
-        let events = self.ready_soon(alloc, armed)?;
+        let pause = self.pauses.next(armed.len());
+        let events = self.ready_soon(alloc, armed, pause)?;
+        self.pauses.note(events.is_empty());
         self.answered.note(events.as_slice());
         Ok(events)
     }

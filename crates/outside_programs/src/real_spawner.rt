@@ -2,91 +2,50 @@ ghost use Rattle.std.specs.Prelude.{◌≡◌, IfOk};
 
 use crate::counts::Counts;
 use crate::ends::{InputEnd, OutputEnd};
+use crate::pipe_server::PipeServer;
 use crate::real_child::{Piped, RealChild};
-use crate::real_poll::RealPoll;
-use crate::threads::{Reading, Writing, read_all, write_all};
-use crossbeam_channel::{Receiver, Sender, bounded, unbounded};
+use crate::threads::{Pipes, Reading, Writing};
+use crossbeam_channel::{bounded, unbounded};
 use outside::{ByteLog, FaultCount, NoMemory, SpawnFault, Spawner};
 use std::alloc::Global;
 use std::io::ErrorKind;
 use std::process::{self, ChildStdin, ChildStdout, Command, Processes, Stdio, SystemProcess};
 use std::sync::Wait;
-use std::thread;
-use std::thread::Threads;
-use std::time::Clock;
 
 /// How many chunks of an output wait to be fetched before no more is read of it.
 const CHUNKS: usize = 4;
 
+/// How many pieces of an input wait to be written before no more is taken of it.
+const PIECES: u64 = 4;
+
 /// Starts programs of the machine, each with piped input and output.
 ///
-/// Its two threads are made with it and serve its children in turn, so that a child is served once the
-/// output of the one before it has ended or was given up. Where no thread could be made, every start fails.
+/// Its children have the same two events, so one is started where the one before it was stopped or has ended.
 #[derive(Drop)]
 pub struct RealSpawner<R> {
     rt: R,
+    pipes: PipeServer,
     events: (u32, u32),
-    threads: Option<Threading>,
     faults: FaultCount,
 }
 
-/// Where the threads of a spawner take the pipes of a child from.
-#[derive(Drop)]
-struct Threading {
-    readings: Sender<Reading>,
-    writings: Sender<Writing>,
-    counts: Counts,
-    read_event: u32,
-    write_event: u32,
-}
-
-impl<
-    R: Processes<Started = SystemProcess> + Threads + Wait + Copy + Send + Sync + Drop + 'static,
-> RealSpawner<R> {
-    /// A spawner whose children have these events of the poll set, that of their output first.
-    pub fn new<C: Clock + Drop>(
-        alloc: Global,
+impl<R: Drop> RealSpawner<R> {
+    /// A spawner whose children have these events of the poll set, that of their output first, and these pipes.
+    pub fn new(
         rt: R,
-        poll: &RealPoll<C>,
+        pipes: &PipeServer,
         read_event: u32,
         write_event: u32,
     ) -> Result<Self, NoMemory>
-        ensures { IfOk result (λ spawner. ⟦<RealSpawner<R> as Spawner>⟧.faults spawner ≡ 0) }
+        ensures { IfOk result (λ spawner. spawner.faults ≡ 0) }
     {
-        let (readings, outputs) = unbounded::<Reading, Global>(alloc)?;
-        let (writings, inputs) = unbounded::<Writing, Global>(alloc)?;
-        let are_made = start_threads(alloc, rt, poll, outputs, inputs)?;
-        let threading = Threading {
-            readings,
-            writings,
-            counts: poll.counts()?,
-            read_event,
-            write_event,
-        };
-        let threads = if are_made { Some(threading) } else { None };
         Ok(RealSpawner {
             rt,
+            pipes: pipes.share()?,
             events: (read_event, write_event),
-            threads,
             faults: FaultCount::new(),
         })
     }
-}
-
-/// Starts the two threads of a spawner. Answers whether both could be made.
-fn start_threads<R: Threads + Wait + Copy + Send + Sync + Drop + 'static, C: Clock + Drop>(
-    alloc: Global,
-    rt: R,
-    poll: &RealPoll<C>,
-    outputs: Receiver<Reading>,
-    inputs: Receiver<Writing>,
-) -> Result<bool, NoMemory> {
-    let reading = poll.counts()?;
-    let writing = poll.counts()?;
-    if thread::spawn(&rt, move || read_all(&rt, alloc, &reading, &outputs)).is_err() {
-        return Ok(false);
-    }
-    Ok(thread::spawn(&rt, move || write_all(&rt, &writing, &inputs)).is_ok())
 }
 
 /// The program that a command text names, started with its further words. The words stand between spaces.
@@ -115,67 +74,52 @@ fn start_program<R: Processes<Started = SystemProcess>>(
     }
 }
 
-impl Threading {
-    /// Hands the output of a program to the reading thread.
-    fn read_from<R: Wait>(
-        &self,
-        rt: &R,
-        alloc: Global,
-        stdout: ChildStdout,
-    ) -> Result<OutputEnd, SpawnFault> {
-        let (messages, outputs) = bounded(alloc, CHUNKS)?;
-        let counts = self.counts.share().map_err(|_| SpawnFault::NoMemory)?;
-        let reading = Reading {
-            stdout,
-            messages,
-            event: self.read_event,
-        };
-        self.counts.set(self.read_event, 0);
-        match self.readings.send(rt, reading) {
-            Ok(()) => Ok(OutputEnd::new(alloc, outputs, counts, self.read_event)),
-            Err(_) => Err(SpawnFault::Failed),
-        }
+/// Has both pipes of a program served, and waits until it is told whether they are.
+fn serve<R: Wait>(
+    rt: &R,
+    alloc: Global,
+    server: &PipeServer,
+    events: (u32, u32),
+    mut program: process::Child,
+) -> Result<Piped, SpawnFault> {
+    let (Some(stdin), Some(stdout)) = (program.stdin.take(), program.stdout.take()) else {
+        return Err(SpawnFault::Failed);
+    };
+    let (messages, outputs) = bounded(alloc, CHUNKS)?;
+    let (pieces, inputs) = unbounded(alloc)?;
+    let (served, answers) = bounded(alloc, 1)?;
+    let output = OutputEnd::new(alloc, outputs, share(server)?, events.0);
+    let input = InputEnd::new(pieces, share(server)?, events.1);
+    server.counts().set(events.0, 0);
+    server.counts().set(events.1, PIECES);
+    let reading = Reading {
+        stdout,
+        messages,
+        event: events.0,
+    };
+    let writing = Writing {
+        stdin,
+        pieces: inputs,
+        event: events.1,
+    };
+    let pipes = Pipes {
+        reading,
+        writing,
+        served,
+    };
+    if !server.send(rt, pipes) || !matches!(answers.recv(rt), Ok(true)) {
+        return Err(SpawnFault::Failed);
     }
+    Ok(Piped {
+        program,
+        output,
+        input,
+    })
+}
 
-    /// Hands the input of a program to the writing thread.
-    fn write_to<R: Wait>(
-        &self,
-        rt: &R,
-        alloc: Global,
-        stdin: ChildStdin,
-    ) -> Result<InputEnd, SpawnFault> {
-        let (pieces, inputs) = unbounded(alloc)?;
-        let counts = self.counts.share().map_err(|_| SpawnFault::NoMemory)?;
-        let writing = Writing {
-            stdin,
-            pieces: inputs,
-            event: self.write_event,
-        };
-        self.counts.set(self.write_event, 1);
-        match self.writings.send(rt, writing) {
-            Ok(()) => Ok(InputEnd::new(pieces, counts, self.write_event)),
-            Err(_) => Err(SpawnFault::Failed),
-        }
-    }
-
-    /// Hands both pipes of a program to the threads.
-    fn serve<R: Wait>(
-        &self,
-        rt: &R,
-        alloc: Global,
-        mut program: process::Child,
-    ) -> Result<Piped, SpawnFault> {
-        let (Some(stdin), Some(stdout)) = (program.stdin.take(), program.stdout.take()) else {
-            return Err(SpawnFault::Failed);
-        };
-        let output = self.read_from(rt, alloc, stdout)?;
-        let input = self.write_to(rt, alloc, stdin)?;
-        Ok(Piped {
-            program,
-            output,
-            input,
-        })
-    }
+/// The counts of the events, for an end of a pipe.
+fn share(server: &PipeServer) -> Result<Counts, SpawnFault> {
+    server.counts().share().map_err(|_| SpawnFault::NoMemory)
 }
 
 impl<R: Processes<Started = SystemProcess> + Wait + Copy + Send + Drop> Spawner for RealSpawner<R> {
@@ -185,10 +129,7 @@ impl<R: Processes<Started = SystemProcess> + Wait + Copy + Send + Drop> Spawner 
 
     fn start(&mut self, alloc: Global, command: &[u8]) -> Result<RealChild<R>, SpawnFault> {
         let piped = match start_program(&self.rt, alloc, command) {
-            Ok(program) => match &self.threads {
-                Some(threads) => threads.serve(&self.rt, alloc, program),
-                None => Err(SpawnFault::Failed),
-            },
+            Ok(program) => serve(&self.rt, alloc, &self.pipes, self.events, program),
             Err(fault) => Err(fault),
         };
         match piped {

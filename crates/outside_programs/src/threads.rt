@@ -1,10 +1,13 @@
-//! The threads of a spawner: one reads what its children write, and one writes what they read.
+//! The threads behind the pipes of children: each reads what one child writes, or writes what it reads.
 use crate::counts::Counts;
 use crossbeam_channel::{Receiver, Sender};
+use outside::NoMemory;
 use std::alloc::Global;
 use std::io::{Read, Write};
 use std::process::{ChildStdin, ChildStdout};
 use std::sync::Wait;
+use std::thread;
+use std::thread::Threads;
 
 /// The most bytes of one message, and of one piece.
 pub(crate) const CHUNK: usize = 65_536;
@@ -33,17 +36,25 @@ pub(crate) struct Writing {
     pub(crate) event: u32,
 }
 
-/// The next bytes of an output, or why there are none.
-fn read_chunk(alloc: Global, stdout: &mut ChildStdout) -> Output {
-    let Ok(mut chunk) = vec![in alloc; 0u8; CHUNK] else {
-        return Output::Failed;
-    };
-    match stdout.read(chunk.as_mut_slice()) {
+/// Both pipes of a child, and where it is told whether they are served.
+#[derive(Drop)]
+pub(crate) struct Pipes {
+    pub(crate) reading: Reading,
+    pub(crate) writing: Writing,
+    pub(crate) served: Sender<bool>,
+}
+
+/// The next bytes of an output, or why there are none. They are read into the buffer, and copied out of it, so that they take no more memory than they have bytes.
+fn read_chunk(alloc: Global, stdout: &mut ChildStdout, buffer: &mut [u8]) -> Output {
+    match stdout.read(buffer) {
         Ok(0) => Output::End,
-        Ok(count) => {
-            chunk.truncate(count);
-            Output::Chunk(chunk)
-        }
+        Ok(count) => match buffer.get(..count) {
+            Some(bytes) => match Vec::from_slice(alloc, bytes) {
+                Ok(chunk) => Output::Chunk(chunk),
+                Err(_) => Output::Failed,
+            },
+            None => Output::Failed,
+        },
         Err(_) => Output::Failed,
     }
 }
@@ -55,8 +66,14 @@ fn read_output<R: Wait>(rt: &R, alloc: Global, counts: &Counts, reading: Reading
         messages,
         event,
     } = reading;
+    let Ok(mut buffer) = vec![in alloc; 0u8; CHUNK] else {
+        // Nobody sends messages any more, which is told as a failure.
+        drop(messages);
+        counts.raise(event);
+        return;
+    };
     for _ in rt.forever() {
-        let output = read_chunk(alloc, &mut stdout);
+        let output = read_chunk(alloc, &mut stdout, buffer.as_mut_slice());
         let is_last = !matches!(&output, Output::Chunk(_));
         if messages.send(rt, output).is_err() {
             return;
@@ -64,21 +81,6 @@ fn read_output<R: Wait>(rt: &R, alloc: Global, counts: &Counts, reading: Reading
         counts.raise(event);
         if is_last {
             return;
-        }
-    }
-}
-
-/// Reads the outputs that come, one after another, until the spawner is gone.
-pub(crate) fn read_all<R: Wait>(
-    rt: &R,
-    alloc: Global,
-    counts: &Counts,
-    readings: &Receiver<Reading>,
-) {
-    for _ in rt.forever() {
-        match readings.recv(rt) {
-            Ok(reading) => read_output(rt, alloc, counts, reading),
-            Err(_) => return,
         }
     }
 }
@@ -103,12 +105,42 @@ fn write_input<R: Wait>(rt: &R, counts: &Counts, writing: Writing) {
     counts.raise(event);
 }
 
-/// Writes the inputs that come, one after another, until the spawner is gone.
-pub(crate) fn write_all<R: Wait>(rt: &R, counts: &Counts, writings: &Receiver<Writing>) {
+/// Makes two threads for the pipes of each child that come, until all spawners are gone, and tells whether they could be made.
+pub(crate) fn serve_pipes<R: Threads + Wait + Copy + Send + Sync + Drop + 'static>(
+    rt: &R,
+    alloc: Global,
+    counts: &Counts,
+    children: &Receiver<Pipes>,
+) {
     for _ in rt.forever() {
-        match writings.recv(rt) {
-            Ok(writing) => write_input(rt, counts, writing),
-            Err(_) => return,
-        }
+        let Ok(pipes) = children.recv(rt) else {
+            return;
+        };
+        let Pipes {
+            reading,
+            writing,
+            served,
+        } = pipes;
+        let is_served = serve(*rt, alloc, counts, reading, writing).is_ok();
+        let _ = served.send(rt, is_served);
     }
+}
+
+/// Makes the threads of a child's pipes. Where one can't be made, both pipes are closed, that of a thread that was made once its child has ended.
+fn serve<R: Threads + Wait + Copy + Send + Sync + Drop + 'static>(
+    rt: R,
+    alloc: Global,
+    counts: &Counts,
+    reading: Reading,
+    writing: Writing,
+) -> Result<(), NoMemory> {
+    let reads = counts.share()?;
+    let writes = counts.share()?;
+    if thread::spawn(&rt, move || write_input(&rt, &writes, writing)).is_err() {
+        return Err(NoMemory);
+    }
+    if thread::spawn(&rt, move || read_output(&rt, alloc, &reads, reading)).is_err() {
+        return Err(NoMemory);
+    }
+    Ok(())
 }

@@ -8,7 +8,7 @@ mod passing;
 use crate::passing::{READ, WRITE, cat_time};
 use anyhow::{Context, Result, bail};
 use outside::{PollSet, Spawner};
-use outside_programs::{RealPoll, RealSpawner};
+use outside_programs::{PipeServer, RealPoll, RealSpawner};
 use std::env;
 use std::time::Clock;
 
@@ -21,7 +21,10 @@ fn main(rt: HostRuntime) -> Result<()> {
     let Ok(mut poll) = RealPoll::new(alloc, rt, 2) else {
         bail!("no memory");
     };
-    let Ok(mut spawner) = RealSpawner::new(alloc, rt, &poll, READ, WRITE) else {
+    let Ok(pipes) = PipeServer::new(alloc, rt, &poll) else {
+        bail!("no memory");
+    };
+    let Ok(mut spawner) = RealSpawner::new(rt, &pipes, READ, WRITE) else {
         bail!("no memory");
     };
     report(&rt, &mut spawner, &mut poll, bytes)

@@ -1,6 +1,6 @@
 //! Programs of the machine, as a driver calls them.
 use outside::{Child, Fetched, Offered, PollSet, SpawnFault, Spawner, StatusGot};
-use outside_programs::{RealPoll, RealSpawner};
+use outside_programs::{PipeServer, RealPoll, RealSpawner};
 use std::alloc::Global;
 use std::test::Fail;
 use std::time::Instant;
@@ -108,7 +108,7 @@ fn status<C: Child, P: PollSet>(
 fn cat_answers_before_its_input_ends(rt: HostRuntime) -> Result<(), Fail> {
     let alloc = rt.alloc();
     let mut poll = RealPoll::new(alloc, rt, 2)?;
-    let mut spawner = RealSpawner::new(alloc, rt, &poll, READ, WRITE)?;
+    let mut spawner = RealSpawner::new(rt, &PipeServer::new(alloc, rt, &poll)?, READ, WRITE)?;
     let mut cat = start(alloc, &mut spawner, b"cat")?;
     assert!(rt; gives_back(alloc, &mut cat, &mut poll, b"hello")?);
     assert!(rt; gives_back(alloc, &mut cat, &mut poll, b" again")?);
@@ -120,7 +120,7 @@ fn cat_answers_before_its_input_ends(rt: HostRuntime) -> Result<(), Fail> {
 fn a_program_ends_with_its_own_status(rt: HostRuntime) -> Result<(), Fail> {
     let alloc = rt.alloc();
     let mut poll = RealPoll::new(alloc, rt, 2)?;
-    let mut spawner = RealSpawner::new(alloc, rt, &poll, READ, WRITE)?;
+    let mut spawner = RealSpawner::new(rt, &PipeServer::new(alloc, rt, &poll)?, READ, WRITE)?;
     let mut shell = start(alloc, &mut spawner, b"sh")?;
     assert!(rt; gives(alloc, &mut shell, &mut poll, b"exit 3\n", WAITS)?);
     assert!(rt; status(alloc, &mut shell, &mut poll)? == StatusGot::Ended(3));
@@ -131,7 +131,7 @@ fn a_program_ends_with_its_own_status(rt: HostRuntime) -> Result<(), Fail> {
 fn a_program_that_a_signal_ends_has_status_255(rt: HostRuntime) -> Result<(), Fail> {
     let alloc = rt.alloc();
     let mut poll = RealPoll::new(alloc, rt, 2)?;
-    let mut spawner = RealSpawner::new(alloc, rt, &poll, READ, WRITE)?;
+    let mut spawner = RealSpawner::new(rt, &PipeServer::new(alloc, rt, &poll)?, READ, WRITE)?;
     let mut shell = start(alloc, &mut spawner, b"sh")?;
     assert!(rt; gives(alloc, &mut shell, &mut poll, b"kill -9 $$\n", WAITS)?);
     assert!(rt; status(alloc, &mut shell, &mut poll)? == StatusGot::Ended(255));
@@ -142,7 +142,7 @@ fn a_program_that_a_signal_ends_has_status_255(rt: HostRuntime) -> Result<(), Fa
 fn a_word_that_is_no_program_starts_nothing(rt: HostRuntime) -> Result<(), Fail> {
     let alloc = rt.alloc();
     let poll = RealPoll::new(alloc, rt, 2)?;
-    let mut spawner = RealSpawner::new(alloc, rt, &poll, READ, WRITE)?;
+    let mut spawner = RealSpawner::new(rt, &PipeServer::new(alloc, rt, &poll)?, READ, WRITE)?;
     let missing = spawner.start(alloc, b"no-program-of-this-name -x");
     assert!(rt; matches!(missing, Err(SpawnFault::Failed)));
     let blank = spawner.start(alloc, b"   ");
@@ -155,7 +155,7 @@ fn a_program_that_never_reads_is_stopped_at_once(rt: HostRuntime) -> Result<(), 
     let alloc = rt.alloc();
     let begun = Instant::now(&rt)?;
     let mut poll = RealPoll::new(alloc, rt, 2)?;
-    let mut spawner = RealSpawner::new(alloc, rt, &poll, READ, WRITE)?;
+    let mut spawner = RealSpawner::new(rt, &PipeServer::new(alloc, rt, &poll)?, READ, WRITE)?;
     let mut sleeper = start(alloc, &mut spawner, b"sleep 30")?;
     let bytes = vec![in alloc; 7u8; 1_048_576]?;
     assert!(rt; !gives(alloc, &mut sleeper, &mut poll, bytes.as_slice(), 500)?);
