@@ -1,0 +1,4 @@
+pub mod Counting
+pub mod Effects
+pub mod Sending
+pub mod Staying

@@ -1,0 +1,154 @@
+-- The calls of the processes for a port to which its owner alone sends commands, and the rows that they have.
+use Rattle.std.proofs.Common.{◌≡◌, ℕ, ◌+◌, ◌==◌, ◌<◌, ◌≤◌, zero, suc, Bool, true, false, cond, List, [], ◌∷◌, ◌++◌, length, get_or, Option, Some, None, refl, sym, ap, ◌∙◌, subst, arith, ⊎_elim, All, count_by}
+use Rattle.std.specs.Prelude.{reverse, slice_index_or}
+use Rattle.std.specs.List.{AllByRecursion, flat_map}
+use Rattle.std.proofs.lemmas.Bool.{eqb-false, ne_eqb, cases_lt, cases_eq}
+use Rattle.std.proofs.lemmas.List.{append-nil, reverse-append}
+use Rattle.std.proofs.lemmas.List.Elements.{All-from_recursion, recursion_from_All}
+use Rattle.std.proofs.lemmas.List.Sums.{sum_by-cons, sum_by-append}
+use Rattle.script_run.specs.run_opening.driver_hosts.declared.hosted.Hosted.{Hosted}
+use Rattle.script_run.specs.run_opening.driver_model.Calls.{Kind, Own, Echo, Valve, Tally, Store, Digest, Spawn, Refuse1, Refuse2, Refuse3}
+use Rattle.script_run.specs.run_opening.driver_model.Drivers.{kind_name}
+use Rattle.script_run.specs.run_opening.driver_model.Programs.{ToldProgram}
+use Rattle.script_run.specs.run_opening.driver_hosts.port_driver.declared.life.Life.{Life}
+use Rattle.script_run.specs.run_opening.port_body.LanePort.{rows_from, task_from}
+use Rattle.echoed_history.specs.port_history.Counts.{is_late_command, late_commands, saved_of}
+use Rattle.echoed_history.specs.port_history.Mail.{mails}
+use Rattle.echoed_history.specs.port_history.Opening.{Opening}
+use Rattle.echoed_history.specs.port_history.port_model.declared.row.Row.{Row}
+use Rattle.echoed_history.specs.port_history.port_model.declared.row.Row.TheVariants.{Handled, Late, Listed, Resumed, Mark}
+use Rattle.echoed_history.specs.port_history.port_model.declared.signal.Sender.TheVariants.{Process, Poller, Worker, Timer}
+use Rattle.echoed_history.specs.port_history.port_model.Tasks.{TaskView}
+use Rattle.process_end.specs.Ended.{gone_ask, gone_asks}
+use Rattle.run_setting.specs.run_end.process_job.Asks.{asks_of, end_reason, made_asks}
+use Rattle.run_setting.specs.run_end.process_job.Mails.{Came, mail_from, is_source, readable}
+use Rattle.process_end.specs.process_receipts.Asks.{Asked, is_gone, task_of}
+use Rattle.process_end.specs.process_receipts.Receipts.{AreReceipts, accepted, is_put, stats_shown}
+use Rattle.process_end.specs.process_receipts.declared.receipt.Receipt.{Receipt}
+use Rattle.run_setting.specs.run_end.Merge.{IsFromPort}
+use Rattle.run_setting.specs.run_end.Shown.{Calls, WordsHold}
+use Rattle.script_run.specs.run_opening.Opened.{limits_of}
+use Rattle.run_setting.specs.run_seats.declared.plans.Program.{Program}
+use Rattle.run_setting.specs.declared.RunScript.{RunScript}
+use Rattle.run_setting.specs.run_end.process_job.script_plan.declared.decl.PortDecl.{PortDecl}
+use Rattle.run_setting.specs.run_end.process_job.script_plan.declared.step.Step.{Step}
+use Rattle.script_run.specs.declared.running.PortLeft.{PortLeft}
+use Rattle.script_run.specs.declared.running.ProcessLeft.{ProcessLeft}
+use Rattle.script_run.specs.declared.running.ScriptRan.{ScriptRan}
+use Rattle.script_run.specs.Ran.{HasRun, IsFrom, all_calls, calls_of, history_of, opening_of}
+use Rattle.echoed_commands.specs.Sending.{IsEchoPort, sends_back, sends_to, is_plain}
+use Rattle.echoed_commands.specs.Echoed.{CommandsAreEchoed, EchoesTo, IsEchoed, is_taken}
+use Rattle.echoed_history.specs.Commands.{AreCommands, AreEnds, EndsWith, OthersEnd, echoes, is_plain_command, task_data}
+use Rattle.echoed_commands.proofs.Answered.{AtEnd, IsOwn, at-end, tasks-all}
+use Rattle.echoed_commands.proofs.Asked.{made_by, made-newest, other-asks, own-asks, steps-made}
+use Rattle.echoed_history.proofs.Lists.{both, reversed, weaker}
+use Rattle.echoed_commands.proofs.Mailed.{OthersSendNone, came-saved, mails-other, own-other, readable-other, readable-saved}
+use Rattle.echoed_history.proofs.Serving.{HasServed, Serves, has-served, serves, unfinished}
+
+-- the driver of this name is one of the kinds that send back
+pub kind-echoes : (kind : Kind) → sends_back (kind_name kind) ≡ true → echoes kind ≡ true
+kind-echoes Echo is = refl
+kind-echoes (Valve soft) is = refl
+kind-echoes Tally is = absurd cc
+kind-echoes Store is = absurd cc
+kind-echoes Digest is = absurd cc
+kind-echoes Spawn is = absurd cc
+kind-echoes Refuse1 is = absurd cc
+kind-echoes Refuse2 is = absurd cc
+kind-echoes Refuse3 is = absurd cc
+
+-- a process that isn't there has no row
+no-row : (p q processes : ℕ) (task : TaskView) (tasks : List TaskView) → q < processes → processes ≤ p → tasks ≡ [] → tasks ++ task_from (Process p) (Process q) task ≡ []
+no-row p q processes task tasks there absent none = (λ i. none i ++ cond (ne_eqb p q (λ e. omega (arith, e, there, absent)) i) (task ∷ []) [])
+
+pub no-rows : (p processes workers : ℕ) (rows : List Row) → AllByRecursion (IsFrom processes workers) rows → processes ≤ p → rows_from (Process p) rows ≡ []
+no-rows p processes workers [] from absent = refl
+no-rows p processes workers (Handled (Process q) seq task outside effects ∷ rows) from absent = no-row p q processes task (rows_from (Process p) rows) from.0 absent (no-rows p processes workers rows from.1 absent)
+no-rows p processes workers (Handled sender seq task outside effects ∷ rows) from absent = append-nil (rows_from (Process p) rows) ∙ no-rows p processes workers rows from.1 absent
+no-rows p processes workers (Late (Process q) seq task ∷ rows) from absent = no-row p q processes task (rows_from (Process p) rows) from.0 absent (no-rows p processes workers rows from.1 absent)
+no-rows p processes workers (Late sender seq task ∷ rows) from absent = append-nil (rows_from (Process p) rows) ∙ no-rows p processes workers rows from.1 absent
+no-rows p processes workers (Listed sender seq ∷ rows) from absent = no-rows p processes workers rows from.1 absent
+no-rows p processes workers (Resumed sender seq word ∷ rows) from absent = no-rows p processes workers rows from.1 absent
+no-rows p processes workers (Mark kind ∷ rows) from absent = no-rows p processes workers rows from.1 absent
+
+-- rows newest first have as many late commands as oldest first
+pub late-reversed : (rows : List Row) → late_commands (reverse rows) ≡ late_commands rows
+late-reversed [] = refl
+late-reversed (row ∷ rows) =
+    let count : Row → ℕ = λ r. cond (is_late_command r) 1 0 in
+    let apart : late_commands (reverse (row ∷ rows)) ≡ late_commands (reverse rows) + late_commands (row ∷ []) =
+    ap late_commands (reverse-append (row ∷ []) rows) ∙ sum_by-append count (reverse rows) (row ∷ []) in
+    let one = sum_by-cons count row [] in
+    let first = sum_by-cons count row rows in
+    let rest = late-reversed rows in
+    omega (arith, apart, one, first, rest)
+
+-- the calls of a process by its place among all
+pub at-calls : (ports : ℕ) (programs : List Program) (lefts : List ProcessLeft) (k : ℕ) (c : Calls) (p : Program) (l : ProcessLeft) → length lefts ≡ length programs → k < length lefts
+    → get_or (all_calls ports programs lefts) k c ≡ calls_of ports (get_or programs k p) (get_or lefts k l)
+at-calls ports [] [] k c p l same within = absurd (omega (arith, within))
+at-calls ports [] (y ∷ lefts) k c p l same within = absurd (omega (arith, same))
+at-calls ports (x ∷ programs) [] k c p l same within = absurd (omega (arith, same))
+at-calls ports (x ∷ programs) (y ∷ lefts) zero c p l same within = refl
+at-calls ports (x ∷ programs) (y ∷ lefts) (suc k) c p l same within = at-calls ports programs lefts k c p l (omega (arith, same)) (omega (arith, within))
+
+pub many-calls : (ports : ℕ) (programs : List Program) (lefts : List ProcessLeft) → length lefts ≡ length programs → length (all_calls ports programs lefts) ≡ length lefts
+many-calls ports [] [] same = refl
+many-calls ports [] (l ∷ lefts) same = absurd (omega (arith, same))
+many-calls ports (p ∷ programs) [] same = absurd (omega (arith, same))
+many-calls ports (p ∷ programs) (l ∷ lefts) same = let less : length lefts ≡ length programs = omega (arith, same) in ap suc (many-calls ports programs lefts less)
+
+-- the call that tells a port of the end
+gone-ends : (reason : List ℕ) (number count : ℕ) → AllByRecursion (λ (a : Asked). (a.port == number) ≡ true → is_gone a.signal ≡ true) (gone_asks reason 0 count)
+gone-ends reason number zero = tt
+gone-ends reason number (suc count) = (λ same. refl, gone-ends reason number count)
+
+-- the tasks of a process that makes no call for the port are its end alone
+pub ends-alone : (number ports : ℕ) (steps : List Step) (files : List (List ℕ)) (oldest newest : List Receipt)
+    → AllByRecursion (λ (s : Step). (content : List ℕ) → AllByRecursion (λ (a : Asked). (a.port == number) ≡ true → ⊥) (asks_of s.line s.act content)) steps
+    → AreEnds (accepted number (reverse (made_asks ports steps files oldest)) newest)
+ends-alone number ports steps files oldest newest none =
+    let made = made_by steps files oldest in
+    let gone = gone_asks (end_reason steps) 0 ports in
+    subst (λ asks. AreEnds (accepted number asks newest)) (sym (made-newest ports steps files oldest))
+    (tasks-all (λ s. is_gone s ≡ true) number (gone ++ made) newest
+    (both _ gone made (gone-ends (end_reason steps) number ports)
+    (weaker (λ (a : Asked). (a.port == number) ≡ true → ⊥) (λ (a : Asked). (a.port == number) ≡ true → is_gone a.signal ≡ true) made (λ a apart same. absurd (apart same))
+    (steps-made (λ (a : Asked). (a.port == number) ≡ true → ⊥) steps files oldest none))))
+
+-- an owner's calls for its port, and their receipts: those that were made by its steps, and then its end
+pub record OwnerAsked (number ports : ℕ) (soft : List Bool) (program : Program) (left : ProcessLeft) : Type 0 where
+  pub reason : List ℕ
+  pub made : List Asked
+  pub made_is : made ≡ made_by program.steps.items program.files.items left.receipts
+  pub asks_are : (calls_of ports program left).asks ≡ gone_asks reason 0 ports ++ made
+  pub own : AllByRecursion (IsOwn number) made
+  pub told : AtEnd number soft reason made (gone_asks reason 0 ports ++ made) (calls_of ports program left).receipts
+
+pub owner-asked : (number ports : ℕ) (soft : List Bool) (program : Program) (left : ProcessLeft) → number < ports → AreReceipts soft (calls_of ports program left).asks (calls_of ports program left).receipts
+    → AllByRecursion (λ (s : Step). sends_to s.act ≡ Some number → is_plain s.act ≡ true) program.steps.items → OwnerAsked number ports soft program left
+owner-asked number ports soft program left within are plain =
+    let steps = program.steps.items in
+    let files = program.files.items in
+    let made = made_by steps files left.receipts in
+    let newest = made-newest ports steps files left.receipts in
+    record {
+      reason = end_reason steps;
+      made = made;
+      made_is = refl;
+      asks_are = newest;
+      own = steps-made (IsOwn number) steps files left.receipts
+          (weaker (λ (s : Step). sends_to s.act ≡ Some number → is_plain s.act ≡ true) (λ (s : Step). (content : List ℕ) → AllByRecursion (IsOwn number) (asks_of s.line s.act content)) steps
+          (λ s is content. own-asks number s.line s.act content is) plain);
+      told = at-end number soft (end_reason steps) made ports (reverse left.receipts) within (subst (λ asks. AreReceipts soft asks (reverse left.receipts)) newest are);
+    }
+
+-- the tasks of the owner: its commands, and its end where that was put
+pub owner-tasks : (number ports : ℕ) (soft : List Bool) (program : Program) (left : ProcessLeft) (asked : OwnerAsked number ports soft program left)
+    → accepted number (calls_of ports program left).asks (calls_of ports program left).receipts
+    ≡ accepted number asked.made asked.told.rest ++ cond (is_put asked.told.end.outcome) (task_of (gone_ask asked.reason number) asked.told.end.outcome ∷ []) []
+owner-tasks number ports soft program left asked = ap (λ asks. accepted number asks (calls_of ports program left).receipts) asked.asks_are ∙ asked.told.tasks
+
+pub owner-commands : (number ports : ℕ) (soft : List Bool) (program : Program) (left : ProcessLeft) (asked : OwnerAsked number ports soft program left) → AreCommands (accepted number asked.made asked.told.rest)
+owner-commands number ports soft program left asked = tasks-all (λ s. is_plain_command s ≡ true) number asked.made asked.told.rest
+    (weaker (IsOwn number) (λ (a : Asked). (a.port == number) ≡ true → is_plain_command a.signal ≡ true) asked.made (λ a own same. (own same).0) asked.own)

@@ -1,0 +1,249 @@
+-- A run as a whole: what its ports and processes leave of a port that sends each command back.
+use Rattle.std.proofs.Common.{◌≡◌, ℕ, ◌+◌, ◌==◌, ◌<◌, ◌≤◌, zero, suc, Bool, true, false, cond, List, [], ◌∷◌, ◌++◌, length, get_or, Option, Some, None, refl, sym, ap, ◌∙◌, subst, arith, ⊎_elim, All}
+use Rattle.std.specs.Prelude.{reverse, slice_index, slice_index_or}
+use Rattle.std.specs.List.{AllByRecursion, flat_map}
+use Rattle.std.proofs.lemmas.Bool.{eqb-false, cases_lt, true_from_ne_false}
+use Rattle.std.proofs.lemmas.List.{append-nil, length-reverse, reverse-reverse}
+use Rattle.std.proofs.lemmas.List.Elements.{All-from_recursion, recursion_from_All}
+use Rattle.script_run.specs.run_opening.driver_hosts.declared.hosted.Hosted.{Hosted}
+use Rattle.script_run.specs.run_opening.driver_model.Calls.{Kind, Own}
+use Rattle.script_run.specs.run_opening.driver_model.Programs.{ToldProgram}
+use Rattle.script_run.specs.run_opening.driver_hosts.port_driver.declared.life.Life.{Life}
+use Rattle.script_run.specs.run_opening.port_body.LanePort.{rows_from}
+use Rattle.script_run.specs.run_opening.port_body.recorded_port.View.{stat_marks}
+use Rattle.echoed_history.specs.port_history.Counts.{late_commands, saved_of}
+use Rattle.echoed_history.specs.port_history.Mail.{mails}
+use Rattle.echoed_history.specs.port_history.Opening.{Opening}
+use Rattle.echoed_history.specs.port_history.State.{state}
+use Rattle.echoed_history.specs.port_history.port_model.declared.row.Row.{Row}
+use Rattle.echoed_history.specs.port_history.port_model.declared.signal.Sender.TheVariants.{Process}
+use Rattle.echoed_history.specs.port_history.port_model.Tasks.{TaskView}
+use Rattle.run_setting.specs.run_end.port_words.busy.Stat.{Rises}
+use Rattle.run_setting.specs.run_end.port_words.declared.busy.view.StatMark.{StatMark}
+use Rattle.process_end.specs.Ended.{gone_ask, gone_asks}
+use Rattle.run_setting.specs.run_end.process_job.Asks.{asks_of, calls_of as calls_of_steps, made_of}
+use Rattle.run_setting.specs.run_end.process_job.Mails.{Came, mail_from, is_source, readable}
+use Rattle.process_end.specs.process_receipts.Asks.{Asked, task_of}
+use Rattle.process_end.specs.process_receipts.Receipts.{AreReceipts, accepted, is_put, stats_shown}
+use Rattle.process_end.specs.process_receipts.declared.receipt.Receipt.{Receipt}
+use Rattle.run_setting.specs.run_end.Merge.{IsFromPort}
+use Rattle.run_setting.specs.run_end.Shown.{Calls, WordsHold}
+use Rattle.script_run.specs.run_opening.Opened.{limits_of, soft_at}
+use Rattle.run_setting.specs.run_seats.declared.plans.Program.{Program}
+use Rattle.run_setting.specs.declared.RunScript.{RunScript}
+use Rattle.run_setting.specs.Script.{IsRunnable}
+use Rattle.run_setting.specs.run_end.process_job.script_plan.declared.decl.PortDecl.{PortDecl}
+use Rattle.run_setting.specs.run_end.process_job.script_plan.declared.step.Step.{Step}
+use Rattle.run_setting.specs.run_end.process_job.script_plan.Plan.{IsWithin}
+use Rattle.script_run.specs.declared.running.PortLeft.{PortLeft}
+use Rattle.script_run.specs.declared.running.ProcessLeft.{ProcessLeft}
+use Rattle.script_run.specs.declared.running.ScriptRan.{ScriptRan}
+use Rattle.script_run.specs.Ran.{HasRun, IsFrom, PairHolds, PortServed, all_calls, calls_of, history_of, opening_of}
+use Rattle.echoed_commands.specs.Sending.{IsEchoPort, IsWithinLimits, IsShort, sends_back, sends_to, is_plain}
+use Rattle.echoed_commands.specs.Echoed.{AllIsEchoed, CommandsAreEchoed, EchoesAllTo, RefusesNoneOf, EchoesTo, NoneIsRefused, is_taken}
+use Rattle.echoed_history.specs.Commands.{AreCommands, AreEnds, EndsWith, OthersEnd, echoes, task_data}
+use Rattle.echoed_commands.proofs.Answered.{EachFor, IsShortAsk, made-put, made-taken, owner-taken}
+use Rattle.echoed_commands.proofs.Asked.{other-asks, steps-made}
+use Rattle.echoed_history.proofs.Lists.{reversed, weaker}
+use Rattle.echoed_commands.proofs.Content.{all-data}
+use Rattle.echoed_commands.proofs.Short.{made-few, short-asks}
+use Rattle.echoed_commands.proofs.Mailed.{AreNotFor, OthersSendNone, came-saved, mails-other, own-other, readable-other, readable-saved}
+use Rattle.echoed_commands.proofs.Owner.{OwnerAsked, at-calls, ends-alone, kind-echoes, late-reversed, many-calls, no-rows, owner-asked, owner-commands, owner-tasks}
+use Rattle.echoed_history.proofs.Serving.{HasServed, has-served, serves, unfinished}
+
+-- a port of a run that sends each command back, and that its owner alone sends commands
+module _ {D : Type 0} (kind : D → Kind) (stage : D → Life) (faults : D → ℕ) (own : D → Own) (program : D → Option ToldProgram) (script : RunScript) (old new : List (Hosted D)) (before : List ℕ)
+    (after : Option (List ℕ)) (ran : ScriptRan) (run : HasRun kind stage faults own program script old new before after ran) (number : ℕ) (d : PortDecl) (p : Program) (l : ProcessLeft) (o : PortLeft)
+    (within : number < length script.ports.items) (is : IsEchoPort number (slice_index_or script.ports.items number d) script.programs.items) where
+  abbrev ports : ℕ
+  ports = length script.ports.items
+
+  abbrev processes : ℕ
+  processes = length script.programs.items
+
+  abbrev decl : PortDecl
+  decl = slice_index_or script.ports.items number d
+
+  abbrev port : PortLeft
+  port = slice_index_or ran.ports.items number o
+
+  abbrev of_process : ℕ → Program
+  of_process s = slice_index_or script.programs.items s p
+
+  abbrev left : ℕ → ProcessLeft
+  left s = slice_index_or ran.processes.items s l
+
+  abbrev calls : ℕ → Calls
+  calls s = calls_of ports (of_process s) (left s)
+
+  abbrev host : Hosted D
+  host = record { port = None; driver = None }
+
+  abbrev served : PortServed kind own program script ran run.came number decl port (slice_index_or new (slice_index run.places number) host)
+  served = run.ports number d o host within
+
+  abbrev opening : Opening
+  opening = opening_of number processes (kind served.driver) decl port
+
+  abbrev history : List Row
+  history = history_of port
+
+  is-echo : echoes (kind served.driver) ≡ true
+  is-echo = kind-echoes (kind served.driver) (ap sends_back served.holds.named ∙ is.driver)
+
+  from : AllByRecursion (IsFrom processes script.workers) history
+  from = reversed (IsFrom processes script.workers) port.journal.rows (recursion_from_All (IsFrom processes script.workers) port.journal.rows served.holds.senders)
+
+  -- what the steps of a process send
+  sends : (s : ℕ) → s < processes → AllByRecursion (λ (step : Step). sends_to step.act ≡ Some number → (s ≡ decl.owner) × (is_plain step.act ≡ true)) (of_process s).steps.items
+  sends s below = recursion_from_All (λ (step : Step). sends_to step.act ≡ Some number → (s ≡ decl.owner) × (is_plain step.act ≡ true)) (of_process s).steps.items (is.sent s p below)
+
+  sends-none : (s : ℕ) → s < processes → (s ≡ decl.owner → ⊥)
+      → AllByRecursion (λ (step : Step). (content : List ℕ) → AllByRecursion (λ (a : Asked). (a.port == number) ≡ true → ⊥) (asks_of step.line step.act content)) (of_process s).steps.items
+  sends-none s below apart = weaker (λ (step : Step). sends_to step.act ≡ Some number → (s ≡ decl.owner) × (is_plain step.act ≡ true))
+      (λ (step : Step). (content : List ℕ) → AllByRecursion (λ (a : Asked). (a.port == number) ≡ true → ⊥) (asks_of step.line step.act content)) (of_process s).steps.items
+      (λ step sent content. other-asks number step.line step.act content (λ to. apart (sent to).0)) (sends s below)
+
+  others-end : OthersEnd decl.owner history
+  others-end s apart = ⊎_elim
+      (λ (below : s < processes). subst AreEnds (sym (served.pairs s p l below).tasks)
+      (ends-alone number ports (of_process s).steps.items (of_process s).files.items (left s).receipts (reverse (left s).receipts) (sends-none s below apart)))
+      (λ (absent : processes ≤ s). subst AreEnds (sym (no-rows s processes script.workers history from absent)) tt)
+      (cases_lt s processes)
+
+  -- the owner is a process of the run, since the port closed
+  is-there : decl.owner < processes
+  is-there = ⊎_elim
+      (λ (below : decl.owner < processes). below)
+      (λ (absent : processes ≤ decl.owner). absurd (unfinished opening history served.holds.finished
+      (serves opening history is-echo served.holds.lawful (subst AreCommands (sym (no-rows decl.owner processes script.workers history from absent)) tt) others-end)))
+      (cases_lt decl.owner processes)
+
+  receipts-are : AreReceipts (soft_at kind old run.places) (calls decl.owner).asks (calls decl.owner).receipts
+  receipts-are = (run.processes decl.owner p l is-there).receipts
+
+  pair : PairHolds number decl.owner processes (kind served.driver) decl port (calls decl.owner) (run.came decl.owner)
+  pair = served.pairs decl.owner p l is-there
+
+  asked : OwnerAsked number ports (soft_at kind old run.places) (of_process decl.owner) (left decl.owner)
+  asked = owner-asked number ports (soft_at kind old run.places) (of_process decl.owner) (left decl.owner) within receipts-are
+      (weaker (λ (step : Step). sends_to step.act ≡ Some number → (decl.owner ≡ decl.owner) × (is_plain step.act ≡ true)) (λ (step : Step). sends_to step.act ≡ Some number → is_plain step.act ≡ true)
+      (of_process decl.owner).steps.items (λ step sent to. (sent to).1) (sends decl.owner is-there))
+
+  abbrev commands : List TaskView
+  commands = accepted number asked.made asked.told.rest
+
+  abbrev gone : TaskView
+  gone = task_of (gone_ask asked.reason number) asked.told.end.outcome
+
+  tasks : rows_from (Process decl.owner) history ≡ commands ++ cond (is_put asked.told.end.outcome) (gone ∷ []) []
+  tasks = pair.tasks ∙ owner-tasks number ports (soft_at kind old run.places) (of_process decl.owner) (left decl.owner) asked
+
+  are-commands : AreCommands commands
+  are-commands = owner-commands number ports (soft_at kind old run.places) (of_process decl.owner) (left decl.owner) asked
+
+  -- the port was told of the owner's end, since it closed
+  was-told : is_put asked.told.end.outcome ≡ true
+  was-told = true_from_ne_false (is_put asked.told.end.outcome) (λ no. unfinished opening history served.holds.finished
+      (serves opening history is-echo served.holds.lawful
+      (subst AreCommands (sym (tasks ∙ ap (λ b. commands ++ cond b (gone ∷ []) []) no ∙ append-nil commands)) are-commands) others-end))
+
+  has : HasServed opening history
+  has = has-served opening commands gone history is-echo served.holds.lawful
+      (record { tasks = tasks ∙ ap (λ b. commands ++ cond b (gone ∷ []) []) was-told; commands_are = are-commands; gone_is = refl }) others-end
+
+  others-none : OthersSendNone ports number (run.came decl.owner)
+  others-none None other source = subst (AreNotFor number) (sym (run.processes decl.owner p l is-there).own) (own-other number (calls decl.owner).asks (calls decl.owner).receipts)
+  others-none (Some q) other source =
+      let servedq = run.ports q d o host source in
+      let openingq = opening_of q processes (kind servedq.driver) (slice_index_or script.ports.items q d) (slice_index_or ran.ports.items q o) in
+      let historyq = history_of (slice_index_or ran.ports.items q o) in
+      subst (AreNotFor number) (sym (servedq.pairs decl.owner p l is-there).mail)
+      (readable-other number (mails openingq decl.owner historyq) (mails-other number openingq decl.owner historyq (eqb-false q number other)))
+
+  saved : saved_of number (left decl.owner).mails.items ≡ flat_map task_data (accepted number (calls decl.owner).asks (calls decl.owner).receipts)
+  saved = ap (saved_of number) (run.processes decl.owner p l is-there).mails_are
+      ∙ came-saved ports number (run.came decl.owner) others-none
+      (recursion_from_All (λ (c : Came). IsFromPort ports c.from) (run.came decl.owner) ((run.processes decl.owner p l is-there).among (omega (arith, within))))
+      ∙ ap (saved_of number) pair.mail
+      ∙ readable-saved number (mails opening decl.owner history)
+      ∙ has.saved
+      ∙ ap (flat_map task_data) pair.tasks
+
+  abbrev marks : List StatMark
+  marks = stat_marks (state opening history).marks
+
+  rises : Rises marks 0 (stats_shown number (calls decl.owner).receipts)
+  rises =
+      let all = all_calls ports script.programs.items ran.processes.items in
+      let same = run.processes_many in
+      let many = many-calls ports script.programs.items ran.processes.items same in
+      let there = is-there in
+      let below : decl.owner < length ran.processes.items = omega (arith, there, same) in
+      let shown = served.words.shown decl.owner (calls decl.owner) (omega (arith, below, many)) in
+      (subst (WordsHold number (limits_of decl.config) marks all) (at-calls ports script.programs.items ran.processes.items decl.owner (calls decl.owner) p l same below) shown).rise
+
+  rest-taken : EachFor number is_taken asked.told.rest
+  rest-taken = made-taken number (soft_at kind old run.places) asked.reason asked.made (gone_asks asked.reason 0 ports ++ asked.made) (calls decl.owner).receipts marks asked.told was-told asked.own rises
+
+  pub echoes-to : EchoesTo script ran number decl.owner p o l
+  echoes-to = record {
+    taken = All-from_recursion (λ (r : Receipt). r.port ≡ number → is_taken r.outcome ≡ true) (calls decl.owner).receipts
+        (owner-taken number (soft_at kind old run.places) asked.reason asked.made (gone_asks asked.reason 0 ports ++ asked.made) (calls decl.owner).receipts asked.told was-told rest-taken);
+    saved = saved;
+    none_late = sym (late-reversed port.journal.rows) ∙ has.none_late;
+  }
+
+  steps-within : IsRunnable script → AllByRecursion (λ (step : Step). IsWithin processes ports step.act) (of_process decl.owner).steps.items
+  steps-within runnable = recursion_from_All (λ (step : Step). IsWithin processes ports step.act) (of_process decl.owner).steps.items (runnable.within decl.owner p is-there)
+
+  pub echoes-all : IsRunnable script → EchoesAllTo script ran number decl.owner p l
+  echoes-all runnable put =
+      saved
+      ∙ all-data number processes ports (soft_at kind old run.places) (of_process decl.owner).steps.items (of_process decl.owner).files.items (left decl.owner).receipts (omega (arith, within)) receipts-are
+      (steps-within runnable) (recursion_from_All (λ (r : Receipt). r.port ≡ number → is_put r.outcome ≡ true) (left decl.owner).receipts put)
+
+  short : IsRunnable script → AllByRecursion (λ (step : Step). IsShort number step.act) (of_process decl.owner).steps.items → AllByRecursion (IsShortAsk number) asked.made
+  short runnable small = subst (AllByRecursion (IsShortAsk number)) (sym asked.made_is)
+      (steps-made (IsShortAsk number) (of_process decl.owner).steps.items (of_process decl.owner).files.items (left decl.owner).receipts
+      (each (of_process decl.owner).steps.items (sends decl.owner is-there) small (steps-within runnable)))
+    where
+      each : (steps : List Step) → AllByRecursion (λ (step : Step). sends_to step.act ≡ Some number → (decl.owner ≡ decl.owner) × (is_plain step.act ≡ true)) steps
+          → AllByRecursion (λ (step : Step). IsShort number step.act) steps → AllByRecursion (λ (step : Step). IsWithin processes ports step.act) steps
+          → AllByRecursion (λ (step : Step). (content : List ℕ) → AllByRecursion (IsShortAsk number) (asks_of step.line step.act content)) steps
+      each [] sent small within' = tt
+      each (step ∷ steps) sent small within' =
+          (λ content. short-asks number processes ports step.line step.act content (λ to. (sent.0 to).1) small.0 within'.0, each steps sent.1 small.1 within'.1)
+
+  pub refuses-none : IsRunnable script → RefusesNoneOf script ran number decl.owner p l
+  refuses-none runnable small =
+      let steps = (of_process decl.owner).steps.items in
+      let receipts = (left decl.owner).receipts in
+      let made = made_of (calls_of_steps steps (of_process decl.owner).files.items) receipts in
+      let made_long : length asked.made ≡ length made = ap length asked.made_is ∙ length-reverse made in
+      let few = made-few (calls_of_steps steps (of_process decl.owner).files.items) receipts in
+      let few' = small.few in
+      let rest = made-put number (soft_at kind old run.places) asked.made asked.told.rest asked.told.made_are rest-taken
+      (short runnable (recursion_from_All (λ (step : Step). IsShort number step.act) steps small.short)) (omega (arith, made_long, few, few')) in
+      All-from_recursion (λ (r : Receipt). r.port ≡ number → is_put r.outcome ≡ true) receipts
+      (subst (EachFor number is_put) (reverse-reverse receipts)
+      (reversed (λ (r : Receipt). r.port ≡ number → is_put r.outcome ≡ true) (calls decl.owner).receipts (asked.told.each is_put rest was-told)))
+
+pub commands-are-echoed : {D : Type 0} (kind : D → Kind) (stage : D → Life) (faults : D → ℕ) (own : D → Own) (program : D → Option ToldProgram) → CommandsAreEchoed kind stage faults own program
+commands-are-echoed kind stage faults own program script old new before after ran run number d p o l within is =
+    echoes-to kind stage faults own program script old new before after ran run number d p l o within is
+
+-- what a port leaves, where none is asked for
+some-left : (lefts : List PortLeft) (k : ℕ) → k < length lefts → PortLeft
+some-left [] k below = absurd (omega (arith, below))
+some-left (left ∷ lefts) k below = left
+
+pub all-is-echoed : {D : Type 0} (kind : D → Kind) (stage : D → Life) (faults : D → ℕ) (own : D → Own) (program : D → Option ToldProgram) → AllIsEchoed kind stage faults own program
+all-is-echoed kind stage faults own program script old new before after ran run runnable number d p l within is =
+    let many = run.ports_many in
+    echoes-all kind stage faults own program script old new before after ran run number d p l (some-left ran.ports.items number (omega (arith, within, many))) within is runnable
+
+pub none-is-refused : {D : Type 0} (kind : D → Kind) (stage : D → Life) (faults : D → ℕ) (own : D → Own) (program : D → Option ToldProgram) → NoneIsRefused kind stage faults own program
+none-is-refused kind stage faults own program script old new before after ran run runnable number d p l within is =
+    let many = run.ports_many in
+    refuses-none kind stage faults own program script old new before after ran run number d p l (some-left ran.ports.items number (omega (arith, within, many))) within is runnable

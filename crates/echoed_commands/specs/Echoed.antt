@@ -1,0 +1,82 @@
+-- What the owner of a port finds that sends each command back, whatever the schedule.
+use Rattle.std.specs.Prelude.{◌≡◌, ℕ, ◌<◌, List, [], All, Bool, true, false, Option, length, slice_index_or}
+use Rattle.std.specs.List.{concat, flat_map}
+use Rattle.script_run.specs.run_opening.driver_model.Calls.{Kind, Own}
+use Rattle.script_run.specs.run_opening.driver_model.Programs.{ToldProgram}
+use Rattle.script_run.specs.run_opening.driver_hosts.declared.hosted.Hosted.{Hosted}
+use Rattle.script_run.specs.run_opening.driver_hosts.port_driver.declared.life.Life.{Life}
+use Rattle.echoed_history.specs.port_history.Counts.{late_commands, saved_of}
+use Rattle.echoed_history.specs.port_history.port_model.declared.signal.Signal.{Signal}
+use Rattle.echoed_history.specs.port_history.port_model.declared.signal.Signal.TheVariants.{Command}
+use Rattle.echoed_history.specs.port_history.port_model.Tasks.{TaskView}
+use Rattle.process_end.specs.process_receipts.declared.receipt.Outcome.{Outcome}
+use Rattle.process_end.specs.process_receipts.declared.receipt.Outcome.TheVariants.{Accepted, Suspended, TooLong, SentOut}
+use Rattle.process_end.specs.process_receipts.Receipts.{accepted, is_put}
+use Rattle.run_setting.specs.run_end.Shown.{Calls}
+use Rattle.run_setting.specs.run_seats.declared.plans.Program.{Program}
+use Rattle.run_setting.specs.declared.RunScript.{RunScript}
+use Rattle.run_setting.specs.Script.{IsRunnable}
+use Rattle.run_setting.specs.run_end.process_job.script_plan.declared.decl.PortDecl.{PortDecl}
+use Rattle.script_run.specs.declared.running.PortLeft.{PortLeft}
+use Rattle.script_run.specs.declared.running.ProcessLeft.{ProcessLeft}
+use Rattle.script_run.specs.declared.running.ScriptRan.{ScriptRan}
+use Rattle.script_run.specs.Ran.{HasRun, calls_of}
+use Rattle.echoed_history.specs.Commands.{task_data}
+use Rattle.echoed_commands.specs.Sending.{IsEchoPort, IsWithinLimits, all_sent_by}
+
+-- the call put its signal, or was refused for its size or since its process had made as many calls as it may
+abbrev pub is_taken : Outcome → Bool
+is_taken Accepted = true
+is_taken Suspended = true
+is_taken TooLong = true
+is_taken SentOut = true
+is_taken outcome = false
+
+-- No call of the owner for the port was refused as closed, dropped or not supported. What is saved of the port for its owner is the data of its commands that were accepted or suspended, in the order sent.
+-- No command came late
+pub record IsEchoed (number : ℕ) (calls : Calls) (port : PortLeft) (left : ProcessLeft) : Type 0 where
+  pub taken : All (λ r. r.port ≡ number → is_taken r.outcome ≡ true) calls.receipts
+  pub saved : saved_of number left.mails.items ≡ flat_map task_data (accepted number calls.asks calls.receipts)
+  pub none_late : late_commands port.journal.rows ≡ 0
+
+-- so it is with the port of this number and its owner in a run
+abbrev pub EchoesTo : RunScript → ScriptRan → ℕ → ℕ → Program → PortLeft → ProcessLeft → Type 0
+EchoesTo script ran number owner p port left =
+    IsEchoed number (calls_of (length script.ports.items) (slice_index_or script.programs.items owner p) (slice_index_or ran.processes.items owner left))
+    (slice_index_or ran.ports.items number port) (slice_index_or ran.processes.items owner left)
+
+-- where none of its owner's calls for the port was refused, all is saved that its steps send: the data of its `command` steps and the contents of its `file` steps, in their order
+abbrev pub EchoesAllTo : RunScript → ScriptRan → ℕ → ℕ → Program → ProcessLeft → Type 0
+EchoesAllTo script ran number owner p left = All (λ r. r.port ≡ number → is_put r.outcome ≡ true) (slice_index_or ran.processes.items owner left).receipts
+    → saved_of number (slice_index_or ran.processes.items owner left).mails.items
+    ≡ all_sent_by number (slice_index_or script.programs.items owner p).steps.items (slice_index_or script.programs.items owner p).files.items
+
+-- and none is refused where its owner makes few calls, and short ones
+abbrev pub RefusesNoneOf : RunScript → ScriptRan → ℕ → ℕ → Program → ProcessLeft → Type 0
+RefusesNoneOf script ran number owner p left = IsWithinLimits number (slice_index_or script.programs.items owner p)
+    → All (λ r. r.port ≡ number → is_put r.outcome ≡ true) (slice_index_or ran.processes.items owner left).receipts
+
+module _ {D : Type 0} (kind : D → Kind) (stage : D → Life) (faults : D → ℕ) (own : D → Own) (program : D → Option ToldProgram) where
+  -- in each run of a script a port that sends each command back does so, in order
+  abbrev pub CommandsAreEchoed : Type 0
+  CommandsAreEchoed = (script : RunScript) (old new : List (Hosted D)) (before : List ℕ) (after : Option (List ℕ)) (ran : ScriptRan)
+      → HasRun kind stage faults own program script old new before after ran
+      → (number : ℕ) (decl : PortDecl) (p : Program) (port : PortLeft) (left : ProcessLeft) → number < length script.ports.items
+      → IsEchoPort number (slice_index_or script.ports.items number decl) script.programs.items
+      → EchoesTo script ran number (slice_index_or script.ports.items number decl).owner p port left
+
+  -- it sends all back that the owner's steps send, where each call was put
+  abbrev pub AllIsEchoed : Type 0
+  AllIsEchoed = (script : RunScript) (old new : List (Hosted D)) (before : List ℕ) (after : Option (List ℕ)) (ran : ScriptRan)
+      → HasRun kind stage faults own program script old new before after ran → IsRunnable script
+      → (number : ℕ) (decl : PortDecl) (p : Program) (left : ProcessLeft) → number < length script.ports.items
+      → IsEchoPort number (slice_index_or script.ports.items number decl) script.programs.items
+      → EchoesAllTo script ran number (slice_index_or script.ports.items number decl).owner p left
+
+  -- and each call is put, where the owner makes few and short ones
+  abbrev pub NoneIsRefused : Type 0
+  NoneIsRefused = (script : RunScript) (old new : List (Hosted D)) (before : List ℕ) (after : Option (List ℕ)) (ran : ScriptRan)
+      → HasRun kind stage faults own program script old new before after ran → IsRunnable script
+      → (number : ℕ) (decl : PortDecl) (p : Program) (left : ProcessLeft) → number < length script.ports.items
+      → IsEchoPort number (slice_index_or script.ports.items number decl) script.programs.items
+      → RefusesNoneOf script ran number (slice_index_or script.ports.items number decl).owner p left

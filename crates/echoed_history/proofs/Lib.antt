@@ -1,0 +1,4 @@
+pub mod Lists
+pub mod Effects
+pub mod Rows
+pub mod Serving

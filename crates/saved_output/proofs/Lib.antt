@@ -1,0 +1,5 @@
+mod Lists
+mod Asks
+mod Came
+mod Tasks
+mod Runs

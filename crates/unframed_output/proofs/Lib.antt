@@ -1,0 +1,13 @@
+pub mod Equal
+pub mod Events
+pub mod Messages
+pub mod Calls
+pub mod Ends
+pub mod Rows
+pub mod Only
+pub mod Owners
+pub mod Mails
+pub mod Others
+pub mod Declared
+pub mod Input
+pub mod Whole

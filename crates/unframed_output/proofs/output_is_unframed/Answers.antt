@@ -1,0 +1,9 @@
+use Rattle.unframed_output.proofs.output_is_unframed.Goals as goal
+use Rattle.unframed_output.proofs.Mails.{output-is-saved}
+use Rattle.unframed_output.proofs.Rows.{output-is-unframed}
+
+pub returns-clause-messages : goal.returns-clause-messages
+returns-clause-messages c = output-is-unframed
+
+pub returns-clause-saved : goal.returns-clause-saved
+returns-clause-saved c = output-is-saved
