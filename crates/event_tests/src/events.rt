@@ -135,3 +135,32 @@ fn a_start_that_gives_up_and_a_selection_while_waiting_are_refused(
     }
     Ok(())
 }
+
+/// A selection for reading of each event below this one.
+fn selections(alloc: Global, count: u32) -> Result<Vec<Effect>, NoMemory> {
+    let mut effects = Vec::new(alloc);
+    for event in 0..count {
+        effects.push(selection(event, Dir::Read))?;
+    }
+    Ok(effects)
+}
+
+#[test]
+fn a_port_has_at_most_64_events(rt: HostRuntime) -> Result<(), Fail> {
+    let alloc = rt.alloc();
+    let (end, _lane) = lane::<PollAsk>(alloc, Snapshot::of(&()))?;
+    let too_many = selections(alloc, 65)?;
+    let mut events = PortEvents::new(3, end);
+    assert!(rt; events.start(&rt, alloc, too_many.as_slice()) == Err(StartFault::NoRoom));
+
+    let (end, _lane) = lane::<PollAsk>(alloc, Snapshot::of(&()))?;
+    let most = selections(alloc, 64)?;
+    let mut events = PortEvents::new(3, end);
+    assert!(rt; events.start(&rt, alloc, most.as_slice()).is_ok());
+    let next = [selection(64, Dir::Read)];
+    match events.note_handled(&rt, alloc, &Signal::Close, &next, RUNS) {
+        Ok(_) => assert!(rt; false),
+        Err(fault) => assert!(rt; fault == EventFault::NoRoom),
+    }
+    Ok(())
+}

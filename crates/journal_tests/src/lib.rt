@@ -2,4 +2,6 @@
 #![tactic(auto)]
 
 #[cfg(test)]
+mod bad_lines;
+#[cfg(test)]
 mod texts;

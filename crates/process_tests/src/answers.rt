@@ -73,3 +73,37 @@ fn a_busy_port_takes_force_where_its_driver_allows_it(rt: HostRuntime) -> Result
     assert!(rt; begins(&rt, proc, &forced));
     Ok(())
 }
+
+/// The receipt of a command that wasn't put, of line 1.
+fn refused(stat: Option<u64>, outcome: Outcome) -> Receipt {
+    Receipt {
+        line: 1,
+        port: 0,
+        seq: None,
+        stat,
+        msgq: None,
+        outcome,
+    }
+}
+
+#[test]
+fn a_closed_port_refuses_and_tells_how_many_marks_it_made(rt: HostRuntime) -> Result<(), Fail> {
+    let mut rig = set_up(rt.alloc(), no_limits(), false)?;
+    assert!(rt; rig.port.seat.mark(true) == 5 && rig.port.seat.mark_closed() == 11);
+    let (proc, refusal) = refuse(&rt, rt.alloc(), rig.proc, sent(1, 1, How::Plain))?;
+    assert!(rt; refusal == SendRefusal::Closed { mark: 2 });
+    assert!(rt; begins(&rt, proc, &refused(Some(11), Outcome::Closed)));
+    assert!(rt; rig.port.take(&rt).is_none());
+    Ok(())
+}
+
+#[test]
+fn a_refused_command_has_a_receipt(rt: HostRuntime) -> Result<(), Fail> {
+    let rig = set_up(rt.alloc(), no_limits(), false)?;
+    let (proc, _) = refuse(&rt, rt.alloc(), rig.proc, sent(1, 1, How::Force))?;
+    assert!(rt; begins(&rt, proc, &refused(None, Outcome::NotSupported)));
+    let rig = set_up(rt.alloc(), no_limits(), false)?;
+    let (proc, _) = refuse(&rt, rt.alloc(), rig.proc, sent(1, 262_144, How::Plain))?;
+    assert!(rt; begins(&rt, proc, &refused(None, Outcome::TooLong)));
+    Ok(())
+}

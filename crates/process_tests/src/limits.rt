@@ -53,13 +53,17 @@ fn link_often<R: Wait>(rt: &R, mut proc: Proc, times: u32) -> Result<Proc, SendR
     Ok(proc)
 }
 
-/// Whether a process that ends now has so many receipts, and the last one was accepted.
+/// Whether a process that ends now has so many receipts, the last one was accepted, and the first one that wasn't told that the process
+/// had made all its calls.
 fn has_made<R: Wait>(rt: &R, proc: Proc, calls: usize) -> bool {
     match proc.exit_process(rt, Reason::normal()) {
         Ok(end) => {
             let receipts = end.receipts.as_slice();
             let told = receipts.last().map(|receipt| receipt.outcome);
-            receipts.len() == calls && told == Some(Outcome::Accepted)
+            let refused = receipts.get(131_072).map(|receipt| receipt.outcome);
+            receipts.len() == calls
+                && told == Some(Outcome::Accepted)
+                && refused == Some(Outcome::SentOut)
         }
         Err(_) => false,
     }

@@ -8,7 +8,7 @@
 mod showing;
 mod vectors;
 
-use crate::vectors::{Tally, Verdict, check};
+use crate::vectors::{LineCounts, LineVerdict, check};
 use anyhow::{Context, Result};
 use std::process::ExitCode;
 use std::rt::{Env, Files};
@@ -37,14 +37,14 @@ fn input<R: Env + Files + Input + AllocGlobal>(rt: &R) -> Result<String> {
 }
 
 /// Checks each line, and prints those that are wrong.
-fn run<R: Print + AllocGlobal>(rt: &R, text: &str) -> Result<Tally> {
-    let mut tally = Tally::default();
+fn run<R: Print + AllocGlobal>(rt: &R, text: &str) -> Result<LineCounts> {
+    let mut tally = LineCounts::default();
     for (i, line) in text.lines().enumerate() {
         if line.is_empty() || line.starts_with('#') {
             continue;
         }
         let verdict = check(rt.alloc(), line)?;
-        if let Verdict::Wrong(found) = &verdict {
+        if let LineVerdict::Wrong(found) = &verdict {
             println!(rt; "line {}: {found}", i.saturating_add(1))?;
         }
         tally.count(&verdict);

@@ -5,7 +5,7 @@ use std::alloc::Global;
 
 /// How a line fared.
 #[derive(Debug, Drop)]
-pub enum Verdict {
+pub enum LineVerdict {
     /// The bytes are read, and are what is written of their term.
     Written,
     /// The bytes are read, and another spelling of their term is written.
@@ -18,27 +18,27 @@ pub enum Verdict {
 
 /// How many lines fared so.
 #[derive(Clone, Copy, Debug, Default)]
-pub struct Tally {
+pub struct LineCounts {
     pub written: u64,
     pub read: u64,
     pub refused: u64,
     pub wrong: u64,
 }
 
-impl Tally {
-    pub fn count(&mut self, verdict: &Verdict) {
+impl LineCounts {
+    pub fn count(&mut self, verdict: &LineVerdict) {
         let number = match verdict {
-            Verdict::Written => &mut self.written,
-            Verdict::Read => &mut self.read,
-            Verdict::Refused => &mut self.refused,
-            Verdict::Wrong(_) => &mut self.wrong,
+            LineVerdict::Written => &mut self.written,
+            LineVerdict::Read => &mut self.read,
+            LineVerdict::Refused => &mut self.refused,
+            LineVerdict::Wrong(_) => &mut self.wrong,
         };
         *number = number.saturating_add(1);
     }
 }
 
 /// Checks one line.
-pub fn check(alloc: Global, line: &str) -> Result<Verdict> {
+pub fn check(alloc: Global, line: &str) -> Result<LineVerdict> {
     let (digits, rest) = line.split_once('\t').context("a line of one column")?;
     let bytes = hex::decode(alloc, digits).context("bytes in hexadecimal")?;
     match rest.split_once('\t') {
@@ -48,35 +48,40 @@ pub fn check(alloc: Global, line: &str) -> Result<Verdict> {
 }
 
 /// Checks that the bytes are read as the term with that text, and that the writer chooses them or another spelling.
-fn check_accepted(alloc: Global, bytes: &[u8], text: &str, is_read_only: bool) -> Result<Verdict> {
+fn check_accepted(
+    alloc: Global,
+    bytes: &[u8],
+    text: &str,
+    is_read_only: bool,
+) -> Result<LineVerdict> {
     let term = match decode(alloc, bytes) {
         Ok(term) => term,
-        Err(fault) => return Ok(Verdict::Wrong(fault_text(alloc, fault)?)),
+        Err(fault) => return Ok(LineVerdict::Wrong(fault_text(alloc, fault)?)),
     };
     let found = term_text(alloc, &term)?;
     if found.as_str() != text {
-        return Ok(Verdict::Wrong(found));
+        return Ok(LineVerdict::Wrong(found));
     }
     let written = encode(alloc, &term)?;
     if (written.as_slice() == bytes) == is_read_only {
-        return Ok(Verdict::Wrong(hex::encode(alloc, written)?));
+        return Ok(LineVerdict::Wrong(hex::encode(alloc, written)?));
     }
     Ok(if is_read_only {
-        Verdict::Read
+        LineVerdict::Read
     } else {
-        Verdict::Written
+        LineVerdict::Written
     })
 }
 
 /// Checks that the bytes are refused with the fault of that text.
-fn check_refused(alloc: Global, bytes: &[u8], text: &str) -> Result<Verdict> {
+fn check_refused(alloc: Global, bytes: &[u8], text: &str) -> Result<LineVerdict> {
     let found = match decode(alloc, bytes) {
         Ok(term) => term_text(alloc, &term)?,
         Err(fault) => fault_text(alloc, fault)?,
     };
     if found.as_str() == text {
-        Ok(Verdict::Refused)
+        Ok(LineVerdict::Refused)
     } else {
-        Ok(Verdict::Wrong(found))
+        Ok(LineVerdict::Wrong(found))
     }
 }
