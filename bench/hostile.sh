@@ -20,7 +20,8 @@ room=$(mktemp -d)
 cases=0
 wrongs=0
 left_out=''
-seconds=30
+# How many seconds a run has. A program that is built with checks of memory needs more.
+seconds=${SECONDS_PER_RUN:-30}
 
 # Ends what is left of the programs that told their numbers.
 end_told() {
@@ -40,6 +41,8 @@ clean() {
     chmod -R u+rwx "$room" 2>/dev/null
     rm -rf "$room"
 }
+# A program that is ended by a signal leaves no image.
+ulimit -S -c 0
 trap clean EXIT
 trap 'exit 1' INT TERM HUP
 cd "$room" || exit 1
@@ -128,57 +131,97 @@ write_scripts() {
     chmod +x told
 }
 
+# What the other commands read and write: a check of the first script, a replay of its journal, and the load of 7.
+write_commands() {
+    printf 'ok processes=1 ports=1 steps=2\n' >check.out
+    printf '%s\n' 'journal 1' 'processes a' 'port p 0 echo msgq 4096 8192' 'h p0 0 command - 616263 ; ; data plain 616263' 'h p0 1 close ; ;' \
+        'm closed' end >rows
+    printf 'legal ports=1 rows=3\n' >replay.out
+    printf '%s\n' 'load number=7 commands=16000 late=0 bytes=522808' 'port q0 commands=4072 bytes=133173' 'port q1 commands=3954 bytes=129088' \
+        'port q2 commands=4050 bytes=131985' 'port q3 commands=3924 bytes=128562' >load.out
+}
+
+# The words of one of them.
+words_of() {
+    case $1 in
+    check) words=(check first) ;;
+    replay) words=(replay rows) ;;
+    load) words=(load 7) ;;
+    esac
+}
+
 # ---- standard input, output and error
 
-# Runs a script with some of the three closed, as the second word says.
+# Runs words with some of the three closed, as the first one says.
 run_closed() {
+    local streams=$1
+    shift
     (
         exec >out 2>err </dev/null
-        eval "exec $2"
-        exec timeout -k 5 "$seconds" "$program" run "$1"
+        eval "exec $streams"
+        exec timeout -k 5 "$seconds" "$program" "$@"
     )
     status=$?
 }
 
+# Words that write to their output, with each choice of closed streams. The name of the file tells what they write.
+write_closed() {
+    local name=$1
+    shift
+    run_closed '<&-' "$@"
+    must_end "$* with a closed input" 0 '' "$name"
+    run_closed '>&-' "$@"
+    must_end "$* with a closed output" 4 'gateway: write fault' nothing
+    run_closed '2>&-' "$@"
+    must_end "$* with closed errors" 0 '' "$name"
+    run_closed '<&- >&-' "$@"
+    must_end "$* with a closed input and output" 4 'gateway: write fault' nothing
+    run_closed '<&- 2>&-' "$@"
+    must_end "$* with a closed input and closed errors" 0 '' "$name"
+    run_closed '>&- 2>&-' "$@"
+    must_end "$* with a closed output and closed errors" 4 '' nothing
+    run_closed '<&- >&- 2>&-' "$@"
+    must_end "$* with all closed" 4 '' nothing
+    run_closed '1<&0' "$@"
+    must_end "$* with an output that is open for reading alone" 4 'gateway: write fault' nothing
+}
+
 closed_streams() {
-    local script
-    for script in first filter; do
-        run_closed $script '<&-'
-        must_end "$script with a closed input" 0 '' $script.out
-        run_closed $script '>&-'
-        must_end "$script with a closed output" 4 'gateway: write fault' nothing
-        run_closed $script '2>&-'
-        must_end "$script with closed errors" 0 '' $script.out
-        run_closed $script '<&- >&-'
-        must_end "$script with a closed input and output" 4 'gateway: write fault' nothing
-        run_closed $script '<&- 2>&-'
-        must_end "$script with a closed input and closed errors" 0 '' $script.out
-        run_closed $script '>&- 2>&-'
-        must_end "$script with a closed output and closed errors" 4 '' nothing
-        run_closed $script '<&- >&- 2>&-'
-        must_end "$script with all closed" 4 '' nothing
-        run_closed $script '1<&0'
-        must_end "$script with an output that is open for reading alone" 4 'gateway: write fault' nothing
+    local name words
+    for name in first filter; do
+        write_closed $name.out run $name
     done
-    run_closed bad '2>&-'
+    for name in check replay load; do
+        words_of $name
+        write_closed $name.out "${words[@]}"
+    done
+    run_closed '2>&-' run bad
     must_end 'a faulty script with closed errors' 2 '' nothing
-    run_closed bad '<&- >&- 2>&-'
+    run_closed '<&- >&- 2>&-' run bad
     must_end 'a faulty script with all closed' 2 '' nothing
 }
 
+# Words that write to their output, to a full device and to a reader that has gone.
+write_full() {
+    timeout -k 5 "$seconds" "$program" "$@" >/dev/full 2>err
+    status=$?
+    : >out
+    must_end "$* to a full device" 4 'gateway: write fault'
+    { sleep 0.2; timeout -k 5 "$seconds" "$program" "$@" 2>err; echo $? >status; } | true
+    status=$(cat status)
+    must_end "$* to a reader that has gone" 4 'gateway: write fault'
+    { sleep 0.2; (trap '' PIPE; timeout -k 5 "$seconds" "$program" "$@" 2>err); echo $? >status; } | true
+    status=$(cat status)
+    must_end "$* to a reader that has gone, with SIGPIPE ignored" 4 'gateway: write fault'
+}
+
 full_streams() {
-    local script
-    for script in first filter; do
-        timeout -k 5 "$seconds" "$program" run $script >/dev/full 2>err
-        status=$?
-        : >out
-        must_end "$script to a full device" 4 'gateway: write fault'
-        { sleep 0.2; timeout -k 5 "$seconds" "$program" run $script 2>err; echo $? >status; } | true
-        status=$(cat status)
-        must_end "$script to a reader that has gone" 4 'gateway: write fault'
-        { sleep 0.2; (trap '' PIPE; timeout -k 5 "$seconds" "$program" run $script 2>err); echo $? >status; } | true
-        status=$(cat status)
-        must_end "$script to a reader that has gone, with SIGPIPE ignored" 4 'gateway: write fault'
+    local name words
+    write_full run first
+    write_full run filter
+    for name in check replay load; do
+        words_of $name
+        write_full "${words[@]}"
     done
     : >err
     timeout -k 5 "$seconds" "$program" run bad >out 2>/dev/full
@@ -314,14 +357,14 @@ ended_well() {
 # Limits of threads: what needs none ends as ever, and a run that gets too few ends for want of memory, after ten seconds. Each limit is that of a user of its own.
 few_threads() {
     local threads script user most whole=0
-    for threads in 2 3 10 40 64 66 67 68 69 70 71 72 80; do
+    for threads in 2 3 4 6 8 9 10 11 12 13 14 15 16; do
         for script in bad first filter; do
             case $script in bad) user=64200 most=$seconds ;; first) user=64400 most=20 ;; *) user=64600 most=20 ;; esac
             run_limited threads.$threads.$script "-u $threads" $((user + threads)) $script "$most" 2>/dev/null &
         done
     done
     wait
-    for threads in 2 3 10 40 64 66 67 68 69 70 71 72 80; do
+    for threads in 2 3 4 6 8 9 10 11 12 13 14 15 16; do
         take_limited threads.$threads.bad
         must_end "a faulty script with $threads threads" 2 'gateway: script line 1: bad line' nothing
         for script in first filter; do
@@ -373,6 +416,132 @@ moving_scripts() {
     { kill $writer && wait $writer; } 2>/dev/null
 }
 
+# Pipes as the files of a script: what a step sends, what is saved, and the journal.
+piped_files() {
+    local reader
+    mkfifo given taken
+    head -c 300000 /dev/urandom >noise
+    cat noise >given &
+    timeout "$seconds" cat taken >copy &
+    reader=$!
+    run_lines 'process a' 'port p a echo' 'save a p "taken"' 'a file p 1000 "given"' 'a bytes p 300000' 'a close p'
+    must_end 'a file and a save that are pipes' 0 ''
+    wait $reader
+    must 'they are the same bytes' cmp -s noise copy
+    timeout "$seconds" cat taken >copy &
+    reader=$!
+    run_lines 'process a' 'port p a echo' 'journal "taken"' 'a command p "abc"' 'a close p'
+    must_end 'a journal that is a pipe' 0 '' first.out
+    wait $reader
+    must 'it is the whole journal' cmp -s rows copy
+    timeout "$seconds" head -c 1 taken >/dev/null &
+    reader=$!
+    run_lines 'process a' 'port p a echo' 'save a p "taken"' 'a file p 1000 "noise"' 'a bytes p 300000' 'a close p'
+    must_end 'a save to a pipe whose reader goes away' 4 'gateway: write fault' nothing
+    wait $reader
+    rm -f given taken copy noise
+}
+
+# ---- journals
+
+strange_journals() {
+    local name
+    mkdir -p folder
+    ln -sfn nowhere dangling
+    ln -sfn loop loop
+    for name in folder / missing first/x dangling loop /proc/self/mem; do
+        run replay "$name"
+        must_end "the journal $name" 3 'gateway: read fault at line 0' nothing
+    done
+    for name in empty /dev/null; do
+        run replay $name
+        must_end "the journal $name" 11 'gateway: journal text at byte 0' nothing
+    done
+    run replay /dev/zero
+    must_end 'a journal without an end' 10 'gateway: limit at line 0' nothing
+    truncate -s 268435456 huge
+    run replay huge
+    must_end 'a journal of 268,435,456 zeros' 11 'gateway: journal text at byte 0' nothing
+    for name in 268435457 1000G; do
+        truncate -s $name huge
+        run replay huge
+        must_end "a journal of $name bytes" 10 'gateway: limit at line 0' nothing
+    done
+    rm -f huge
+    mkfifo rows.pipe
+    cat rows >rows.pipe &
+    run replay rows.pipe
+    must_end 'a journal in a pipe' 0 '' replay.out
+    head -c 100 rows >rows.pipe &
+    run replay rows.pipe
+    must_end 'a journal whose writer goes away' 11 'gateway: journal text at byte 97' nothing
+    timeout -k 5 "$seconds" "$program" replay /dev/stdin <rows >out 2>err
+    status=$?
+    must_end 'a journal on the standard input' 0 '' replay.out
+}
+
+# The journal of a valve whose owner is suspended until another process frees it. Its port isn't closed.
+write_valve() {
+    printf '%s\n' 'journal 1' 'processes a b' 'port p 0 valve msgq 4096 8192' 'h p1 0 control 1 - ; ; busy 1, reply -' 'm busy' 's p0 0' \
+        'h p1 1 control 2 - ; ; busy 0, reply -' 'm free' 'r p0 0 1' 'h p0 0 command s 78 ; ; data plain 78' end >valve
+}
+
+# A journal that is cut behind each of its lines.
+cut_journals() {
+    local lines
+    write_valve
+    printf 'legal ports=0 rows=0\n' >none.out
+    for lines in {0..11}; do
+        head -n "$lines" valve >front
+        run replay front
+        case $lines in
+        2) must_end 'a journal without a port' 0 '' none.out ;;
+        11) must_end 'a journal whose port is not closed' 9 'gateway: port 0 row 7 breaks law 10' nothing ;;
+        *) must_end "a journal of $lines lines" 11 "gateway: journal text at byte $(wc -c <front)" nothing ;;
+        esac
+    done
+}
+
+# A journal with each of its bytes changed in turn into one that no line has: the line is bad in which it stands.
+changed_journals() {
+    local lines line begin=0 at
+    write_valve
+    mapfile -t lines <valve
+    for line in "${lines[@]}"; do
+        for ((at = begin; at <= begin + ${#line}; at++)); do
+            cp valve changed
+            printf '\xff' | dd of=changed bs=1 seek=$at conv=notrunc status=none
+            run replay changed
+            must_end "a journal with another byte $at" 11 "gateway: journal text at byte $begin" nothing
+        done
+        begin=$((begin + ${#line} + 1))
+    done
+}
+
+# A row with so many answers that no driver asked for, and nothing behind them.
+write_answers() {
+    printf 'journal 1\nprocesses a\nport p 0 echo msgq off\nh p0 0 close ; again'
+    yes ', again' | head -n $(($1 - 1)) | tr -d '\n'
+    printf ' ;\nend\n'
+}
+
+# Long lines of a journal.
+long_journals() {
+    write_answers 1048576 >long
+    run replay long
+    must_end 'a row of 1,048,576 answers' 9 'gateway: port 0 row 0 breaks law 4' nothing
+    write_answers 1048577 >long
+    run replay long
+    must_end 'a row of one answer more' 11 'gateway: journal text at byte 45' nothing
+    { head -c 45 long; printf 's p0 '; head -c 1000000 /dev/zero | tr '\0' 9; printf '\nend\n'; } >digits
+    run replay digits
+    must_end 'a number of 1,000,000 digits' 11 'gateway: journal text at byte 45' nothing
+    head -c 20000000 /dev/zero | tr '\0' a >long
+    run replay long
+    must_end 'a line of 20,000,000 bytes' 11 'gateway: journal text at byte 0' nothing
+    rm -f long digits
+}
+
 # ---- the words
 
 # The words behind the first one are wrong from word N, the first one, on.
@@ -386,7 +555,7 @@ usage_at() {
 strange_words() {
     local word many numbers
     usage_at 1
-    for word in '' ' ' - -- -h --help help Run RUN run1 ' run' 'run ' $'run\n' $'\xff' "$(printf '%131071s' '')"; do
+    for word in '' ' ' - -- -h --help help Run RUN run1 ' run' 'run ' $'run\n' checks Check replays LOAD $'\xff' "$(printf '%131071s' '')"; do
         usage_at 1 "$word"
         usage_at 1 "$word" first
     done
@@ -417,6 +586,38 @@ strange_words() {
         run run first 16 $word
         must_end "16 schedulers and $word workers" 0 '' first.out
     done
+    strange_commands
+}
+
+# The words of the other commands.
+strange_commands() {
+    local name word
+    for name in check replay; do
+        usage_at 2 $name
+        for word in '' - -- -x -rows $'\xff' $'\xc0\xaf'; do
+            usage_at 2 $name "$word"
+            usage_at 2 $name "$word" first
+            usage_at 3 $name first "$word"
+        done
+        usage_at 3 $name first first
+        usage_at 3 $name first 1 1
+    done
+    usage_at 2 load
+    for word in '' ' ' - -1 +1 1x x1 ' 1' '1 ' 0x1 1.0 1e0 one $'\xff' 18446744073709551616 000000000000000000001 "$(printf '%131071s' '' | tr ' ' 0)"; do
+        usage_at 2 load "$word"
+        usage_at 2 load "$word" 1 1
+        usage_at 3 load 7 "$word"
+        usage_at 4 load 7 1 "$word"
+    done
+    usage_at 3 load 7 0
+    usage_at 3 load 7 17
+    usage_at 4 load 7 1 9
+    usage_at 5 load 7 1 1 1
+    run load 00000000000000000007 16 8
+    must_end 'a load whose number has 20 digits' 0 '' load.out
+    run load 18446744073709551615 1 1
+    must_end 'the load of the greatest number' 0 ''
+    must 'all its commands are handled' grep -q '^load number=18446744073709551615 commands=16000 late=0 bytes=' out
 }
 
 # ---- signals
@@ -449,7 +650,7 @@ end_of_waiting() {
 
 signals() {
     local signal
-    for signal in HUP:1 INT:2 KILL:9 TERM:15; do
+    for signal in HUP:1 INT:2 QUIT:3 KILL:9 USR1:10 ALRM:14 TERM:15; do
         is_ignored "${signal#*:}" && continue
         must 'two programs start' start_waiting
         kill -"${signal%:*}" "$pid"
@@ -462,11 +663,12 @@ signals() {
     kill -STOP "$pid"
     sleep 0.2
     kill -CONT "$pid"
+    kill -PIPE "$pid"
     # One of its programs is ended, and a wait for data of it ends.
     kill -9 "$(head -n 1 pids)"
     kill -9 "$(tail -n 1 pids)"
     end_of_waiting
-    must_end 'its programs are ended by SIGKILL, after it was stopped and continued' 0 ''
+    must_end 'its programs are ended by SIGKILL, after it was stopped and continued and sent SIGPIPE' 0 ''
     must 'both ports have ended' test "$(grep -c 'driver=spawn commands=0 late=0 bytes=0 end=normal' out)" -eq 2
     rm -f pids
 }
@@ -538,6 +740,27 @@ endless_programs() {
     run_lines 'process a' 'port p a spawn run "cat /dev/zero" line 262143' 'a expect p 1000000'
     must_end 'zeros without an end' 0 ''
     must 'its port has failed for too many bytes' grep -q 'end=enospc$' out
+}
+
+# Programs that write as much as a port takes, a byte more, and a packet of the most bytes.
+most_bytes() {
+    local size
+    run_lines 'process a' 'port p a spawn run "head -c 33554432 /dev/zero"' 'save a p "saved"' 'a bytes p 33554433'
+    must_end 'a program of 33,554,432 bytes' 0 ''
+    must 'its port has ended' grep -q '^port p driver=spawn commands=0 late=0 bytes=0 end=normal$' out
+    must 'all its bytes came' test "$(wc -c <saved)" -eq 33554432
+    run_lines 'process a' 'port p a spawn run "head -c 33554433 /dev/zero"' 'save a p "saved"' 'a bytes p 33554433'
+    must_end 'a program of one byte more' 0 ''
+    must 'its port has failed for too many bytes' grep -q '^port p driver=spawn commands=0 late=0 bytes=0 end=enospc$' out
+    size=$(wc -c <saved)
+    must 'all but the bytes of one fetch came' test $((33554433 - size)) -ge 1 -a $((33554433 - size)) -le 65536
+    printf '#!/bin/sh\nprintf "\\000\\003\\377\\377"\nexec head -c 262143 /dev/zero\n' >packet
+    chmod +x packet
+    run_lines 'process a' 'port p a spawn run "./packet" packet 4' 'save a p "saved"' 'a expect p 2'
+    must_end 'a program of one packet of 262,143 bytes' 0 ''
+    must 'its port has ended' grep -q 'end=normal$' out
+    must 'the packet came' test "$(wc -c <saved)" -eq 262143
+    rm -f saved
 }
 
 # Programs that don't read, die, or close their pipes.
@@ -653,11 +876,11 @@ idle_waits() {
 
 # ---- want of memory
 
-# Whether a script runs under a limit of so many kilobytes of address space.
+# Whether a script with a program runs under a limit of so many kilobytes of address space. Each thread wants some tens of megabytes of it.
 runs_within() {
-    (ulimit -v "$1" && exec timeout -k 1 2 "$program" run first 1 1) >out 2>err </dev/null
+    (ulimit -v "$1" && exec timeout -k 1 2 "$program" run filter 1 1) >out 2>err </dev/null
     status=$?
-    [ "$status" -eq 0 ]
+    [ "$status" -eq 0 ] && cmp -s out filter.out
 }
 
 # The least limit of address space under which a script runs, to 8 megabytes. None is found for a program that wants very much from the start.
@@ -685,6 +908,15 @@ large_headers() {
         must_end "the header $header" 0 ''
         must 'its port has failed for its length' grep -q '^port p driver=spawn commands=0 late=0 bytes=0 end=emsgsize$' out
     done
+}
+
+# A journal of 268,435,456 bytes, 64 megabytes above the need of the start.
+large_journal() {
+    truncate -s 268435456 huge
+    (ulimit -v $((least + 65536)) && exec timeout -k 5 "$seconds" "$program" replay huge) >out 2>err </dev/null
+    status=$?
+    must_end 'a journal of 268,435,456 bytes with 64 megabytes' 8 'gateway: no memory' nothing
+    rm -f huge
 }
 
 # Whether the program is loaded under a limit of so many kilobytes.
@@ -718,6 +950,7 @@ refused_memory() {
 little_memory() {
     if least_limit; then
         large_headers
+        large_journal
         refused_memory
     else
         left_out="$left_out limits of memory,"
@@ -726,10 +959,12 @@ little_memory() {
 
 # ---- all of it
 
-parts=(closed_streams full_streams small_files few_files strange_scripts other_user moving_scripts strange_words signals many_programs endless_programs
-    bad_programs few_variables kept_bytes large_files idle_waits little_memory check_table)
+parts=(closed_streams full_streams small_files few_files strange_scripts other_user moving_scripts piped_files strange_journals cut_journals
+    changed_journals long_journals strange_words signals many_programs endless_programs most_bytes bad_programs few_variables kept_bytes large_files idle_waits
+    little_memory check_table)
 [ $# -eq 0 ] || parts=("$@")
 write_scripts
+write_commands
 run run first
 must_end 'a script' 0 '' first.out
 for part in "${parts[@]}"; do

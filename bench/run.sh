@@ -20,6 +20,8 @@
 #     gateway_run                                                   whole runs of the program
 #     gateway_replay                                                whole replays of the journals of such runs
 #
+# bench/beside_erlang.py times whole runs beside the same work by Erlang/OTP.
+#
 # The rows of `schedulers` are of 1, 2 and 4 schedulers, each of as many commands, and have more words at their end. The row of `schedulers_idle` has its
 # own form. crates/port_bench/src/main.rt tells both.
 #

@@ -1,0 +1,159 @@
+#!/usr/bin/env python3
+"""Times whole runs of the program, and the same work by Erlang/OTP where `erl` is there, in one run.
+
+  bench/beside_erlang.py PROGRAM [RUNS]
+
+PROGRAM is the built program; a gate leaves one in crates/gateway_cli/out/gateway_cli. Each figure is the median of RUNS runs, 15 if nothing is said, made by turns. A row
+has a name, the project's figure, that of Erlang/OTP, and the project's in percent of it. Nothing checks a figure.
+
+  load_1, load_4       16,000 commands of 8 processes at 4 echo ports, with 1 and 4 schedulers, in microseconds: `load 7` less a run of the same processes and
+                       ports without commands; by Erlang/OTP from the first command to the last data, with a linked-in driver in C
+  load_process         `load 7` with 1 scheduler, the whole process, in microseconds; and that of `erl`
+  growth               131,072 commands of 8 bytes at an echo port in percent of 16,384
+  memory               bytes that a run keeps a command, from the difference of the two
+  replay               the journal of 16,000 commands replayed, the whole process, in microseconds
+  cat_stream, cat_line 33,554,432 bytes in lines through `cat` in stream mode and as lines, and saved, in microseconds
+  cat_floor            the same bytes through `cat` by two pipes in C
+  cat_memory           the most memory of the run in stream mode, in percent of the file
+  wait                 processor time of a run that waits five seconds for a slow program, in microseconds
+"""
+import os
+import shutil
+import statistics
+import subprocess
+import sys
+import tempfile
+import time
+
+HERE = os.path.dirname(os.path.abspath(__file__))
+SIZE = 33_554_432
+
+
+def run(words, **how):
+    """Runs a process: its microseconds, its microseconds of processor time, and its most memory in bytes."""
+    began = time.perf_counter()
+    child = subprocess.Popen(words, stdout=subprocess.DEVNULL, **how)
+    _, status, used = os.wait4(child.pid, 0)
+    child.returncode = os.waitstatus_to_exitcode(status)
+    took = (time.perf_counter() - began) * 1e6
+    if child.returncode:
+        sys.exit(f"{' '.join(words)} ended with status {child.returncode}")
+    return took, (used.ru_utime + used.ru_stime) * 1e6, used.ru_maxrss * 1024
+
+
+def median(runs, words, part=0, **how):
+    return statistics.median(run(words, **how)[part] for _ in range(runs))
+
+
+def row(name, ours, theirs=None):
+    ratio = f" {ours * 100 / theirs:.0f}" if theirs else ""
+    print(f"{name} {ours:.0f} {f'{theirs:.0f}' if theirs else '-'}{ratio}", flush=True)
+
+
+def write(name, text):
+    with open(name, "w", encoding="ascii") as it:
+        it.write(text)
+    return name
+
+
+def commands(count, journal=""):
+    """A script of one process that sends so many commands of 8 bytes, the pieces of a file, to an echo port, and waits for what comes back."""
+    write(f"bytes{count}", "abcdefgh" * count)
+    lines = [journal] * bool(journal) + ["process a", "port p a echo msgq off", f'a file p 8 "bytes{count}"', f"a expect p {count}"]
+    return "\n".join(lines) + "\n"
+
+
+def lines_of(size):
+    """So many bytes in lines of 0 to 80 bytes, the same each time."""
+    x, parts, left = 20, [], size
+    text = bytes(32 + at % 95 for at in range(400))
+    while left:
+        x = (x * 6364136223846793005 + 1442695040888963407) % 2**64
+        length, at = min((x >> 33) % 81, left - 1), (x >> 45) % 95
+        parts.append(text[at : at + length] + b"\n")
+        left -= length + 1
+    return b"".join(parts)
+
+
+class Erlang:
+    """The same work by Erlang/OTP, built in the folder of this run; without `erl` it tells nothing."""
+
+    def __init__(self):
+        self.found = all(map(shutil.which, ("erl", "erlc", "gcc")))
+        if self.found:
+            root = os.path.dirname(os.path.dirname(os.path.realpath(shutil.which("erl"))))
+            build = ["gcc", "-O2", "-fPIC", "-shared", f"-I{root}/usr/include", "-o", "echo.so", f"{HERE}/erlang/echo.c"]
+            subprocess.run(build, check=True)
+            subprocess.run(["erlc", f"{HERE}/erlang/load.erl", f"{HERE}/erlang/filter.erl"], check=True)
+
+    def words(self, schedulers, module, *words):
+        return ["erl", "-noshell", "+S", f"{schedulers}:{schedulers}", "-s", module, "main", "-extra", *map(str, words)]
+
+    def told(self, schedulers, module, *words):
+        """The figure that a module prints."""
+        if not self.found:
+            return None
+        return float(subprocess.run(self.words(schedulers, module, *words), check=True, capture_output=True, text=True).stdout)
+
+
+def time_load(program, runs, erlang):
+    parts = [f"process a{at}" for at in range(8)] + [f"port q{at} a{at} echo" for at in range(4)]
+    empty = write("empty.txt", "\n".join(parts) + "\n")
+    for schedulers in ("1", "4"):
+        whole = median(runs, [program, "load", "7", schedulers, "1"])
+        start = median(runs, [program, "run", empty, schedulers, "1"])
+        row(f"load_{schedulers}", whole - start, erlang.told(schedulers, "load", 7, runs))
+        if schedulers == "1":
+            row("load_process", whole, median(runs, erlang.words(1, "load", 7, 1)) if erlang.found else None)
+
+
+def time_growth(program, runs):
+    few, many = write("few.txt", commands(16_384)), write("many.txt", commands(131_072))
+    row("growth", median(runs, [program, "run", many, "1", "1"]) * 100 / median(runs, [program, "run", few, "1", "1"]))
+    more = median(3, [program, "run", many, "1", "1"], 2) - median(3, [program, "run", few, "1", "1"], 2)
+    row("memory", more / (131_072 - 16_384))
+
+
+def time_replay(program, runs):
+    run([program, "run", write("journal.txt", commands(16_000, 'journal "journal"'))])
+    row("replay", median(runs, [program, "replay", "journal"]))
+
+
+def time_cat(program, runs, erlang):
+    with open("in.txt", "wb") as it:
+        it.write(lines_of(SIZE))
+    for name, option in (("stream", "stream"), ("line", "line 80")):
+        port = f'process a\nport p a spawn run "cat" {option} msgq off busy 65536 131072\nsave a p "out.txt"\n'
+        wait = f"bytes p {SIZE}" if name == "stream" else f"bytes p {SIZE - open('in.txt', 'rb').read().count(10)}"
+        script = write(f"{name}.txt", f'{port}a file p 65536 "in.txt"\na {wait}\na close p\n')
+        row(f"cat_{name}", median(runs, [program, "run", script]), erlang.told(1, "filter", name, "in.txt", min(runs, 5)))
+        if open("in.txt", "rb").read() != open("out.txt", "rb").read():
+            sys.exit(f"the file that came back as {name} isn't the same")
+    row("cat_memory", median(3, [program, "run", "stream.txt"], 2) * 100 / SIZE)
+    subprocess.run(["gcc", "-O2", "-o", "pump", f"{HERE}/erlang/pump.c"], check=True)
+    row("cat_floor", median(runs, ["./pump", "in.txt", "floor.txt"]))
+
+
+def time_wait(program):
+    slow = 'process a\nport p a spawn run "sh slow.sh"\na command p "abc"\na bytes p 3\na close p\n'
+    write("slow.sh", "sleep 5\ncat\n")
+    row("wait", median(3, [program, "run", write("wait.txt", slow)], 1))
+
+
+def main(program, runs):
+    program = os.path.realpath(program)
+    with tempfile.TemporaryDirectory() as folder:
+        os.chdir(folder)
+        erlang = Erlang()
+        time_load(program, runs, erlang)
+        time_growth(program, runs)
+        time_replay(program, runs)
+        time_cat(program, runs, erlang)
+        time_wait(program)
+        os.chdir("/")
+
+
+if __name__ == "__main__":
+    if len(sys.argv) < 2:
+        sys.exit(__doc__)
+    main(sys.argv[1], int(sys.argv[2]) if len(sys.argv) > 2 else 15)
