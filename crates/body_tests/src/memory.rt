@@ -1,0 +1,380 @@
+//! Callbacks that find no memory.
+ghost use Rattle.std.specs.Prelude.{◌≡◌, IfOk};
+
+use crate::acts::PortAct;
+use crate::rig::{PlayOptions, QueueChoice, framed, limited, play};
+use journal_text::{Config, Mode, Reason};
+use outside::{MemProgram, MemSpawner};
+use port_body::{Driver, NoMemory, StartRefusal};
+use port_driver::{DriverCtx, Life, ReplyTo};
+use port_model::{IoVec, Piece};
+use process_end::How;
+use sample_drivers::{Digest, Echo, Store, Tally};
+use spawn_driver::{SpawnDriver, spawn_driver};
+use std::alloc::Global;
+use std::sync::Wait;
+use std::test::Fail;
+
+/// A callback of a driver.
+#[derive(Clone, Copy, PartialEq, Eq)]
+enum WantingCallback {
+    Outputv,
+    Control,
+    Call,
+    ReadyInput,
+    ReadyOutput,
+    ReadyAsync,
+    ProcessExit,
+    Flush,
+}
+
+/// A driver of whose callbacks one finds no memory.
+#[derive(Drop)]
+struct Wanting<D: Driver> {
+    driver: D,
+    callback: WantingCallback,
+}
+
+/// A driver that finds no memory in this callback.
+fn without_memory<D: Driver>(driver: D, callback: WantingCallback) -> Wanting<D>
+    ensures { result.driver ≡ driver }
+{
+    Wanting { driver, callback }
+}
+
+impl<D: Driver> Driver for Wanting<D> {
+    ghost kind = { λ w. D.kind w.driver };
+
+    ghost own = { λ w. D.own w.driver };
+
+    ghost stage = { λ w. D.stage w.driver };
+
+    ghost faults = { λ w. D.faults w.driver };
+
+    ghost program = { λ w. D.program w.driver };
+
+    fn name(&self) -> Reason {
+        self.driver.name()
+    }
+
+    fn soft_busy(&self) -> bool {
+        self.driver.soft_busy()
+    }
+
+    fn events(&self) -> (u32, u32) {
+        self.driver.events()
+    }
+
+    fn life(&self) -> Life {
+        self.driver.life()
+    }
+
+    fn start(
+        &mut self,
+        alloc: Global,
+        ctx: &mut DriverCtx,
+        config: &Config,
+    ) -> Result<(), StartRefusal> {
+        self.driver.start(alloc, ctx, config)
+    }
+
+    fn outputv(
+        &mut self,
+        alloc: Global,
+        ctx: &mut DriverCtx,
+        payload: &IoVec,
+    ) -> Result<(), NoMemory> {
+        if self.callback == WantingCallback::Outputv {
+            return Err(NoMemory);
+        }
+        self.driver.outputv(alloc, ctx, payload)
+    }
+
+    fn control(
+        &mut self,
+        alloc: Global,
+        ctx: &mut DriverCtx,
+        op: u32,
+        bytes: &Piece,
+    ) -> Result<ReplyTo, NoMemory> {
+        if self.callback == WantingCallback::Control {
+            return Err(NoMemory);
+        }
+        self.driver.control(alloc, ctx, op, bytes)
+    }
+
+    fn call(
+        &mut self,
+        alloc: Global,
+        ctx: &mut DriverCtx,
+        op: u32,
+        bytes: &Piece,
+    ) -> Result<ReplyTo, NoMemory> {
+        if self.callback == WantingCallback::Call {
+            return Err(NoMemory);
+        }
+        self.driver.call(alloc, ctx, op, bytes)
+    }
+
+    fn ready_input(
+        &mut self,
+        alloc: Global,
+        ctx: &mut DriverCtx,
+        event: u32,
+    ) -> Result<(), NoMemory> {
+        if self.callback == WantingCallback::ReadyInput {
+            return Err(NoMemory);
+        }
+        self.driver.ready_input(alloc, ctx, event)
+    }
+
+    fn ready_output(
+        &mut self,
+        alloc: Global,
+        ctx: &mut DriverCtx,
+        event: u32,
+    ) -> Result<(), NoMemory> {
+        if self.callback == WantingCallback::ReadyOutput {
+            return Err(NoMemory);
+        }
+        self.driver.ready_output(alloc, ctx, event)
+    }
+
+    fn ready_async(
+        &mut self,
+        alloc: Global,
+        ctx: &mut DriverCtx,
+        number: u64,
+        output: &Piece,
+    ) -> Result<(), NoMemory> {
+        if self.callback == WantingCallback::ReadyAsync {
+            return Err(NoMemory);
+        }
+        self.driver.ready_async(alloc, ctx, number, output)
+    }
+
+    fn process_exit(
+        &mut self,
+        alloc: Global,
+        ctx: &mut DriverCtx,
+        process: u32,
+    ) -> Result<(), NoMemory> {
+        if self.callback == WantingCallback::ProcessExit {
+            return Err(NoMemory);
+        }
+        self.driver.process_exit(alloc, ctx, process)
+    }
+
+    fn flush(&mut self, alloc: Global, ctx: &mut DriverCtx) -> Result<(), NoMemory> {
+        if self.callback == WantingCallback::Flush {
+            return Err(NoMemory);
+        }
+        self.driver.flush(alloc, ctx)
+    }
+
+    fn stop_select(&mut self, event: u32) {
+        self.driver.stop_select(event);
+    }
+
+    fn stop(&mut self) {
+        self.driver.stop();
+    }
+}
+
+/// Whether the last two turns of these acts find no memory, the port has these rows, and its driver is stopped at the end.
+fn breaks<D: Driver, R: Wait>(
+    rt: &R,
+    alloc: Global,
+    driver: Wanting<D>,
+    options: PlayOptions,
+    acts: &[PortAct],
+    rows: &str,
+) -> Result<bool, Fail>
+    requires { D.stage driver.driver ≡ Life.Fresh }
+{
+    let told = play(rt, alloc, driver, options, acts)?;
+    let breaks = told.acts.as_str().ends_with("no memory\nno memory\n");
+    Ok(breaks && told.rows.as_str() == rows && told.stopped)
+}
+
+#[test]
+fn a_command_that_finds_no_memory_breaks_its_port(rt: HostRuntime) -> Result<(), Fail> {
+    let acts = [
+        PortAct::Command(0, How::Plain, b"x"),
+        PortAct::Turn(64),
+        PortAct::Turn(64),
+    ];
+    let options = limited(QueueChoice::Usual);
+    assert!(rt;
+        breaks(
+            &rt,
+            rt.alloc(),
+            without_memory(Echo::new(), WantingCallback::Outputv),
+            options,
+            &acts,
+            ""
+        )?
+    );
+    Ok(())
+}
+
+#[test]
+fn a_control_that_finds_no_memory_breaks_its_port(rt: HostRuntime) -> Result<(), Fail> {
+    let acts = [PortAct::Control(0, 1), PortAct::Turn(64), PortAct::Turn(64)];
+    let options = limited(QueueChoice::Usual);
+    assert!(rt;
+        breaks(
+            &rt,
+            rt.alloc(),
+            without_memory(Echo::new(), WantingCallback::Control),
+            options,
+            &acts,
+            ""
+        )?
+    );
+    Ok(())
+}
+
+#[test]
+fn a_call_that_finds_no_memory_breaks_its_port(rt: HostRuntime) -> Result<(), Fail> {
+    let acts = [PortAct::Call(0, 1), PortAct::Turn(64), PortAct::Turn(64)];
+    let options = limited(QueueChoice::Usual);
+    assert!(rt;
+        breaks(
+            &rt,
+            rt.alloc(),
+            without_memory(Echo::new(), WantingCallback::Call),
+            options,
+            &acts,
+            ""
+        )?
+    );
+    Ok(())
+}
+
+#[test]
+fn the_end_of_a_watched_process_that_finds_no_memory_breaks_its_port(
+    rt: HostRuntime,
+) -> Result<(), Fail> {
+    let acts = [
+        PortAct::Control(1, 2),
+        PortAct::End(1, b"normal"),
+        PortAct::Turn(64),
+        PortAct::Turn(64),
+    ];
+    let rows = "h p1 0 control 2 - ; ; watch 1, reply -\n";
+    let options = limited(QueueChoice::Usual);
+    assert!(rt;
+        breaks(
+            &rt,
+            rt.alloc(),
+            without_memory(Tally::new(), WantingCallback::ProcessExit),
+            options,
+            &acts,
+            rows
+        )?
+    );
+    Ok(())
+}
+
+#[test]
+fn a_flush_that_finds_no_memory_breaks_its_port(rt: HostRuntime) -> Result<(), Fail> {
+    let acts = [
+        PortAct::Command(0, How::Plain, b"x"),
+        PortAct::Close(0),
+        PortAct::Turn(64),
+        PortAct::Turn(64),
+    ];
+    let rows = "h p0 0 command - 78 ; ;\n";
+    let options = limited(QueueChoice::Usual);
+    assert!(rt;
+        breaks(
+            &rt,
+            rt.alloc(),
+            without_memory(Store::new(), WantingCallback::Flush),
+            options,
+            &acts,
+            rows
+        )?
+    );
+    Ok(())
+}
+
+#[test]
+fn a_job_that_finds_no_memory_breaks_its_port(rt: HostRuntime) -> Result<(), Fail> {
+    let acts = [
+        PortAct::Command(0, How::Plain, b"\x00\x01x"),
+        PortAct::Turn(64),
+        PortAct::Work(0),
+        PortAct::Turn(64),
+        PortAct::Turn(64),
+    ];
+    let rows = "h p0 0 command - 000178 ; ; async 0 0 1 78\n";
+    let options = limited(QueueChoice::Usual);
+    assert!(rt;
+        breaks(
+            &rt,
+            rt.alloc(),
+            without_memory(Digest::new(), WantingCallback::ReadyAsync),
+            options,
+            &acts,
+            rows
+        )?
+    );
+    Ok(())
+}
+
+/// A driver of a program that gives nothing.
+fn program(alloc: Global) -> Result<SpawnDriver<MemSpawner>, Fail>
+    ensures { IfOk result (λ driver. driver.life ≡ Life.Fresh) }
+{
+    let mut spawner = MemSpawner::new(alloc, 0);
+    spawner.add(MemProgram::new(alloc, 1))?;
+    Ok(spawn_driver(spawner))
+}
+
+#[test]
+fn a_readiness_that_finds_no_memory_breaks_its_port(rt: HostRuntime) -> Result<(), Fail> {
+    let alloc = rt.alloc();
+    let options = framed(Mode::Stream);
+    let reads = [PortAct::Poll, PortAct::Turn(64), PortAct::Turn(64)];
+    assert!(rt;
+        breaks(
+            &rt,
+            alloc,
+            without_memory(program(alloc)?, WantingCallback::ReadyInput),
+            options,
+            &reads,
+            ""
+        )?
+    );
+    Ok(())
+}
+
+#[test]
+fn room_that_finds_no_memory_breaks_its_port(rt: HostRuntime) -> Result<(), Fail> {
+    let alloc = rt.alloc();
+    let acts = [
+        PortAct::Command(0, How::Plain, b"x"),
+        PortAct::Turn(64),
+        PortAct::Poll,
+        PortAct::Turn(64),
+        PortAct::Turn(64),
+    ];
+    let options = PlayOptions {
+        writes: 1,
+        ..framed(Mode::Stream)
+    };
+    let rows = "h p0 0 command - 78 ; ; select 1 w 1\n";
+    assert!(rt;
+        breaks(
+            &rt,
+            alloc,
+            without_memory(program(alloc)?, WantingCallback::ReadyOutput),
+            options,
+            &acts,
+            rows
+        )?
+    );
+    Ok(())
+}

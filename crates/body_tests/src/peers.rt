@@ -1,0 +1,284 @@
+//! The processes that send to the one port.
+ghost use Rattle.std.specs.Prelude.{◌≡◌, true};
+ghost use Rattle.process_end.specs.Commanded.{proc_in, signal_of};
+ghost use Rattle.process_end.specs.port_lanes.Parcels.{names_below};
+ghost use Rattle.body_tests.specs.Beside.{CanServe, IsOfOnePort};
+
+use crate::text::{put_line, put_mail, put_receipt, put_refusal};
+use async_jobs::TakeEnd;
+use port_model::{IoVec, Mail, Piece, Reason};
+use process_end::{Ask, Commanded, How, NotYet, Proc, ProcParts, SendRefusal, Shown, Stopped};
+use run_lanes::ProcessLanes;
+use std::alloc::Global;
+use std::sync::Wait;
+use std::test::Fail;
+
+/// The line of each call: these processes have no script.
+const LINE: u32 = 1;
+
+/// A process that may send.
+#[derive(Drop)]
+pub(crate) struct SendingProcess {
+    proc: Proc,
+    ghost one: { IsOfOnePort proc },
+}
+
+/// A process that the port suspended.
+#[derive(Drop)]
+pub(crate) struct WaitingProcess {
+    stopped: Stopped,
+    ghost one: { IsOfOnePort stopped.proc },
+}
+
+/// A process of the port.
+#[derive(Drop)]
+pub(crate) enum HandProcess {
+    Sending(SendingProcess),
+    Waiting(WaitingProcess),
+    /// It has ended, and its mailbox is left.
+    Ended(TakeEnd<Mail>),
+    /// It is in a call.
+    Away,
+}
+
+/// The process of this number, which has made no call.
+#[tactic(auto, using(crate::proofs::OnePort::begun_one))]
+pub(crate) fn begun(
+    alloc: Global,
+    number: u32,
+    lanes: ProcessLanes,
+    soft: bool,
+) -> Result<HandProcess, Fail>
+    requires { CanServe number lanes }
+{
+    let ProcessLanes {
+        mailbox,
+        lanes,
+        seats,
+    } = lanes;
+    let parts = ProcParts {
+        number,
+        mailbox,
+        lanes,
+        seats,
+        soft: vec![in alloc; soft; 1]?,
+    };
+    let proc = Proc::new(alloc, parts);
+    Ok(HandProcess::Sending(SendingProcess { proc }))
+}
+
+/// Whether the process that a signal names, if it names one, is one of the three.
+fn is_within(ask: &Ask) -> bool
+    ensures { result ≡ names_below 3 (signal_of ask.now) }
+{
+    match ask {
+        Ask::Connect(process) | Ask::OwnerConnect(process) => *process < 3,
+        _ => true,
+    }
+}
+
+impl SendingProcess {
+    /// Puts a command.
+    fn put<R: Wait>(self, rt: &R, payload: IoVec, how: How) -> Commanded
+        ensures { IsOfOnePort (proc_in result) }
+    {
+        self.proc.command(rt, LINE, 0, payload, how)
+    }
+
+    /// Puts a command, and tells what it came to.
+    fn command<R: Wait>(
+        self,
+        rt: &R,
+        process: u32,
+        payload: IoVec,
+        how: How,
+        text: &mut String,
+    ) -> Result<HandProcess, Fail> {
+        match self.put(rt, payload, how) {
+            Commanded::Accepted(proc, seq) => {
+                put_line(text, process, "accepted", &[seq])?;
+                Ok(HandProcess::Sending(SendingProcess { proc }))
+            }
+            Commanded::Suspended(stopped) => {
+                put_line(text, process, "suspended", &[])?;
+                Ok(HandProcess::Waiting(WaitingProcess { stopped }))
+            }
+            Commanded::Dropped(proc, shown) => {
+                put_shown(text, process, shown)?;
+                Ok(HandProcess::Sending(SendingProcess { proc }))
+            }
+            Commanded::Refused(proc, refusal) => {
+                put_refusal(text, process, refusal)?;
+                Ok(HandProcess::Sending(SendingProcess { proc }))
+            }
+        }
+    }
+
+    /// Puts a signal that is no command.
+    fn put_ask<R: Wait>(&mut self, rt: &R, ask: Ask) -> Result<u64, SendRefusal>
+        requires { names_below 3 (signal_of ask) ≡ true }
+    {
+        self.proc.signal(rt, LINE, 0, ask)
+    }
+
+    /// Puts a signal that is no command, and tells what it came to.
+    fn ask<R: Wait>(
+        &mut self,
+        rt: &R,
+        process: u32,
+        ask: Ask,
+        text: &mut String,
+    ) -> Result<(), Fail> {
+        if !is_within(&ask) {
+            return Err("no process".into());
+        }
+        match self.put_ask(rt, ask) {
+            Ok(seq) => put_line(text, process, "put", &[seq]),
+            Err(refusal) => put_refusal(text, process, refusal),
+        }
+    }
+
+    fn mail<R: Wait>(&mut self, rt: &R) -> Option<Mail> {
+        self.proc.mail(rt)
+    }
+
+    fn look(&mut self) -> u64 {
+        self.proc.look(0)
+    }
+
+    /// Ends the process, and puts its receipts.
+    fn end<R: Wait>(
+        self,
+        rt: &R,
+        process: u32,
+        reason: Reason,
+        receipts: &mut String,
+    ) -> Result<HandProcess, Fail> {
+        let Ok(end) = self.proc.exit_process(rt, reason) else {
+            return Err("no memory".into());
+        };
+        for receipt in end.receipts.as_slice() {
+            put_receipt(receipts, process, receipt)?;
+        }
+        Ok(HandProcess::Ended(end.mailbox))
+    }
+}
+
+/// Puts the line of the word by which a command was dropped.
+fn put_shown(text: &mut String, process: u32, shown: Shown) -> Result<(), Fail> {
+    match shown {
+        Shown::Stat(word) => put_line(text, process, "dropped stat", &[word]),
+        Shown::Msgq(word) => put_line(text, process, "dropped msgq", &[word]),
+    }
+}
+
+/// Puts the line of why a process waits on.
+fn put_why(text: &mut String, process: u32, why: NotYet) -> Result<(), Fail> {
+    match why {
+        NotYet::Empty => put_line(text, process, "waits", &[]),
+        NotYet::Other(mail) => put_mail(text, process, &mail),
+        NotYet::SamePeriod { word } => put_line(text, process, "waits msgq", &[word]),
+    }
+}
+
+impl WaitingProcess {
+    /// Tries to go on.
+    fn resume<R: Wait>(self, rt: &R, process: u32, text: &mut String) -> Result<HandProcess, Fail> {
+        match self.stopped.try_resume(rt) {
+            Ok(proc) => {
+                put_line(text, process, "goes on", &[])?;
+                Ok(HandProcess::Sending(SendingProcess { proc }))
+            }
+            Err((stopped, why)) => {
+                put_why(text, process, why)?;
+                Ok(HandProcess::Waiting(WaitingProcess { stopped }))
+            }
+        }
+    }
+}
+
+impl HandProcess {
+    /// Takes the process out for a call.
+    fn take(&mut self) -> HandProcess {
+        std::mem::replace(self, HandProcess::Away)
+    }
+
+    /// Puts a command of these bytes.
+    pub(crate) fn command<R: Wait>(
+        &mut self,
+        rt: &R,
+        process: u32,
+        payload: IoVec,
+        how: How,
+        text: &mut String,
+    ) -> Result<(), Fail> {
+        let HandProcess::Sending(peer) = self.take() else {
+            return Err("it may not send".into());
+        };
+        *self = peer.command(rt, process, payload, how, text)?;
+        Ok(())
+    }
+
+    /// Puts a signal that is no command.
+    pub(crate) fn ask<R: Wait>(
+        &mut self,
+        rt: &R,
+        process: u32,
+        ask: Ask,
+        text: &mut String,
+    ) -> Result<(), Fail> {
+        match self {
+            HandProcess::Sending(peer) => peer.ask(rt, process, ask, text),
+            _ => Err("it may not send".into()),
+        }
+    }
+
+    /// Tries to go on after a suspension.
+    pub(crate) fn resume<R: Wait>(
+        &mut self,
+        rt: &R,
+        process: u32,
+        text: &mut String,
+    ) -> Result<(), Fail> {
+        let HandProcess::Waiting(peer) = self.take() else {
+            return Err("it isn't suspended".into());
+        };
+        *self = peer.resume(rt, process, text)?;
+        Ok(())
+    }
+
+    /// The next mail.
+    pub(crate) fn next_mail<R: Wait>(&mut self, rt: &R) -> Option<Mail> {
+        match self {
+            HandProcess::Sending(peer) => peer.mail(rt),
+            HandProcess::Ended(mailbox) => {
+                let item = mailbox.take(rt)?;
+                Some(item.value)
+            }
+            HandProcess::Waiting(_) | HandProcess::Away => None,
+        }
+    }
+
+    /// The word STAT of the port.
+    pub(crate) fn look(&mut self, process: u32, text: &mut String) -> Result<(), Fail> {
+        match self {
+            HandProcess::Sending(peer) => put_line(text, process, "stat", &[peer.look()]),
+            _ => Err("it may not look".into()),
+        }
+    }
+
+    /// Ends the process for this reason, and puts its receipts.
+    pub(crate) fn end<R: Wait>(
+        &mut self,
+        rt: &R,
+        process: u32,
+        reason: Reason,
+        receipts: &mut String,
+    ) -> Result<(), Fail> {
+        let HandProcess::Sending(peer) = self.take() else {
+            return Err("it may not end".into());
+        };
+        *self = peer.end(rt, process, reason, receipts)?;
+        Ok(())
+    }
+}

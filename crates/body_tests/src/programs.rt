@@ -1,0 +1,245 @@
+//! Programs as ports.
+ghost use Rattle.std.specs.Prelude.{◌≡◌, IfOk};
+
+use crate::acts::PortAct;
+use crate::failing::FetchlessSpawner;
+use crate::rig::{PlayOptions, framed, play};
+use crate::text::times;
+use journal_text::Mode;
+use outside::{MemProgram, MemSpawner};
+use port_driver::Life;
+use process_end::How;
+use spawn_driver::{SpawnDriver, spawn_driver};
+use std::alloc::Global;
+use std::test::Fail;
+
+/// A port of a stream, where five waits of the poller find the write event alone.
+fn five_writes() -> PlayOptions {
+    PlayOptions {
+        writes: 5,
+        ..framed(Mode::Stream)
+    }
+}
+
+/// What starts this program, with the events 0 and 1.
+fn spawner(alloc: Global, program: MemProgram) -> Result<MemSpawner, Fail> {
+    let mut spawner = MemSpawner::new(alloc, 0);
+    spawner.add(program)?;
+    Ok(spawner)
+}
+
+/// A driver of a program that takes at most one byte of an offer, and gives nothing.
+fn slow(alloc: Global) -> Result<SpawnDriver<MemSpawner>, Fail>
+    ensures { IfOk result (λ driver. driver.life ≡ Life.Fresh) }
+{
+    Ok(spawn_driver(spawner(alloc, MemProgram::new(alloc, 1))?))
+}
+
+/// A driver of a program that takes what it is offered, gives these chunks and ends.
+fn giving(alloc: Global, chunks: &[&[u8]]) -> Result<SpawnDriver<MemSpawner>, Fail>
+    ensures { IfOk result (λ driver. driver.life ≡ Life.Fresh) }
+{
+    let mut program = MemProgram::new(alloc, 65_536);
+    for chunk in chunks {
+        program.give(chunk)?;
+    }
+    program.end(0);
+    Ok(spawn_driver(spawner(alloc, program)?))
+}
+
+#[test]
+fn a_closing_port_gives_its_program_what_is_queued(rt: HostRuntime) -> Result<(), Fail> {
+    let acts = [
+        PortAct::Command(0, How::Plain, b"hello"),
+        PortAct::Close(0),
+        PortAct::Turn(64),
+        PortAct::Poll,
+        PortAct::Poll,
+        PortAct::Turn(64),
+        PortAct::Poll,
+        PortAct::Turn(64),
+        PortAct::Poll,
+        PortAct::Turn(64),
+        PortAct::Poll,
+        PortAct::Turn(64),
+        PortAct::Poll,
+        PortAct::Turn(64),
+        PortAct::Poll,
+        PortAct::Turn(64),
+        PortAct::Mail(0),
+    ];
+    let told = play(&rt, rt.alloc(), slow(rt.alloc())?, five_writes(), &acts)?;
+    assert_eq!(rt;
+        told.rows.as_str(),
+        "h p0 0 command - 68656c6c6f ; ; select 1 w 1\n\
+         h p0 1 close ; ;\n\
+         m closed\n\
+         h e 0 output 1 ; took 1 ;\n\
+         h e 1 output 1 ; took 1 ;\n\
+         h e 2 output 1 ; took 1 ;\n\
+         h e 3 output 1 ; took 1 ;\n\
+         h e 4 output 1 ; took 1 ; select 1 w 0\n\
+         h e 5 dropped 0 ; ;\n"
+    );
+    assert_eq!(rt;
+        told.acts.as_str(),
+        "p0 accepted 0\np0 put 1\nidle\nidle\nidle\nidle\nidle\nidle\nfinished\np0 reply 1 true\np0 exit normal\n"
+    );
+    assert!(rt; told.stopped);
+    Ok(())
+}
+
+#[test]
+fn a_kill_gives_a_program_nothing(rt: HostRuntime) -> Result<(), Fail> {
+    let acts = [
+        PortAct::Command(0, How::Plain, b"hello"),
+        PortAct::Exit(1, b"kill"),
+        PortAct::Turn(64),
+        PortAct::Poll,
+        PortAct::Turn(64),
+        PortAct::Mail(0),
+    ];
+    let told = play(&rt, rt.alloc(), slow(rt.alloc())?, five_writes(), &acts)?;
+    assert_eq!(rt;
+        told.rows.as_str(),
+        "h p0 0 command - 68656c6c6f ; ; select 1 w 1\n\
+         h p1 0 exit kill ; ;\n\
+         m closed\n\
+         h e 0 dropped 0 ; ;\n\
+         h e 1 dropped 1 ; ;\n"
+    );
+    assert_eq!(rt;
+        told.acts.as_str(),
+        "p0 accepted 0\np1 put 0\nidle\nfinished\np0 exit killed\n"
+    );
+    Ok(())
+}
+
+/// The rows of a command of 255 bytes and one of 256, where a length has one byte.
+fn long_rows(alloc: Global) -> Result<String, Fail> {
+    let rows = format!(in alloc;
+        "h p0 0 command - {} ; ; select 1 w 1\n\
+         h e 0 output 1 ; took 256 ; select 1 w 0\n\
+         h p0 1 command - {} ; ; fail einval\n\
+         m closed\n\
+         h e 1 dropped 0 ; ;\n",
+        times(alloc, "61", 255)?.as_str(),
+        times(alloc, "61", 256)?.as_str()
+    )?;
+    Ok(rows)
+}
+
+#[test]
+fn a_command_too_long_for_its_frame_fails_the_port(rt: HostRuntime) -> Result<(), Fail> {
+    let acts = [
+        PortAct::Bulk(0, How::Plain, 255),
+        PortAct::Turn(64),
+        PortAct::Poll,
+        PortAct::Turn(64),
+        PortAct::Bulk(0, How::Plain, 256),
+        PortAct::Turn(64),
+        PortAct::Poll,
+        PortAct::Turn(64),
+        PortAct::Mail(0),
+    ];
+    let options = PlayOptions {
+        writes: 1,
+        ..framed(Mode::Packet1)
+    };
+    let told = play(&rt, rt.alloc(), giving(rt.alloc(), &[])?, options, &acts)?;
+    assert_eq!(rt; told.rows.as_str(), long_rows(rt.alloc())?.as_str());
+    assert_eq!(rt;
+        told.acts.as_str(),
+        "p0 accepted 0\nidle\nidle\np0 accepted 1\nidle\nfinished\np0 exit einval\n"
+    );
+    Ok(())
+}
+
+/// Four rounds of the poller, each before a turn, and then the mail of the owner.
+const FOUR_ROUNDS: [PortAct; 9] = [
+    PortAct::Poll,
+    PortAct::Turn(64),
+    PortAct::Poll,
+    PortAct::Turn(64),
+    PortAct::Poll,
+    PortAct::Turn(64),
+    PortAct::Poll,
+    PortAct::Turn(64),
+    PortAct::Mail(0),
+];
+
+#[test]
+fn packets_come_whole_and_one_that_is_cut_off_does_not(rt: HostRuntime) -> Result<(), Fail> {
+    let chunks: [&[u8]; 3] = [b"\x00\x03ab", b"c\x00\x00", b"\x00"];
+    let driver = giving(rt.alloc(), &chunks)?;
+    let told = play(&rt, rt.alloc(), driver, framed(Mode::Packet2), &FOUR_ROUNDS)?;
+    assert_eq!(rt;
+        told.rows.as_str(),
+        "h e 0 input 0 ; got 00036162 ;\n\
+         h e 1 input 0 ; got 630000 ; data plain 616263, data plain -\n\
+         h e 2 input 0 ; got 00 ;\n\
+         h e 3 input 0 ; end ; select 0 r 0, fail normal\n\
+         m closed\n"
+    );
+    assert_eq!(rt;
+        told.acts.as_str(),
+        "idle\nidle\nidle\nfinished\np0 data 616263\np0 data \np0 exit normal\n"
+    );
+    Ok(())
+}
+
+#[test]
+fn lines_come_as_they_end_and_long_ones_in_pieces(rt: HostRuntime) -> Result<(), Fail> {
+    let chunks: [&[u8]; 1] = [b"abc\nabcd\n\nx"];
+    let driver = giving(rt.alloc(), &chunks)?;
+    let told = play(&rt, rt.alloc(), driver, framed(Mode::Line(3)), &FOUR_ROUNDS)?;
+    assert_eq!(rt;
+        told.rows.as_str(),
+        "h e 0 input 0 ; got 6162630a616263640a0a78 ; data eol 616263, data noeol 616263, data eol 64, data eol -\n\
+         h e 1 input 0 ; end ; data noeol 78, select 0 r 0, fail normal\n\
+         m closed\n"
+    );
+    Ok(())
+}
+
+#[test]
+fn a_stream_comes_as_its_bytes(rt: HostRuntime) -> Result<(), Fail> {
+    let chunks: [&[u8]; 3] = [b"a", b"bc", b"def"];
+    let driver = giving(rt.alloc(), &chunks)?;
+    let told = play(&rt, rt.alloc(), driver, framed(Mode::Stream), &FOUR_ROUNDS)?;
+    assert_eq!(rt; told.data.as_str(), "616263646566");
+    Ok(())
+}
+
+#[test]
+fn a_packet_that_tells_too_many_bytes_fails_the_port(rt: HostRuntime) -> Result<(), Fail> {
+    let chunks: [&[u8]; 1] = [b"\x7f\xff\xff\xff"];
+    let driver = giving(rt.alloc(), &chunks)?;
+    let told = play(&rt, rt.alloc(), driver, framed(Mode::Packet4), &FOUR_ROUNDS)?;
+    assert_eq!(rt;
+        told.rows.as_str(),
+        "h e 0 input 0 ; got 7fffffff ; fail emsgsize\nm closed\n"
+    );
+    assert_eq!(rt;
+        told.acts.as_str(),
+        "finished\nfinished\nfinished\nfinished\np0 exit emsgsize\n"
+    );
+    Ok(())
+}
+
+#[test]
+fn a_fetch_that_fails_fails_the_port(rt: HostRuntime) -> Result<(), Fail> {
+    let spawner = spawner(rt.alloc(), MemProgram::new(rt.alloc(), 1))?;
+    let driver = spawn_driver(FetchlessSpawner::new(spawner));
+    let told = play(&rt, rt.alloc(), driver, framed(Mode::Stream), &FOUR_ROUNDS)?;
+    assert_eq!(rt;
+        told.rows.as_str(),
+        "h e 0 input 0 ; failed ; fail eio\nm closed\n"
+    );
+    assert_eq!(rt;
+        told.acts.as_str(),
+        "finished\nfinished\nfinished\nfinished\np0 exit eio\n"
+    );
+    assert!(rt; told.stopped);
+    Ok(())
+}
