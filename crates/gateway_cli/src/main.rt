@@ -2,7 +2,7 @@
 #![tactic(auto)]
 
 use either_driver::EitherDriver;
-use gateway::{Cause, Ended, ScriptFault, StartRefusal, cause_text, host_drivers, run_hosted};
+use gateway::{CallEnd, Cause, ScriptFault, StartRefusal, cause_text, host_drivers, run_hosted};
 use no_memory::NoMemory;
 use outside::{OpenGate, PollSet, RealFiles, RealSink, Spawner};
 use outside_programs::{PipeServer, RealPoll, RealSpawner};
@@ -12,6 +12,7 @@ use sample_drivers::{Digest, Echo, Refuse, Refused, Store, Tally, Valve};
 use spawn_driver::spawn_driver;
 use std::alloc::Global;
 use std::env::{Env, FillError};
+use std::mem::forget;
 use std::process::ExitCode;
 use std::rt::Files;
 use std::sync::Wait;
@@ -25,7 +26,7 @@ const EVENTS: u32 = 64;
 
 /// The kinds of drivers that need nothing of the machine.
 #[derive(Clone, Copy)]
-enum Sample {
+enum SampleKind {
     Echo,
     Tally,
     Store,
@@ -36,16 +37,16 @@ enum Sample {
 }
 
 /// One of each kind.
-const SAMPLES: [Sample; 9] = [
-    Sample::Echo,
-    Sample::Tally,
-    Sample::Store,
-    Sample::Valve,
-    Sample::ValveSoft,
-    Sample::Digest,
-    Sample::Refuse(Refused::General),
-    Sample::Refuse(Refused::Errno),
-    Sample::Refuse(Refused::Badarg),
+const SAMPLES: [SampleKind; 9] = [
+    SampleKind::Echo,
+    SampleKind::Tally,
+    SampleKind::Store,
+    SampleKind::Valve,
+    SampleKind::ValveSoft,
+    SampleKind::Digest,
+    SampleKind::Refuse(Refused::General),
+    SampleKind::Refuse(Refused::Errno),
+    SampleKind::Refuse(Refused::Badarg),
 ];
 
 /// The status of a run for which no memory was found.
@@ -108,7 +109,8 @@ fn run_plain<R: AllocGlobal + Clone + Drop + Eprint + Files + Print>(
     Ok(status)
 }
 
-/// Runs what the words ask for, over these drivers and the poll set of their programs, and returns the status.
+/// Runs what the words ask for, over these drivers and the poll set of their programs, and returns the status. Nothing that the run left is walked to be
+/// freed, since the program ends behind it.
 fn run_over<
     D: Driver + Send,
     P: PollSet + Drop + Send,
@@ -118,10 +120,12 @@ fn run_over<
     let drivers = host_drivers(alloc, drivers)?;
     let mut files = RealFiles::new(rt.clone()?);
     let mut out = RealSink::new(rt.clone()?);
-    let Ended { status, cause, .. } = run_hosted(
+    let end: CallEnd<P, D> = run_hosted(
         rt, alloc, words, &mut files, &mut out, drivers, poll, &OpenGate,
     );
-    say(rt, alloc, &cause);
+    say(rt, alloc, &end.cause);
+    let status = end.status;
+    forget(end);
     Ok(status)
 }
 
@@ -139,13 +143,13 @@ where
     for sample in SAMPLES {
         for _ in 0..DRIVERS {
             let driver: Box<dyn Driver + Send> = match sample {
-                Sample::Echo => Box::new(alloc, Echo::new())?,
-                Sample::Tally => Box::new(alloc, Tally::new())?,
-                Sample::Store => Box::new(alloc, Store::new())?,
-                Sample::Valve => Box::new(alloc, Valve::new())?,
-                Sample::ValveSoft => Box::new(alloc, Valve::soft())?,
-                Sample::Digest => Box::new(alloc, Digest::new())?,
-                Sample::Refuse(refused) => Box::new(alloc, Refuse::new(refused))?,
+                SampleKind::Echo => Box::new(alloc, Echo::new())?,
+                SampleKind::Tally => Box::new(alloc, Tally::new())?,
+                SampleKind::Store => Box::new(alloc, Store::new())?,
+                SampleKind::Valve => Box::new(alloc, Valve::new())?,
+                SampleKind::ValveSoft => Box::new(alloc, Valve::soft())?,
+                SampleKind::Digest => Box::new(alloc, Digest::new())?,
+                SampleKind::Refuse(refused) => Box::new(alloc, Refuse::new(refused))?,
             };
             drivers.push(EitherDriver::First(driver))?;
         }
