@@ -9,7 +9,7 @@ use Rattle.driver_model.specs.Calls.{Echo}
 use Rattle.port_model.specs.port_signal.Links.{has}
 use Rattle.port_model.specs.port_signal.Reasons.{told_reason}
 use Rattle.port_model.specs.port_signal.declared.monitor.Monitor.{Monitor as MonitorEntry}
-use Rattle.port_model.specs.port_signal.declared.row.Outside.{Outside}
+use Rattle.port_model.specs.port_signal.declared.outside.Outside.{Outside}
 use Rattle.port_model.specs.declared.effect.Effect.{Effect}
 use Rattle.port_model.specs.declared.effect.Effect.TheVariants.{Message as Data}
 use Rattle.port_model.specs.declared.mail.Mail.{Mail}

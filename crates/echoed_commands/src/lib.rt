@@ -3,7 +3,7 @@
 
 ghost use Rattle.echoed_commands.specs.Echoed.{AllIsEchoed, CommandsAreEchoed, NoneIsRefused};
 
-use script_run::Driver;
+pub use script_run::{Driver, PortLeft, ProcessLeft, RunEnd, RunFault, ScriptRan, run_script};
 
 /// Of a port whose driver sends each command back (`echo`, `valve` and `valve_soft`), and to which its owner alone sends, commands without options, until the processes end, each run of the script leaves
 /// for the owner the data of its commands that were accepted or suspended, in their order. No command is dropped, refused as closed or late. Where none is refused at all, it is all that the steps send; and

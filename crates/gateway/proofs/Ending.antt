@@ -8,11 +8,11 @@ use Rattle.port_driver.specs.declared.life.Life.{Life}
 use Rattle.driver_hosts.specs.declared.hosted.Hosted.{Hosted}
 use Rattle.driver_hosts.specs.Back.{AllCameBack}
 use Rattle.driver_hosts.specs.Hosts.{IsUnused}
-use Rattle.run_output.specs.run_opening.Faults.{LacksAt, RefusedAt}
-use Rattle.run_output.specs.declared.writing.OutputFault.{OutputFault}
-use Rattle.run_output.specs.declared.writing.OutputFault.TheVariants as output
-use Rattle.run_output.specs.Ends.{SinkView}
-use Rattle.run_output.specs.Reported.{report_of}
+use Rattle.load_summary.specs.run_output.run_opening.Faults.{LacksAt, RefusedAt}
+use Rattle.load_summary.specs.run_output.declared.writing.OutputFault.{OutputFault}
+use Rattle.load_summary.specs.run_output.declared.writing.OutputFault.TheVariants as output
+use Rattle.load_summary.specs.run_output.Ends.{SinkView}
+use Rattle.load_summary.specs.run_output.Reported.{report_of}
 use Rattle.run_report.specs.declared.cause.Cause.{Cause}
 use Rattle.run_report.specs.declared.cause.Cause.TheVariants.{Done, Usage, Script, ReadFault, WriteFault, NoDriver, StartRefused, PollFault, NoMemory, Illegal, Limit, JournalText}
 use Rattle.run_report.specs.declared.report.Report.{Report}
@@ -23,11 +23,12 @@ use Rattle.script_input.proofs.Contents.{all-done}
 use Rattle.script_input.specs.Words.{Asked, Source, FromFile, FromLoad}
 use Rattle.script_plan.specs.declared.decl.PortDecl.{PortDecl}
 use Rattle.script_plan.specs.Plan.{Plan}
-use Rattle.run_output.specs.script_run.declared.running.RunFault.{RunFault}
-use Rattle.run_output.specs.script_run.declared.running.RunFault.TheVariants as ran
-use Rattle.run_output.specs.script_run.declared.running.ScriptRan.{ScriptRan}
-use Rattle.run_output.specs.script_run.Ends.{IsNotRun}
-use Rattle.run_output.specs.script_run.Ran.{HasRun}
+use Rattle.load_summary.specs.run_output.script_run.declared.running.RunFault.{RunFault}
+use Rattle.load_summary.specs.run_output.script_run.declared.running.RunFault.TheVariants as ran
+use Rattle.load_summary.specs.run_output.script_run.declared.running.ScriptRan.{ScriptRan}
+use Rattle.load_summary.specs.run_output.script_run.Ends.{IsNotRun}
+use Rattle.load_summary.specs.run_output.script_run.Ran.{HasRun}
+use Rattle.gateway.specs.Fixed.{AnswersAreFixed, IsSummaryOf}
 use Rattle.gateway.specs.Run.{Run, AskFor, PlanFound, HasInput}
 use Rattle.gateway.specs.Ran.{PutOut, Ran}
 use Rattle.gateway.specs.Causes.{CauseComes, IsReported, Ends}
@@ -186,6 +187,8 @@ module _ {D : Type 0} (kind : D → Kind) (stage : D → Life) (faults : D → �
     unwritten : NothingWritten run.files read
     input : HasInput run.words run.files read plan i
     has_run : HasRun kind stage faults own program i.script run.hosts run.hosts_after run.answered run.answered_after left
+    fixed : AnswersAreFixed i.script left
+    summary : IsSummaryOf input.loaded.script.asked.source (report_of i.names left)
 
   -- where its script comes from
   abbrev source-of : {run : Run D} {plan : Plan} {i : RunInput} {read : FilesView} {left : ScriptRan} → Made run plan i read left → Source
@@ -202,7 +205,9 @@ module _ {D : Type 0} (kind : D → Kind) (stage : D → Life) (faults : D → �
     has_input = m.input;
     left = left;
     has_run = m.has_run;
+    fixed = m.fixed;
     report_is = refl;
+    summary = m.summary;
     written = o;
   }
 
@@ -257,13 +262,14 @@ module _ {D : Type 0} (kind : D → Kind) (stage : D → Life) (faults : D → �
 
   -- the run was made
   pub ends_made : (run : Run D) (plan : Plan) (i : RunInput) (source : Source) (read : FilesView) (left : ScriptRan) (cause : Cause) (told : Option Report) → NothingWritten run.files read
-      → HasInput run.words run.files read plan i → AskFor run.words source → ((number : ℕ) → AskFor run.words (FromLoad number) → NothingRead run.files read)
-      → HasRun kind stage faults own program i.script run.hosts run.hosts_after run.answered run.answered_after left → run.waits_after ≡ Some run.waits
+      → (h : HasInput run.words run.files read plan i) → AskFor run.words source → ((number : ℕ) → AskFor run.words (FromLoad number) → NothingRead run.files read)
+      → HasRun kind stage faults own program i.script run.hosts run.hosts_after run.answered run.answered_after left → AnswersAreFixed i.script left
+      → IsSummaryOf h.loaded.script.asked.source (report_of i.names left) → run.waits_after ≡ Some run.waits
       → WriteEnds source i.writes (report_of i.names left) read run.files_after run.sink run.sink_after cause told → AllCameBack kind stage faults run.hosts run.hosts_after
       → Ends kind stage faults own program run cause told
   unfolding Untouched
-  ends_made run plan i source read left cause told n h asks quiet r p w back =
-      let m : Made run plan i read left = record { unwritten = n; input = h; has_run = r } in
+  ends_made run plan i source read left cause told n h asks quiet r fixed summary p w back =
+      let m : Made run plan i read left = record { unwritten = n; input = h; has_run = r; fixed = fixed; summary = summary } in
       let asked = h.loaded.script.asked in
       let so = λ (s : Source). WriteEnds s i.writes (report_of i.names left) read run.files_after run.sink run.sink_after cause told in
       let w' : WriteEnds asked.source i.writes (report_of i.names left) read run.files_after run.sink run.sink_after cause told =

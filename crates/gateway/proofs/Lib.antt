@@ -4,7 +4,9 @@ pub mod Untouched
 pub mod Asked
 pub mod Loads
 pub mod Reading
+pub mod Paired
 pub mod Reported
 pub mod Whole
+pub mod Fixed
 pub mod Ending
 pub mod Polls

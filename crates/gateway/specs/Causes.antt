@@ -12,8 +12,8 @@ use Rattle.driver_hosts.specs.declared.hosted.Hosted.{Hosted}
 use Rattle.driver_hosts.specs.Back.{AllCameBack}
 use Rattle.driver_hosts.specs.Finding.{HasDrivers}
 use Rattle.gateway_script.specs.Script.{script}
-use Rattle.run_output.specs.run_opening.Faults.{LacksAt, RefusedAt}
-use Rattle.run_output.specs.declared.writing.OutputFault.TheVariants as output
+use Rattle.load_summary.specs.run_output.run_opening.Faults.{LacksAt, RefusedAt}
+use Rattle.load_summary.specs.run_output.declared.writing.OutputFault.TheVariants as output
 use Rattle.run_report.specs.declared.cause.Cause.{Cause}
 use Rattle.run_report.specs.declared.cause.Cause.TheVariants.{Done, Usage, Script, ReadFault, WriteFault, NoDriver, StartRefused, PollFault, NoMemory, Illegal, Limit, JournalText}
 use Rattle.run_report.specs.declared.report.Report.{Report}

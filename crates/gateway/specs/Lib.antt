@@ -2,6 +2,7 @@
 pub use Rattle.driver_hosts.specs as driver_hosts
 pub mod Fresh
 pub mod Run
+pub mod Fixed
 pub mod Ran
 pub mod Causes
 pub mod Stages

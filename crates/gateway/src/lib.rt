@@ -11,6 +11,6 @@ pub use driver_hosts::Hosted;
 pub use laws::finished_history_has_an_end;
 pub use making::host_drivers;
 pub use run_report::{
-    Cause, PortReport, ProcReport, Report, ScriptFault, StartRefusal, cause_text, report_text,
+    Cause, PortReport, ProcessRecord, Report, ScriptFault, StartRefusal, cause_text, report_text,
 };
-pub use top::{Ended, gateway, run_hosted};
+pub use top::{CallEnd, gateway, run_hosted};

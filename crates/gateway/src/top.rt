@@ -1,7 +1,7 @@
 ghost use Rattle.std.specs.Prelude.{◌≡◌, map, string_bytes, All};
 ghost use Rattle.std.specs.Option.{option_map};
 ghost use Rattle.driver_hosts.specs.Hosts.{IsUnused};
-ghost use Rattle.run_output.specs.Ends.{sink_view};
+ghost use Rattle.load_summary.specs.run_output.Ends.{sink_view};
 ghost use Rattle.run_report.specs.Cause.{status_of};
 ghost use Rattle.script_input.specs.Files.{files_view};
 ghost use Rattle.script_input.specs.Words.{asked};
@@ -11,8 +11,11 @@ ghost use Rattle.gateway.specs.Stages.{run_cause};
 use crate::preparing::{Prepared, prepare};
 use crate::writing::{Output, Written, write_left};
 use driver_hosts::{Driver, Hosted};
+use load_summary::{
+    RunEnd, RunFault, commands_are_echoed, output_is_saved_in_every_run, run_script,
+    summary_is_of_number,
+};
 use outside::{Files, Gate, PollSet, Sink};
-use run_output::{RunEnd, RunFault, run_script};
 use run_report::{Cause, Report};
 use script_input::RunInput;
 use std::alloc::Global;
@@ -22,7 +25,7 @@ use std::thread::Threads;
 /// How a run ended: the status and its cause, the report where the run was made and memory was found to report it, the drivers that were handed in, in their order, and the poll set, which may be gone
 /// only where memory was wanting.
 #[derive(Drop)]
-pub struct Ended<P, D = Box<dyn Driver + Send>> {
+pub struct CallEnd<P, D = Box<dyn Driver + Send>> {
     pub status: u8,
     pub cause: Cause,
     pub report: Option<Report>,
@@ -42,12 +45,12 @@ fn run_cause(fault: RunFault) -> Cause
     }
 }
 
-impl<P, D> Ended<P, D> {
+impl<P, D> CallEnd<P, D> {
     /// The end of a run that reports nothing.
-    fn without_report(cause: Cause, drivers: Vec<Hosted<D>>, poll: Option<P>) -> Ended<P, D>
+    fn without_report(cause: Cause, drivers: Vec<Hosted<D>>, poll: Option<P>) -> CallEnd<P, D>
         ensures { result ≡ record { status = status_of cause; cause = cause; report = None; drivers = drivers; poll = poll } }
     {
-        Ended {
+        CallEnd {
             status: cause.status(),
             cause,
             report: None,
@@ -74,7 +77,7 @@ pub fn run_hosted<
     drivers: Vec<Hosted<D>>,
     poll: P,
     gate: &G,
-) -> Ended<P, D>
+) -> CallEnd<P, D>
     requires { All (IsUnused D.stage) drivers.items }
     ensures status { result.status ≡ status_of result.cause }
     ensures run { Ends D.kind D.stage D.faults D.own D.program
@@ -96,21 +99,25 @@ pub fn run_hosted<
     let mut drivers = drivers;
     let Prepared { source, input } = match prepare(alloc, words, files, drivers.as_slice()) {
         Ok(prepared) => prepared,
-        Err(cause) => return Ended::without_report(cause, drivers, Some(poll)),
+        Err(cause) => return CallEnd::without_report(cause, drivers, Some(poll)),
     };
     let RunInput {
         script,
         names,
         writes,
     } = input;
+    // What is the same in each run, by laws: these calls do nothing.
+    commands_are_echoed::<D>();
+    output_is_saved_in_every_run::<D>();
+    summary_is_of_number::<D>();
     let RunEnd { ran, poll } = run_script(rt, alloc, gate, &mut drivers, script, poll);
     let left = match ran {
         Ok(left) => left,
-        Err(fault) => return Ended::without_report(run_cause(fault), drivers, poll),
+        Err(fault) => return CallEnd::without_report(run_cause(fault), drivers, poll),
     };
     let output = Output { source, writes };
     let Written { cause, report } = write_left(alloc, files, out, names, &output, left);
-    Ended {
+    CallEnd {
         status: cause.status(),
         cause,
         report,
@@ -145,7 +152,7 @@ pub fn gateway<
     drivers: Vec<Hosted>,
     poll: P,
     gate: &G,
-) -> Ended<P>
+) -> CallEnd<P>
     requires { All (IsUnused (λ b. stage b)) drivers.items }
     ensures status { result.status ≡ status_of result.cause }
     ensures run { Ends (λ b. kind b) (λ b. stage b) (λ b. (Driver-box b).faults b.value) (λ b. own b) (λ b. (Driver-box b).program b.value)

@@ -5,12 +5,12 @@ use Rattle.port_model.specs.declared.mail.Mail.{Mail}
 use Rattle.port_history.specs.Counts.{saved_of}
 use Rattle.script_plan.specs.declared.decl.SaveDecl.{SaveDecl}
 use Rattle.journal_text.specs.Books.{journal_text}
-use Rattle.run_report.specs.declared.report.ProcReport.{ProcReport}
+use Rattle.run_report.specs.declared.report.ProcessRecord.{ProcessRecord}
 use Rattle.run_report.specs.declared.report.Report.{Report}
 use Rattle.script_input.specs.declared.input.RunWrites.{RunWrites}
 
 -- the mail of a process, if there is one
-abbrev pub mails_of : Option ProcReport → List Mail
+abbrev pub mails_of : Option ProcessRecord → List Mail
 mails_of None = []
 mails_of (Some process) = process.mails
 

@@ -3,9 +3,9 @@ ghost use Rattle.run_output.specs.Reported.{port_report, port_reports, process_r
 
 use no_memory::NoMemory;
 use port_model::{Items, Reason};
-use run_report::{Mails, PortReport, ProcReport, Report};
+use run_report::{Mails, PortReport, ProcessRecord, Report};
+use saved_output::{PortLeft, ProcessLeft, ScriptRan};
 use script_input::{PortName, RunNames};
-use script_run::{PortLeft, ProcessLeft, ScriptRan};
 use std::alloc::Global;
 
 /// A port as it is declared, with what it left.
@@ -34,11 +34,11 @@ fn report_port(name: PortName, left: PortLeft) -> PortReport
 }
 
 /// A process by its name, with what it left.
-fn report_process(name: Reason, left: ProcessLeft) -> ProcReport
+fn report_process(name: Reason, left: ProcessLeft) -> ProcessRecord
     ensures { result ≡ process_report name left }
 {
     let ProcessLeft { receipts, mails } = left;
-    ProcReport {
+    ProcessRecord {
         name,
         receipts,
         mails: Mails::of_vec(mails),
@@ -63,7 +63,7 @@ fn report_processes(
     alloc: Global,
     names: Vec<Reason>,
     lefts: Vec<ProcessLeft>,
-) -> Result<Vec<ProcReport>, NoMemory>
+) -> Result<Vec<ProcessRecord>, NoMemory>
     ensures { IfOk result (λ told. told.items ≡ process_reports names.items lefts.items) }
 {
     let mut told = Vec::new(alloc);

@@ -9,7 +9,7 @@ use journal_text::print_histories;
 use no_memory::NoMemory;
 use outside::{FileFault, Files, Sink};
 use port_model::Reason;
-use run_report::{ProcReport, Report, load_text, report_text, saved_bytes};
+use run_report::{ProcessRecord, Report, load_text, report_text, saved_bytes};
 use script_input::RunWrites;
 use script_plan::SaveDecl;
 use std::alloc::Global;
@@ -98,7 +98,7 @@ fn write_journal<F: Files>(
 }
 
 /// The names of these processes, in their order.
-fn process_names(alloc: Global, processes: &[ProcReport]) -> Result<Vec<Reason>, NoMemory>
+fn process_names(alloc: Global, processes: &[ProcessRecord]) -> Result<Vec<Reason>, NoMemory>
     ensures { IfOk result (λ names. names.items ≡ map (λ p. p.name) processes.now) }
 {
     let mut names = Vec::new(alloc);

@@ -15,19 +15,19 @@ use Rattle.port_model.specs.declared.mail.Mail.{Mail}
 use Rattle.port_history.specs.Counts.{saved_of}
 use Rattle.port_history.specs.Mail.{mails}
 use Rattle.port_history.specs.Opening.{Opening}
-use Rattle.port_body.specs.LanePort.{rows_from}
-use Rattle.process_job.specs.Mails.{Came, is_source, mail_from, own_mails, readable}
-use Rattle.driver_hosts.specs.declared.hosted.Hosted.{Hosted}
-use Rattle.run_end.specs.Merge.{IsFromPort}
-use Rattle.run_end.specs.Shown.{Calls}
-use Rattle.run_seats.specs.declared.plans.Program.{Program}
-use Rattle.run_setting.specs.declared.RunScript.{RunScript}
+use Rattle.echoed_commands.specs.script_run.run_opening.port_body.LanePort.{rows_from}
+use Rattle.echoed_commands.specs.run_setting.run_end.process_job.Mails.{Came, is_source, mail_from, own_mails, readable}
+use Rattle.echoed_commands.specs.script_run.run_opening.driver_hosts.declared.hosted.Hosted.{Hosted}
+use Rattle.echoed_commands.specs.run_setting.run_end.Merge.{IsFromPort}
+use Rattle.echoed_commands.specs.run_setting.run_end.Shown.{Calls}
+use Rattle.echoed_commands.specs.run_setting.run_seats.declared.plans.Program.{Program}
+use Rattle.echoed_commands.specs.run_setting.declared.RunScript.{RunScript}
 use Rattle.script_plan.specs.declared.decl.PortDecl.{PortDecl}
 use Rattle.script_plan.specs.declared.step.Step.{Step}
-use Rattle.script_run.specs.declared.running.PortLeft.{PortLeft}
-use Rattle.script_run.specs.declared.running.ProcessLeft.{ProcessLeft}
-use Rattle.script_run.specs.declared.running.ScriptRan.{ScriptRan}
-use Rattle.script_run.specs.Ran.{HasRun, IsFrom, PairHolds, PortHolds, PortServed, ProcessHolds, calls_of, history_of, opening_of}
+use Rattle.echoed_commands.specs.script_run.declared.running.PortLeft.{PortLeft}
+use Rattle.echoed_commands.specs.script_run.declared.running.ProcessLeft.{ProcessLeft}
+use Rattle.echoed_commands.specs.script_run.declared.running.ScriptRan.{ScriptRan}
+use Rattle.echoed_commands.specs.script_run.Ran.{HasRun, IsFrom, PairHolds, PortHolds, PortServed, ProcessHolds, calls_of, history_of, opening_of}
 use Rattle.unframed_output.specs.Output.{bytes_kept, has_ended, saved_output}
 use Rattle.unframed_output.specs.Laws.{IsOfProgram, KeepsOwner}
 use Rattle.unframed_output.proofs.Mails.{output-is-saved}

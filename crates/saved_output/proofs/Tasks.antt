@@ -13,8 +13,8 @@ use Rattle.port_history.specs.Laws.{count_of, may_send, poller_sends, worker_sen
 use Rattle.port_history.specs.Lawful.{Lawful}
 use Rattle.port_history.specs.Opening.{Opening}
 use Rattle.port_history.specs.State.{State, state}
-use Rattle.port_body.specs.LanePort.{rows_from, task_from}
-use Rattle.script_run.specs.Ran.{IsAmong, IsFrom}
+use Rattle.echoed_commands.specs.script_run.run_opening.port_body.LanePort.{rows_from, task_from}
+use Rattle.echoed_commands.specs.script_run.Ran.{IsAmong, IsFrom}
 use Rattle.unframed_output.specs.Laws.{is_connect, KeepsOwner}
 use Rattle.unframed_output.proofs.Events.{eqb-same}
 use Rattle.saved_output.proofs.Asks.{TaskKeeps}

@@ -5,17 +5,17 @@ use Rattle.driver_model.specs.Programs.{ToldProgram}
 use Rattle.port_config.specs.Config.{is_config}
 use Rattle.port_driver.specs.declared.life.Life.{Life}
 use Rattle.port_history.specs.Counts.{saved_of}
-use Rattle.driver_hosts.specs.declared.hosted.Hosted.{Hosted}
+use Rattle.echoed_commands.specs.script_run.run_opening.driver_hosts.declared.hosted.Hosted.{Hosted}
 use Rattle.script_plan.specs.declared.decl.PortDecl.{PortDecl}
 use Rattle.script_plan.specs.declared.step.Step.{Step}
 use Rattle.script_plan.specs.declared.step.Act.{Act}
 use Rattle.script_plan.specs.declared.step.Act.TheVariants.{Connect, SendConnect}
-use Rattle.run_seats.specs.declared.plans.Program.{Program}
-use Rattle.run_setting.specs.declared.RunScript.{RunScript}
-use Rattle.script_run.specs.declared.running.PortLeft.{PortLeft}
-use Rattle.script_run.specs.declared.running.ProcessLeft.{ProcessLeft}
-use Rattle.script_run.specs.declared.running.ScriptRan.{ScriptRan}
-use Rattle.script_run.specs.Ran.{HasRun, history_of}
+use Rattle.echoed_commands.specs.run_setting.run_seats.declared.plans.Program.{Program}
+use Rattle.echoed_commands.specs.run_setting.declared.RunScript.{RunScript}
+use Rattle.echoed_commands.specs.script_run.declared.running.PortLeft.{PortLeft}
+use Rattle.echoed_commands.specs.script_run.declared.running.ProcessLeft.{ProcessLeft}
+use Rattle.echoed_commands.specs.script_run.declared.running.ScriptRan.{ScriptRan}
+use Rattle.echoed_commands.specs.script_run.Ran.{HasRun, history_of}
 use Rattle.unframed_output.specs.Output.{bytes_kept, has_ended, saved_output}
 
 -- the act hands this port to a process

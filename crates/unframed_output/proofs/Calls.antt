@@ -7,8 +7,8 @@ use Rattle.packet_framing.specs.declared.mode.Mode.{Mode}
 use Rattle.packet_framing.specs.declared.mode.Mode.TheVariants.{Packet1, Packet2, Packet4, Line, Stream}
 use Rattle.packet_framing.specs.Messages.{rest_of}
 use Rattle.driver_model.specs.port_config.declared.config.Config.{Config}
-use Rattle.driver_model.specs.port_signal.declared.row.Outside.{Outside}
-use Rattle.driver_model.specs.port_signal.declared.row.Outside.TheVariants.{Took, Failed}
+use Rattle.driver_model.specs.port_signal.declared.outside.Outside.{Outside}
+use Rattle.driver_model.specs.port_signal.declared.outside.Outside.TheVariants.{Took, Failed}
 use Rattle.driver_model.specs.port_model.declared.event.Dir.TheVariants.{Read, Write}
 use Rattle.driver_model.specs.port_model.declared.signal.Sender.{Sender}
 use Rattle.driver_model.specs.port_model.declared.signal.Sender.TheVariants.{Process}

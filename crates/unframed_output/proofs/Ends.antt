@@ -4,8 +4,8 @@ use Rattle.std.proofs.lemmas.List.{append-nil}
 use Rattle.packet_framing.specs.declared.message.Message.{Message}
 use Rattle.packet_framing.specs.Messages.{last_message, messages_of}
 use Rattle.driver_model.specs.port_config.declared.config.Config.{Config}
-use Rattle.driver_model.specs.port_signal.declared.row.Outside.{Outside}
-use Rattle.driver_model.specs.port_signal.declared.row.Outside.TheVariants.{End, Failed, Status as ToldStatus}
+use Rattle.driver_model.specs.port_signal.declared.outside.Outside.{Outside}
+use Rattle.driver_model.specs.port_signal.declared.outside.Outside.TheVariants.{End, Failed, Status as ToldStatus}
 use Rattle.driver_model.specs.port_model.declared.event.Dir.TheVariants.{Read}
 use Rattle.driver_model.specs.port_model.declared.effect.Effect.{Effect}
 use Rattle.driver_model.specs.port_model.declared.effect.Effect.TheVariants.{Eof, Fail, Select}

@@ -2,8 +2,8 @@
 use Rattle.std.proofs.Common.{◌≡◌, ◌+◌, ◌≤◌, ℕ, min, List, [], ◌∷◌, ◌++◌, length, drop, Bool, true, false, cond, Option, Some, None, refl, ◌∙◌, ap, subst, arith, append_assoc, length-append, length-drop}
 use Rattle.std.proofs.lemmas.Bool.{leb-true}
 use Rattle.driver_model.specs.port_config.declared.config.Config.{Config}
-use Rattle.driver_model.specs.port_signal.declared.row.Outside.{Outside}
-use Rattle.driver_model.specs.port_signal.declared.row.Outside.TheVariants.{Took, Got, Again, End, Failed, Status}
+use Rattle.driver_model.specs.port_signal.declared.outside.Outside.{Outside}
+use Rattle.driver_model.specs.port_signal.declared.outside.Outside.TheVariants.{Took, Got, Again, End, Failed, Status}
 use Rattle.driver_model.specs.port_model.declared.row.Row.{Row}
 use Rattle.driver_model.specs.port_model.declared.row.Row.TheVariants.{Handled, Late, Listed, Resumed, Mark}
 use Rattle.driver_model.specs.Calls.{Callback, ReadyInput, ReadyOutput, Flush, Stop, DriverCall, call_of}

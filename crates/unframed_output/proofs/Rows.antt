@@ -7,8 +7,8 @@ use Rattle.packet_framing.specs.declared.mode.Mode.{Mode}
 use Rattle.packet_framing.specs.declared.message.Message.{Message}
 use Rattle.packet_framing.specs.Messages.{IsServed, rest_of, last_message}
 use Rattle.driver_model.specs.port_config.declared.config.Config.{Config}
-use Rattle.driver_model.specs.port_signal.declared.row.Outside.{Outside}
-use Rattle.driver_model.specs.port_signal.declared.row.Outside.TheVariants.{Got, Again, End, Failed}
+use Rattle.driver_model.specs.port_signal.declared.outside.Outside.{Outside}
+use Rattle.driver_model.specs.port_signal.declared.outside.Outside.TheVariants.{Got, Again, End, Failed}
 use Rattle.driver_model.specs.port_model.declared.event.Dir.TheVariants.{Read}
 use Rattle.driver_model.specs.port_model.declared.signal.Sender.{Sender}
 use Rattle.driver_model.specs.port_model.declared.signal.Signal.{Signal}

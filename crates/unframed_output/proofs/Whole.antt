@@ -7,7 +7,7 @@ use Rattle.std.proofs.lemmas.List.{append-nil}
 use Rattle.driver_model.specs.port_config.declared.config.Config.{Config}
 use Rattle.driver_model.specs.port_signal.Links.{has}
 use Rattle.driver_model.specs.port_signal.Reasons.{is_kill}
-use Rattle.driver_model.specs.port_signal.declared.row.Outside.{Outside}
+use Rattle.driver_model.specs.port_signal.declared.outside.Outside.{Outside}
 use Rattle.driver_model.specs.port_model.declared.event.Dir.TheVariants.{Read, Write}
 use Rattle.driver_model.specs.port_model.declared.signal.Sender.{Sender}
 use Rattle.driver_model.specs.port_model.declared.signal.Sender.TheVariants.{Process, Poller, Worker, Timer}

@@ -5,7 +5,7 @@ use Rattle.packet_framing.specs.declared.mode.Mode.TheVariants.{Stream}
 use Rattle.packet_framing.specs.declared.message.Message.{Message}
 use Rattle.packet_framing.specs.Messages.{IsMessages, StreamMessages}
 use Rattle.driver_model.specs.port_config.Config.{is_served}
-use Rattle.driver_model.specs.port_signal.declared.row.Outside.TheVariants.{Got}
+use Rattle.driver_model.specs.port_signal.declared.outside.Outside.TheVariants.{Got}
 use Rattle.driver_model.specs.port_model.Tasks.{TaskView}
 use Rattle.driver_model.specs.port_model.declared.effect.Effect.{Effect}
 use Rattle.driver_model.specs.port_model.declared.signal.Sender.{Sender}

@@ -6,7 +6,7 @@ use Rattle.packet_framing.specs.declared.mode.Mode.TheVariants.{Stream}
 use Rattle.packet_framing.specs.declared.message.Message.{Message}
 use Rattle.packet_framing.specs.Lines.{message}
 use Rattle.packet_framing.specs.Messages.{messages_of, rest_of, last_message}
-use Rattle.driver_model.specs.port_signal.declared.row.Outside.{Outside}
+use Rattle.driver_model.specs.port_signal.declared.outside.Outside.{Outside}
 use Rattle.driver_model.specs.port_model.declared.effect.Effect.{Effect}
 use Rattle.driver_model.specs.port_model.declared.effect.Effect.TheVariants.{Message as Data}
 use Rattle.driver_model.specs.port_model.declared.row.Row.{Row}

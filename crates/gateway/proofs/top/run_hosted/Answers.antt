@@ -1,5 +1,6 @@
 use Rattle.std.proofs.Common.{refl}
 use Rattle.gateway.proofs.Ending.{ends_unread, ends_unmade, ends_made}
+use Rattle.gateway.proofs.Fixed.{FixedLaws, answers-fixed, summed}
 use Rattle.gateway.proofs.Polls.{poll-rose, poll-kept}
 use Rattle.gateway.proofs.Reported.{saves-within, all-ended}
 use Rattle.gateway.proofs.top.run_hosted.Goals as goal
@@ -31,6 +32,17 @@ write_left-cause-requires-clause-ended g c =
 pub returns-clause-run : goal.returns-clause-run
 returns-clause-run g c =
     let poll = rw c.in-Ok-ran.is at c.run_script-ran.ensures.poll in
+    let ran = rw c.in-Ok-ran.is at c.run_script-ran.ensures.ran in
+    let laws : FixedLaws g.D.Driver.kind g.D.Driver.stage g.D.Driver.faults g.D.Driver.own g.D.Driver.program = record {
+      echoed = c.commands_are_echoed.ensures.echoed;
+      all = c.commands_are_echoed.ensures.all;
+      none_refused = c.commands_are_echoed.ensures.none_refused;
+      saved = c.output_is_saved_in_every_run.ensures;
+      summed = c.summary_is_of_number.ensures;
+    } in
     ends_made g.D.Driver.kind g.D.Driver.stage g.D.Driver.faults g.D.Driver.own g.D.Driver.program _ c.in-Ok.ensures.input.0 c.in-Ok.prepared.input _ _ c.in-Ok-ran.left _ _ c.prepare.ensures.files
-    c.in-Ok.ensures.input.1 c.in-Ok.ensures.source c.prepare.ensures.load (rw c.in-Ok-ran.is at c.run_script-ran.ensures.ran) (poll-kept g.P.PollSet.faults c.args.poll c.run_script-ran.result.poll c.in-Ok-ran.left poll)
+    c.in-Ok.ensures.input.1 c.in-Ok.ensures.source c.prepare.ensures.load ran
+    (answers-fixed g.D.Driver.kind g.D.Driver.stage g.D.Driver.faults g.D.Driver.own g.D.Driver.program laws _ _ _ _ _ _ ran c.in-Ok.ensures.runnable)
+    (summed g.D.Driver.kind g.D.Driver.stage g.D.Driver.faults g.D.Driver.own g.D.Driver.program laws _ _ _ c.in-Ok.ensures.input.0 c.in-Ok.prepared.input c.in-Ok.ensures.input.1 _ _ _ _ c.in-Ok-ran.left ran)
+    (poll-kept g.P.PollSet.faults c.args.poll c.run_script-ran.result.poll c.in-Ok-ran.left poll)
     c.write_left-cause.ensures c.run_script-ran.ensures.back
