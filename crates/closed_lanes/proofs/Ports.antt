@@ -43,13 +43,13 @@ module _ {D : Type 0} (kind : D → Kind) (stage : D → Life) (faults : D → �
     returned = returned;
   }
 
-module _ {D : Type 0} (kind : D → Kind) (own : D → Own) (program : D → Option ToldProgram) where
+module _ {D : Type 0} (kind : D → Kind) (faults : D → ℕ) (own : D → Own) (program : D → Option ToldProgram) where
   host-is : (host : Hosted D) (driver : D) → host.driver ≡ Some driver → host ≡ record host { driver = Some driver }
   host-is host driver back = ap (λ o. record host { driver = o }) back
 
   -- what is kept of one port
   closed-one : (name : BodyName) (ends : List LaneEnd) (left : EndedPort) (host : Hosted D) → IsClosed name ends left → Lawful name.opening (reverse left.journal.rows)
-      → StandsAsLeft kind own program name left host → IsClosedPort name (closed_of (events_of own host) left)
+      → StandsAsLeft kind faults own program name left host → IsClosedPort name (closed_of (events_of own host) left)
   closed-one name ends left host closed lawful stands = record {
     lawful = lawful;
     finished = closed.finished;
@@ -67,13 +67,13 @@ module _ {D : Type 0} (kind : D → Kind) (own : D → Own) (program : D → Opt
     write = ap (λ (h : Hosted D). (events_of own h).1) (host-is host stands.driver stands.back) ∙ stands.stands.write;
   }
 
-  stopped-one : (name : BodyName) (events : ℕ × ℕ) (left : EndedPort) (host : Hosted D) → StandsAsLeft kind own program name left host → HasStopped kind own program name (closed_of events left) host
-  stopped-one name events left host stands = record { driver = stands.driver; back = stands.back; kind_is = stands.kind_is; stands = stands.stands }
+  stopped-one : (name : BodyName) (events : ℕ × ℕ) (left : EndedPort) (host : Hosted D) → StandsAsLeft kind faults own program name left host → HasStopped kind faults own program name (closed_of events left) host
+  stopped-one name events left host stands = record { driver = stands.driver; back = stands.back; kind_is = stands.kind_is; stands = stands.stands; failed = stands.failed }
 
   module _ (s : Setting) (bodies : List BodyView) (processes : List RanProcess) (ends : LaneEnds) (run : IsRun s bodies processes ends) where
     pub all-closed : (left : List EndedPort) (ports : List ClosedPort) (pools : List Lanes) (places : List ℕ) (hosts : List (Hosted D)) (workers : List WorkerRun) → ClosedPortsAreLawful → AcceptedSignalsHaveRows
-        → AreClosed bodies (given-columns ends) left → HaveEndedFrom kind own program bodies places left hosts → ArePartedInto own hosts places left ports pools
-        → HaveWorkedFor bodies (given-columns ends) left workers → AreClosedIn kind own program s processes ends.poller.items (map name_of bodies) places ports hosts
+        → AreClosed bodies (given-columns ends) left → HaveEndedFrom kind faults own program bodies places left hosts → ArePartedInto own hosts places left ports pools
+        → HaveWorkedFor bodies (given-columns ends) left workers → AreClosedIn kind faults own program s processes ends.poller.items (map name_of bodies) places ports hosts
     all-closed left ports pools places hosts workers lawful signals closed stand parted worked =
         let columns = given-columns ends in
         let all = (ports-of-lanes s bodies processes ends run).all in
@@ -97,8 +97,8 @@ module _ {D : Type 0} (kind : D → Kind) (own : D → Own) (program : D → Opt
               let inside : port < length left = omega (arith, left_are, within) in
               let v = some-of bodies port within in
               let l = some-of left port inside in
-              subst (λ name. HasStopped kind own program name (get_or ports port p) (get_or hosts (slice_index places port) h)) (sym (name-at port v n within))
-              (subst (λ q. HasStopped kind own program (name_of (get_or bodies port v)) q (get_or hosts (slice_index places port) h)) (sym (parted.each port h l p inside))
+              subst (λ name. HasStopped kind faults own program name (get_or ports port p) (get_or hosts (slice_index places port) h)) (sym (name-at port v n within))
+              (subst (λ q. HasStopped kind faults own program (name_of (get_or bodies port v)) q (get_or hosts (slice_index places port) h)) (sym (parted.each port h l p inside))
               (stopped-one (name_of (get_or bodies port v)) (events_of own (get_or hosts (slice_index places port) h)) (get_or left port l) (get_or hosts (slice_index places port) h) (stand.each port v l h within)));
           signals = λ port process p r below less.
               let within : port < length bodies = omega (arith, bodies_are, below) in

@@ -2,6 +2,7 @@
 use Rattle.std.specs.Prelude.{◌≡◌, ◌<◌, ℕ, List, length, reverse, map, All, Contains, Option, Some, slice_index, slice_index_or}
 use Rattle.driver_model.specs.Calls.{Kind, Own}
 use Rattle.driver_model.specs.Programs.{ToldProgram}
+use Rattle.driver_hosts.specs.port_driver.Faults.{failures_in, RisenBy}
 use Rattle.port_mail.specs.Ends.{MailEnd}
 use Rattle.port_model.specs.declared.row.Row.{Row}
 use Rattle.port_model.specs.declared.signal.Sender.TheVariants.{Process, Poller}
@@ -61,21 +62,22 @@ pub record IsClosedPort (name : BodyName) (port : ClosedPort) : Type 0 where
   pub write : port.events.1 ≡ name.opening.write
 
 module _ {D : Type 0} where
-  -- the driver of a port is back at its place, and stands as the calls of the port's history leave it
-  pub record HasStopped (kind : D → Kind) (own : D → Own) (program : D → Option ToldProgram) (name : BodyName) (port : ClosedPort) (host : Hosted D) : Type 0 where
+  -- the driver of a port is back at its place, and stands as the calls of the port's history leave it; its faults rose by the failures that the history tells
+  pub record HasStopped (kind : D → Kind) (faults : D → ℕ) (own : D → Own) (program : D → Option ToldProgram) (name : BodyName) (port : ClosedPort) (host : Hosted D) : Type 0 where
     pub driver : D
     pub back : host.driver ≡ Some driver
     pub kind_is : kind driver ≡ name.opening.kind
     pub stands : IsLeftByCalls name.opening (history_of port) (own driver) (program driver)
+    pub failed : RisenBy (failures_in port.journal.rows) name.faults (faults driver)
 
   -- So it is of each port. Of each process and port the tasks that have a row are those that were accepted, in the order sent, each once; and the poller's tasks that have a row are those that its end of the
   -- port's lane sent, in their order, each once
-  pub record AreClosedIn (kind : D → Kind) (own : D → Own) (program : D → Option ToldProgram) (s : Setting) (processes : List RanProcess) (poller : List LaneEnd) (names : List BodyName) (places : List ℕ)
+  pub record AreClosedIn (kind : D → Kind) (faults : D → ℕ) (own : D → Own) (program : D → Option ToldProgram) (s : Setting) (processes : List RanProcess) (poller : List LaneEnd) (names : List BodyName) (places : List ℕ)
       (ports : List ClosedPort) (hosts : List (Hosted D)) : Type 0 where
     pub many : length ports ≡ length s.ports
     pub closed : (port : ℕ) (n : BodyName) (p : ClosedPort) → port < length s.ports → IsClosedPort (slice_index_or names port n) (slice_index_or ports port p)
     pub stopped : (port : ℕ) (n : BodyName) (p : ClosedPort) (h : Hosted D) → port < length s.ports
-        → HasStopped kind own program (slice_index_or names port n) (slice_index_or ports port p) (slice_index_or hosts (slice_index places port) h)
+        → HasStopped kind faults own program (slice_index_or names port n) (slice_index_or ports port p) (slice_index_or hosts (slice_index places port) h)
     pub signals : (port process : ℕ) (p : ClosedPort) (r : RanProcess) → port < length s.ports → process < length processes
         → rows_from (Process process) (history_of (slice_index_or ports port p))
         ≡ accepted port (calls_made (slice_index_or processes process r)).asks (calls_made (slice_index_or processes process r)).receipts

@@ -61,7 +61,7 @@ pub fn close_lanes<D: Driver, R: Wait>(
     requires ran { (s : Setting) × (processes : List RanProcess) × IsSetting s × AreNamedIn s (map name_of bodies.items) × HaveRunIn s processes × GiveBack s processes ends }
     ensures returned { HaveComeBack D.kind D.stage D.faults D.own D.program bodies.items places.now hosts.old.items hosts.new.items }
     ensures closed { (s : Setting) (processes : List RanProcess) → IsSetting s → AreNamedIn s (map name_of bodies.items) → HaveRunIn s processes → GiveBack s processes ends
-        → IfOk result (λ ports. AreClosedIn D.kind D.own D.program s processes ends.poller.items (map name_of bodies.items) places.now ports.items hosts.new.items) }
+        → IfOk result (λ ports. AreClosedIn D.kind D.faults D.own D.program s processes ends.poller.items (map name_of bodies.items) places.now ports.items hosts.new.items) }
 {
     let LaneEnds {
         processes,

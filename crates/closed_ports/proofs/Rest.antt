@@ -4,6 +4,7 @@ use Rattle.std.specs.Prelude.{reverse, slice_index}
 use Rattle.task_queue.specs.Ends.{Taking}
 use Rattle.driver_model.specs.Calls.{Kind, Own}
 use Rattle.driver_model.specs.Programs.{ToldProgram}
+use Rattle.driver_hosts.specs.port_driver.Faults.{failures_in, RisenBy}
 use Rattle.driver_hosts.specs.port_driver.declared.life.Life.{Life}
 use Rattle.port_lanes.specs.Keys.{Key}
 use Rattle.port_lanes.specs.Parcels.{ParcelView}
@@ -72,21 +73,22 @@ module _ {D : Type 0} (kind : D → Kind) (stage : D → Life) (faults : D → �
     returned = returned;
   }
 
-  -- the driver of a settled port stands as its history's calls leave it
-  stands-one : (v : BodyView) (p : EndedPort) (old new : Hosted D) → IsSettled v → HasLeft v p → HasReturned kind stage faults own program v old new → StandsAsLeft kind own program (name_of v) p new
+  -- the driver of a settled port stands as its history's calls leave it, and has counted the failures
+  stands-one : (v : BodyView) (p : EndedPort) (old new : Hosted D) → IsSettled v → HasLeft v p → HasReturned kind stage faults own program v old new → StandsAsLeft kind faults own program (name_of v) p new
   stands-one v p old new settled left returned = record {
     driver = returned.driver;
     back = ap (λ (h : Hosted D). h.driver) returned.back;
     kind_is = returned.same_kind;
     stands = subst (λ rows. IsLeftByCalls (name_of v).opening (reverse rows) (own returned.driver) (program returned.driver)) (sym left.left.rows) (returned.stands settled.finished settled.whole);
+    failed = subst (λ rows. RisenBy (failures_in rows) (name_of v).faults (faults returned.driver)) (sym left.left.rows) returned.failed;
   }
 
   pub all-stand : (old mid new : List BodyView) (columns : List (List LaneEnd)) (places : List ℕ) (hosts back : List (Hosted D)) (ports : List EndedPort) → TakeColumnsIn old columns mid
-      → AreSamePorts mid new → AreSettled new → LeaveAll new ports → AreReturned kind stage faults own program new places hosts back → HaveEndedFrom kind own program old places ports back
+      → AreSamePorts mid new → AreSettled new → LeaveAll new ports → AreReturned kind stage faults own program new places hosts back → HaveEndedFrom kind faults own program old places ports back
   all-stand old mid new columns places hosts back ports takes same settled leave returned = record {
     each = λ port v p h within.
         let inside : port < length new = let m = takes.many in let n = same.many in omega (arith, m, n, within) in
-        subst (λ name. StandsAsLeft kind own program name (get_or ports port p) (get_or back (slice_index places port) h)) (same-name old mid new columns takes same port v v within)
+        subst (λ name. StandsAsLeft kind faults own program name (get_or ports port p) (get_or back (slice_index places port) h)) (same-name old mid new columns takes same port v v within)
         (stands-one (get_or new port v) (get_or ports port p) (get_or hosts (slice_index places port) h) (get_or back (slice_index places port) h) (settled port v inside) (leave.each port v p inside)
         (returned.returned port v h inside));
   }

@@ -44,7 +44,7 @@ pub fn close_ports<D: Driver, R: Wait>(
     requires lanes { ArePortsOfLanes bodies.items (map (λ c. c.items) columns.items) }
     ensures returned { HaveComeBack D.kind D.stage D.faults D.own D.program bodies.items places.now hosts.old.items hosts.new.items }
     ensures closed { IfOk result (λ ports. AreClosed bodies.items (map (λ c. c.items) columns.items) ports.items) }
-    ensures stand { IfOk result (λ ports. HaveEndedFrom D.kind D.own D.program bodies.items places.now ports.items hosts.new.items) }
+    ensures stand { IfOk result (λ ports. HaveEndedFrom D.kind D.faults D.own D.program bodies.items places.now ports.items hosts.new.items) }
 {
     settled_ports_have_all_ends();
     settled_rows_are_what_was_sent();

@@ -2,7 +2,7 @@
 ghost use Rattle.std.specs.Prelude.{◌≡◌, ◌<◌, [], IfOk};
 ghost use Rattle.crowd_tests.specs.Sides.{AreFreshSeats};
 
-use crate::rig::{PERIOD, Port, mailbox, open, process, side_of};
+use crate::rig::{CrowdPort, PERIOD, mailbox, open, process, side_of};
 use crate::sending::{COMMANDS, MOST, Member, send_all};
 use crate::taking::{Taker, take_all};
 use port_lanes::Parcel;
@@ -42,7 +42,7 @@ fn run<R: Threads + Wait + Sync>(
 /// The process with this end and one of the seats, and the end that puts mail for it.
 fn member(
     alloc: Global,
-    port: &Port,
+    port: &CrowdPort,
     lane: SendEnd<Parcel>,
     seats: &mut Vec<SendSeat>,
 ) -> Result<(Member, SendEnd<Mail>), Fail>

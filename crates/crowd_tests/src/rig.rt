@@ -18,7 +18,7 @@ pub(crate) const PERIOD: u64 = 1 << 40;
 
 /// What a process has of one port.
 #[derive(Drop)]
-pub(crate) struct Side {
+pub(crate) struct CrowdSide {
     lane: SendEnd<Parcel>,
     seat: SendSeat,
     soft: bool,
@@ -27,7 +27,7 @@ pub(crate) struct Side {
 
 /// The port's side: its seat of the words, and the end of its lane that takes.
 #[derive(Drop)]
-pub(crate) struct Port {
+pub(crate) struct CrowdPort {
     pub(crate) seat: PortSeat,
     lane: TakeEnd<Parcel>,
     ghost tables: { lane.key.table ≡ seat.table },
@@ -35,23 +35,23 @@ pub(crate) struct Port {
 
 /// A task that a port took: the number of its sender's end, its own number, and the MSGQ word that was left where it was a command.
 #[derive(Drop)]
-pub(crate) struct Taken {
+pub(crate) struct CrowdTask {
     pub(crate) sender: u32,
     pub(crate) seq: u64,
     pub(crate) task: Task,
     pub(crate) msgq: Option<u64>,
 }
 
-impl Port {
+impl CrowdPort {
     /// Takes the next task, and the bytes of a command away.
-    pub(crate) fn take<R: Wait>(&mut self, rt: &R) -> Option<Taken> {
+    pub(crate) fn take<R: Wait>(&mut self, rt: &R) -> Option<CrowdTask> {
         let Item { sender, seq, value } = self.lane.take(rt)?;
         let (task, weight) = value.into_parts();
         let msgq = match weight {
             Some(weight) => Some(self.seat.removed(rt, weight)),
             None => None,
         };
-        Some(Taken {
+        Some(CrowdTask {
             sender,
             seq,
             task,
@@ -91,7 +91,7 @@ pub(crate) fn open(
     alloc: Global,
     limits: QueueLimits,
     senders: u32,
-) -> Result<(SendEnd<Parcel>, Vec<SendSeat>, Port), Fail>
+) -> Result<(SendEnd<Parcel>, Vec<SendSeat>, CrowdPort), Fail>
     requires senders { (0 < senders) × (senders ≤ 32) }
     requires limits { InRange limits.on limits.low limits.high }
     ensures lane { IfOk result (λ r. (r.0.number ≡ 0) × (r.0.made ≡ 1) × (r.0.sent ≡ []) × (r.0.key.processes ≡ senders)) }
@@ -101,15 +101,15 @@ pub(crate) fn open(
     let (seat, seats) = table(alloc, limits, senders)?;
     let key = LaneKey::new(senders, 0, &seat);
     let (put, take) = lane::<Parcel>(alloc, Snapshot::of(&key))?;
-    Ok((put, seats, Port { seat, lane: take }))
+    Ok((put, seats, CrowdPort { seat, lane: take }))
 }
 
 /// What the process with this end has of the port: the end, and one of the seats.
 pub(crate) fn side_of(
-    port: &Port,
+    port: &CrowdPort,
     lane: SendEnd<Parcel>,
     seats: &mut Vec<SendSeat>,
-) -> Result<Side, Fail>
+) -> Result<CrowdSide, Fail>
     requires lane { (lane.number < lane.key.processes) × (lane.sent ≡ []) × (lane.key.table ≡ port.now.seat.table) }
     requires seats { AreFreshSeats port.now.seat.table seats.old.items }
     ensures lane { IfOk result (λ side. side.lane ≡ lane) }
@@ -118,7 +118,7 @@ pub(crate) fn side_of(
     let Some(seat) = seats.pop() else {
         return Err("no seat".into());
     };
-    Ok(Side {
+    Ok(CrowdSide {
         lane,
         seat,
         soft: false,
@@ -139,13 +139,13 @@ pub(crate) fn process(
     alloc: Global,
     number: u32,
     mailbox: TakeEnd<Mail>,
-    side: Side,
+    side: CrowdSide,
 ) -> Result<Proc, Fail>
     requires number { side.lane.number ≡ number }
     requires untaken { mailbox.taken ≡ [] }
     ensures { IfOk result (λ proc. length proc.lanes ≡ 1) }
 {
-    let Side { lane, seat, soft } = side;
+    let CrowdSide { lane, seat, soft } = side;
     let mut lanes = Vec::new(alloc);
     let mut seats = Vec::new(alloc);
     lanes.reserve(1)?;

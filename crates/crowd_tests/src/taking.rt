@@ -1,5 +1,5 @@
 // The side of the port: takes the commands, and resumes those that they suspended.
-use crate::rig::{Port, Taken, resume};
+use crate::rig::{CrowdPort, CrowdTask, resume};
 use port_model::{Mail, Signal};
 use port_words::busy::msgq_is_busy;
 use std::alloc::Global;
@@ -10,14 +10,14 @@ use task_queue::SendEnd;
 /// A port, the ends that put mail for its senders, the suspended commands that wait for their resume, and how many senders have ended.
 #[derive(Drop)]
 pub(crate) struct Taker {
-    pub(crate) port: Port,
+    pub(crate) port: CrowdPort,
     mails: Vec<SendEnd<Mail>>,
     listed: Vec<(u32, u64)>,
     ended: u32,
 }
 
 impl Taker {
-    pub(crate) fn new(alloc: Global, port: Port, mails: Vec<SendEnd<Mail>>) -> Taker {
+    pub(crate) fn new(alloc: Global, port: CrowdPort, mails: Vec<SendEnd<Mail>>) -> Taker {
         Taker {
             port,
             mails,
@@ -36,7 +36,7 @@ impl Taker {
     }
 
     /// Counts the end of a sender, lists a suspended one, and resumes all where the queue isn't busy after this task.
-    fn note<R: Wait>(&mut self, rt: &R, taken: &Taken) -> Option<()> {
+    fn note<R: Wait>(&mut self, rt: &R, taken: &CrowdTask) -> Option<()> {
         if matches!(taken.task.signal(), Signal::Gone(_)) {
             self.ended = self.ended.wrapping_add(1);
         }

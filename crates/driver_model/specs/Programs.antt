@@ -1,8 +1,8 @@
 -- What is told of a program, and that the calls of its driver agree with it.
 use Rattle.std.specs.Prelude.{◌≡◌, ℕ, ℤ, List, [], ◌∷◌, ◌++◌, take, Bool, true, false, ◌||◌, All, Option, Some, IsSome}
 use Rattle.port_config.specs.declared.config.Config.{Config}
-use Rattle.port_model.specs.port_signal.declared.row.Outside.{Outside}
-use Rattle.port_model.specs.port_signal.declared.row.Outside.TheVariants.{Status}
+use Rattle.port_model.specs.port_signal.declared.outside.Outside.{Outside}
+use Rattle.port_model.specs.port_signal.declared.outside.Outside.TheVariants.{Status}
 use Rattle.driver_model.specs.Calls.{DriverCall}
 use Rattle.driver_model.specs.Spawn.{asked, given, has_end, taken_bytes}
 

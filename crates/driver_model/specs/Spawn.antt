@@ -8,8 +8,8 @@ use Rattle.port_config.specs.packet_framing.Frames.{header_len, header_limit, fr
 use Rattle.port_config.specs.packet_framing.Packets.{told_len}
 use Rattle.port_config.specs.packet_framing.Messages.{last_message, messages_of, rest_of}
 use Rattle.port_config.specs.declared.config.Config.{Config}
-use Rattle.port_model.specs.port_signal.declared.row.Outside.{Outside}
-use Rattle.port_model.specs.port_signal.declared.row.Outside.TheVariants.{Took, Got, Again, End, Failed, Status}
+use Rattle.port_model.specs.port_signal.declared.outside.Outside.{Outside}
+use Rattle.port_model.specs.port_signal.declared.outside.Outside.TheVariants.{Took, Got, Again, End, Failed, Status}
 use Rattle.port_model.specs.declared.event.Dir.TheVariants.{Read, Write}
 use Rattle.port_model.specs.declared.effect.Effect.{Effect}
 use Rattle.port_model.specs.declared.effect.Effect.TheVariants.{Message, Eof, Status as TellStatus, Busy, Select, ReplyBadarg, Fail}

@@ -1,7 +1,7 @@
 //! The other kinds, by what each call shows.
 ghost use Rattle.std.specs.Prelude.{◌≡◌, IfOk};
 
-use crate::port::{Port, context, replies, sends};
+use crate::port::{DrivenPort, context, replies, sends};
 use driver_queue::DriverQueue;
 use port_driver::{Config, Driver, Life, ReplyTo, StartRefusal};
 use port_model::Effect;
@@ -12,7 +12,7 @@ use std::test::Fail;
 #[test]
 fn echo_sends_the_segments_of_a_command_as_one(rt: HostRuntime) -> Result<(), Fail> {
     let alloc = rt.alloc();
-    let mut port = Port::open(alloc, Echo::new())?;
+    let mut port = DrivenPort::open(alloc, Echo::new())?;
     let effects = port.command(alloc, &[b"ab", b"", b"c"])?;
     assert!(rt; sends(effects.as_slice(), b"abc"));
     let none = port.command(alloc, &[])?;
@@ -23,7 +23,7 @@ fn echo_sends_the_segments_of_a_command_as_one(rt: HostRuntime) -> Result<(), Fa
 #[test]
 fn echo_answers_operation_1_with_its_bytes(rt: HostRuntime) -> Result<(), Fail> {
     let alloc = rt.alloc();
-    let mut port = Port::open(alloc, Echo::new())?;
+    let mut port = DrivenPort::open(alloc, Echo::new())?;
     let (control, _) = port.control(alloc, 1, b"ab")?;
     assert!(rt; replies(&control, b"ab"));
     let call = port.call(alloc, 1, b"cd")?;
@@ -34,10 +34,10 @@ fn echo_answers_operation_1_with_its_bytes(rt: HostRuntime) -> Result<(), Fail> 
 }
 
 /// A tally of two commands, of three and of no bytes.
-fn tally(alloc: Global) -> Result<Port<Tally>, Fail>
+fn tally(alloc: Global) -> Result<DrivenPort<Tally>, Fail>
     ensures { IfOk result (λ port. port.driver.life ≡ Life.Started) }
 {
-    let mut port = Port::open(alloc, Tally::new())?;
+    let mut port = DrivenPort::open(alloc, Tally::new())?;
     port.command(alloc, &[b"ab", b"c"])?;
     port.command(alloc, &[])?;
     Ok(port)
@@ -76,7 +76,7 @@ fn tally_watches_the_caller_and_tells_its_end(rt: HostRuntime) -> Result<(), Fai
 #[test]
 fn valve_sends_the_segments_of_a_command_as_one(rt: HostRuntime) -> Result<(), Fail> {
     let alloc = rt.alloc();
-    let mut port = Port::open(alloc, Valve::new())?;
+    let mut port = DrivenPort::open(alloc, Valve::new())?;
     let effects = port.command(alloc, &[b"ab", b"c"])?;
     assert!(rt; sends(effects.as_slice(), b"abc"));
     assert!(rt; !port.driver().soft_busy());
@@ -95,7 +95,7 @@ fn a_soft_valve_says_so_by_its_name(rt: HostRuntime) -> Result<(), Fail> {
 #[test]
 fn a_soft_valve_is_set_busy_and_freed(rt: HostRuntime) -> Result<(), Fail> {
     let alloc = rt.alloc();
-    let mut port = Port::open(alloc, Valve::soft())?;
+    let mut port = DrivenPort::open(alloc, Valve::soft())?;
     let (answer, set) = port.control(alloc, 1, b"")?;
     assert!(rt; replies(&answer, b""));
     assert!(rt; matches!(set.as_slice(), [Effect::Busy(true)]));
@@ -126,7 +126,7 @@ fn submits(effects: &[Effect], wanted: (u64, u32, u8, &[u8])) -> bool {
 #[test]
 fn digest_makes_a_job_of_two_segments(rt: HostRuntime) -> Result<(), Fail> {
     let alloc = rt.alloc();
-    let mut port = Port::open(alloc, Digest::new())?;
+    let mut port = DrivenPort::open(alloc, Digest::new())?;
     let first = port.command(alloc, &[b"\x09", b"\x03ab"])?;
     assert!(rt; submits(first.as_slice(), (0, 9, 3, b"ab")));
     let second = port.command(alloc, &[b"\x09\x01"])?;
@@ -139,7 +139,7 @@ fn digest_makes_a_job_of_two_segments(rt: HostRuntime) -> Result<(), Fail> {
 #[test]
 fn digest_fails_where_a_command_makes_no_job(rt: HostRuntime) -> Result<(), Fail> {
     let alloc = rt.alloc();
-    let mut port = Port::open(alloc, Digest::new())?;
+    let mut port = DrivenPort::open(alloc, Digest::new())?;
     let effects = port.command(alloc, &[b"\x09", b"\x04ab"])?;
     assert!(rt;
         matches!(effects.as_slice(), [Effect::Fail(reason)] if reason.as_bytes() == b"einval".as_slice())

@@ -10,7 +10,7 @@ use std::test::Fail;
 
 /// A started driver, its queue and the number of its next job.
 #[derive(Drop)]
-pub(crate) struct Port<D: Driver> {
+pub(crate) struct DrivenPort<D: Driver> {
     driver: D,
     queue: DriverQueue,
     next_job: u64,
@@ -48,9 +48,9 @@ pub(crate) fn replies(answer: &ReplyTo, wanted: &[u8]) -> bool {
     matches!(answer, ReplyTo::Bytes(bytes) if bytes.as_slice() == wanted)
 }
 
-impl<D: Driver> Port<D> {
+impl<D: Driver> DrivenPort<D> {
     /// A port that this driver serves.
-    pub(crate) fn open(alloc: Global, driver: D) -> Result<Port<D>, Fail>
+    pub(crate) fn open(alloc: Global, driver: D) -> Result<DrivenPort<D>, Fail>
         requires { D.stage driver ≡ Life.Fresh }
         ensures { IfOk result (λ port. D.stage port.driver ≡ Life.Started) }
     {
@@ -61,7 +61,7 @@ impl<D: Driver> Port<D> {
             return Err("the driver refused".into());
         }
         let (queue, _, _) = ctx.finish();
-        Ok(Port {
+        Ok(DrivenPort {
             driver,
             queue,
             next_job: 0,

@@ -1,23 +1,23 @@
 //! The kind `store`, by what its queue has after each call.
 ghost use Rattle.std.specs.Prelude.{◌≡◌, IfOk};
 
-use crate::port::{Port, replies, sends};
+use crate::port::{DrivenPort, replies, sends};
 use port_driver::{Life, ReplyTo};
 use sample_drivers::Store;
 use std::alloc::Global;
 use std::test::Fail;
 
 /// A store in which a command of two segments put `abc`.
-fn stored(alloc: Global) -> Result<Port<Store>, Fail>
+fn stored(alloc: Global) -> Result<DrivenPort<Store>, Fail>
     ensures { IfOk result (λ port. port.driver ≡ Life.Started) }
 {
-    let mut port = Port::open(alloc, Store::new())?;
+    let mut port = DrivenPort::open(alloc, Store::new())?;
     port.command(alloc, &[b"ab", b"c"])?;
     Ok(port)
 }
 
 /// Whether control 3 answers these bytes.
-fn holds(alloc: Global, port: &mut Port<Store>, wanted: &[u8]) -> Result<bool, Fail>
+fn holds(alloc: Global, port: &mut DrivenPort<Store>, wanted: &[u8]) -> Result<bool, Fail>
     requires { port.old.driver ≡ Life.Started }
 {
     let (answer, _) = port.control(alloc, 3, b"")?;

@@ -13,7 +13,7 @@ use Rattle.port_history.specs.port_model.declared.effect.Effect.{Effect}
 use Rattle.port_history.specs.port_model.declared.effect.Effect.TheVariants.{Message as Data}
 use Rattle.port_history.specs.port_model.declared.mail.Mail.{Mail}
 use Rattle.port_history.specs.port_model.declared.mail.Mail.TheVariants as mail
-use Rattle.driver_model.specs.port_signal.declared.row.Outside.{Outside}
+use Rattle.driver_model.specs.port_signal.declared.outside.Outside.{Outside}
 use Rattle.port_history.specs.port_model.declared.row.Row.{Row}
 use Rattle.port_history.specs.port_model.declared.signal.Sender.{Sender}
 use Rattle.port_history.specs.port_model.declared.signal.Sender.TheVariants.{Process, Poller, Worker, Timer}

@@ -7,7 +7,7 @@ use Rattle.driver_model.specs.port_signal.Reasons.{is_normal}
 use Rattle.std.proofs.lemmas.List.{append-nil}
 use Rattle.std.proofs.lemmas.List.Concat.{flat_map-append}
 use Rattle.driver_model.specs.port_signal.Links.{has, end_closes}
-use Rattle.driver_model.specs.port_signal.declared.row.Outside.{Outside}
+use Rattle.driver_model.specs.port_signal.declared.outside.Outside.{Outside}
 use Rattle.driver_model.specs.Same.{same_effects}
 use Rattle.port_history.specs.port_model.declared.effect.Effect.{Effect}
 use Rattle.port_history.specs.port_model.declared.mail.Mail.{Mail}

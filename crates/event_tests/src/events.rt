@@ -1,5 +1,5 @@
 use port_events::{
-    Dir, Effect, Ending, EventFault, NoMemory, PollAsk, PortEvents, Signal, StartFault,
+    AfterTask, Dir, Effect, EventFault, NoMemory, PollAsk, PortEvents, Signal, StartFault,
 };
 use std::alloc::Global;
 use std::snapshot::Snapshot;
@@ -7,7 +7,7 @@ use std::sync::Wait;
 use std::test::Fail;
 use task_queue::{TakeEnd, lane};
 
-const RUNS: Ending = Ending {
+const RUNS: AfterTask = AfterTask {
     closed: false,
     stops: false,
 };
@@ -92,7 +92,7 @@ fn a_close_ends_reading_and_the_stop_ends_what_is_left(rt: HostRuntime) -> Resul
     let armed = [arm(4, Dir::Read), arm(5, Dir::Write)];
     assert!(rt; asked(&rt, alloc, &mut lane)?.as_slice() == armed.as_slice());
 
-    let closed = Ending {
+    let closed = AfterTask {
         closed: true,
         stops: false,
     };
@@ -103,7 +103,7 @@ fn a_close_ends_reading_and_the_stop_ends_what_is_left(rt: HostRuntime) -> Resul
     assert!(rt; !events.is_ready(4, Dir::Read) && events.is_ready(5, Dir::Write));
     events.note_late(&ready(4, Dir::Read));
 
-    let stopped = Ending {
+    let stopped = AfterTask {
         closed: true,
         stops: true,
     };

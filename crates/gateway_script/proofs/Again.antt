@@ -24,7 +24,7 @@ use Rattle.script_text.proofs.AgainData.{io_list_again, term_again, spelling_beg
 use Rattle.gateway_script.specs.Words.{is_word_byte, gap_at, word_at, next_word_at, name_of, next_name_at, is_reserved, free_name_of, next_free_name_at, last, next_number_at, number_within, next_text_at, utf8_name_of, next_file_at, ◌>>=◌}
 use Rattle.gateway_script.specs.Options.{suits}
 use Rattle.gateway_script.specs.Forms.{limits_at, msgq_at, packet_of, packet_at, line_at, run_at, busy_at, option_behind, option_at, some_options_at, options_at, nosuspend_at, how_at, payload_at, term_at, command_at, file_at, send_at, control_at, call_at, only_number_at, only_name_at, named_at, action_at, step_behind, process_at, suited, port_at, journal_at, save_at, step_at, form_at, is_silent, statement_of}
-use Rattle.gateway_script.specs.declared.options.QueueLimits.{QueueLimits}
+use Rattle.gateway_script.specs.declared.options.LimitPair.{LimitPair}
 use Rattle.gateway_script.specs.declared.options.PortOption.{PortOption}
 use Rattle.gateway_script.specs.declared.options.PortOption.TheVariants.{Msgq, MsgqOff, Run, Framing, Busy}
 use Rattle.gateway_script.specs.declared.statement.Statement.{Statement}
@@ -199,7 +199,7 @@ term_part_again n t text rest s ends =
 assoc : (xs ys zs : List ℕ) → (xs ++ ys) ++ zs ≡ xs ++ (ys ++ zs)
 assoc xs ys zs = append_assoc xs ys zs
 
-limits_again : (limits : QueueLimits) (text rest : List ℕ) → SpellsLimits limits text → ends_word rest ≡ true → limits_at (text ++ rest) ≡ Some (limits, rest)
+limits_again : (limits : LimitPair) (text rest : List ℕ) → SpellsLimits limits text → ends_word rest ≡ true → limits_at (text ++ rest) ≡ Some (limits, rest)
 unfolding limits_at
 limits_again limits text rest s ends =
     let high_rest = gap (suc s.between) ++ (s.high ++ rest) in
@@ -233,7 +233,7 @@ no_off number text s =
     let other : (f.first == 111) ≡ false = elim (eqb_tells f.first 111) [ inl (t, is) ↦ absurd (omega (arith, f.high)) | inr (t, is) ↦ t ] in
     ap (λ xs. bytes_eq xs (codes "off")) f.is ∙ ap (λ b. b && bytes_eq f.others (codes "ff")) other
 
-msgq_again : (limits : QueueLimits) (text rest : List ℕ) → SpellsLimits limits text → ends_word rest ≡ true → msgq_at (text ++ rest) ≡ Some (Msgq limits, rest)
+msgq_again : (limits : LimitPair) (text rest : List ℕ) → SpellsLimits limits text → ends_word rest ≡ true → msgq_at (text ++ rest) ≡ Some (Msgq limits, rest)
 unfolding msgq_at
 msgq_again limits text rest s ends =
     let high_rest = gap (suc s.between) ++ (s.high ++ rest) in
@@ -286,7 +286,7 @@ pub record OptionWord (kind text : List ℕ) : Type 0 where
   pub word : is_word kind ≡ true
   pub ends : (rest : List ℕ) → ends_word rest ≡ true → ends_word (text ++ rest) ≡ true
 
-limits_end : (limits : QueueLimits) (text rest : List ℕ) → SpellsLimits limits text → ends_word (text ++ rest) ≡ true
+limits_end : (limits : LimitPair) (text rest : List ℕ) → SpellsLimits limits text → ends_word (text ++ rest) ≡ true
 limits_end limits text rest s = ap (λ xs. ends_word (xs ++ rest)) s.is
 
 option_word : (option : PortOption) (kind text : List ℕ) → SpellsOption option kind text → OptionWord kind text

@@ -5,13 +5,13 @@ use Rattle.std.proofs.lemmas.Bool.{and_parts, le-leb}
 use Rattle.std.proofs.lemmas.List.Elements.{All-head, All-tail}
 use Rattle.port_config.specs.declared.config.Config.{Config}
 use Rattle.port_config.specs.Config.{is_pair, is_served, is_config}
-use Rattle.gateway_script.specs.declared.options.QueueLimits.{QueueLimits}
+use Rattle.gateway_script.specs.declared.options.LimitPair.{LimitPair}
 use Rattle.gateway_script.specs.declared.options.PortOption.{PortOption}
 use Rattle.gateway_script.specs.declared.options.PortOption.TheVariants.{Msgq, MsgqOff, Run, Framing, Eof, ExitStatus, Busy}
 use Rattle.gateway_script.specs.Options.{set, set_all}
 use Rattle.gateway_script.specs.Ranges.{AreLimits, InOption}
 
-pair_of : (limits : QueueLimits) → AreLimits limits → is_pair (min limits.low limits.high) limits.high ≡ true
+pair_of : (limits : LimitPair) → AreLimits limits → is_pair (min limits.low limits.high) limits.high ≡ true
 pair_of limits are =
     ap (λ b. b && nat_le (min limits.low limits.high) limits.high && nat_le limits.high 1073741824) (le-leb 1 (min limits.low limits.high) (omega (arith, are.low_from, are.high_from)))
     ∙ ap (λ b. b && nat_le limits.high 1073741824) (le-leb (min limits.low limits.high) limits.high (omega arith))

@@ -16,7 +16,7 @@ use Rattle.script_text.proofs.Fronts.{front_parts}
 use Rattle.gateway_script.specs.Words.{is_word_byte, word_at, next_word_at, next_name_at, free_name_of, next_free_name_at, last, next_number_at, number_within, next_text_at, next_file_at, ◌>>=◌}
 use Rattle.gateway_script.specs.Options.{suits}
 use Rattle.gateway_script.specs.Forms.{limits_at, msgq_at, packet_of, packet_at, line_at, run_at, busy_at, flag_of, option_behind, option_at, is_end, some_options_at, options_at, nosuspend_at, how_at, payload_at, op_at, term_at, command_at, file_at, send_at, control_at, call_at, only_number_at, only_name_at, bare_action, bare_at, named_at, action_at, step_behind, process_at, suited, port_at, journal_at, save_at, step_at, form_at, is_printable, is_silent, statement_of}
-use Rattle.gateway_script.specs.declared.options.QueueLimits.{QueueLimits}
+use Rattle.gateway_script.specs.declared.options.LimitPair.{LimitPair}
 use Rattle.gateway_script.specs.declared.options.PortOption.{PortOption}
 use Rattle.gateway_script.specs.declared.options.PortOption.TheVariants.{Msgq, MsgqOff, Run, Framing, Eof, ExitStatus, Busy}
 use Rattle.gateway_script.specs.declared.statement.Statement.{Statement}
@@ -30,22 +30,22 @@ use Rattle.gateway_script.proofs.FoundParts.{bound, either, not_not, next_word_f
 
 -- ---- the options of a port
 
-limits_found : (bytes : List ℕ) (limits : QueueLimits) (rest : List ℕ) → limits_at bytes ≡ Some (limits, rest) → InFront SpellsLimits limits bytes rest
+limits_found : (bytes : List ℕ) (limits : LimitPair) (rest : List ℕ) → limits_at bytes ≡ Some (limits, rest) → InFront SpellsLimits limits bytes rest
 unfolding limits_at
 limits_found bytes limits rest h =
     let a = bound (number_within 1 1073741824 bytes) (λ low. number_within 1 1073741824 low.1 >>= λ high. Some (record { low = low.0; high = high.0 }, high.1)) (limits, rest) h in
     let b = bound (number_within 1 1073741824 a.0.1) (λ high. Some (record { low = a.0.0; high = high.0 }, high.1)) (limits, rest) a.2 in
     let p = number_within_found 1 1073741824 bytes a.0.0 a.0.1 a.1 in
     let q = number_within_found 1 1073741824 a.0.1 b.0.0 b.0.1 b.1 in
-    let made : QueueLimits = record { low = a.0.0; high = b.0.0 } in
-    let pairs : ◌≡◌ {A = QueueLimits × List ℕ} (made, b.0.1) (limits, rest) = cc in
+    let made : LimitPair = record { low = a.0.0; high = b.0.0 } in
+    let pairs : ◌≡◌ {A = LimitPair × List ℕ} (made, b.0.1) (limits, rest) = cc in
     let text = gap (suc p.more) ++ (p.text ++ (gap (suc q.more) ++ q.text)) in
     let parts : bytes ≡ text ++ b.0.1 =
     p.is ∙ ap (λ xs. gap (suc p.more) ++ (p.text ++ xs)) (q.is ∙ sym (append_assoc (gap (suc q.more)) q.text b.0.1))
     ∙ ap (λ xs. gap (suc p.more) ++ xs) (sym (append_assoc p.text (gap (suc q.more) ++ q.text) b.0.1))
     ∙ sym (append_assoc (gap (suc p.more)) (p.text ++ (gap (suc q.more) ++ q.text)) b.0.1)
     in
-    subst (λ (p : QueueLimits × List ℕ). InFront SpellsLimits p.0 bytes p.1) pairs
+    subst (λ (p : LimitPair × List ℕ). InFront SpellsLimits p.0 bytes p.1) pairs
     (record { text = text; parts = parts; spelled = record { before = p.more; between = q.more; low = p.text; high = q.text; is = refl; spelled_low = p.spelled; spelled_high = q.spelled } })
 
 -- an option behind the word for it
@@ -68,8 +68,8 @@ flag kind word made option e f s =
     let same : made ≡ option = cc in
     subst (λ (k : List ℕ). SpellsOption option k []) (sym (word_is kind word e)) (subst (λ (o : PortOption). SpellsOption o word []) same s)
 
-limits_option : (make : QueueLimits → PortOption) (kind bytes : List ℕ) (option : PortOption) (rest : List ℕ) → ◌>>=◌ {B = PortOption × List ℕ} (limits_at bytes) (λ limits. Some (make limits.0, limits.1)) ≡ Some (option, rest)
-    → ((limits : QueueLimits) (text : List ℕ) → SpellsLimits limits text → SpellsOption (make limits) kind text) → FoundOption option kind bytes rest
+limits_option : (make : LimitPair → PortOption) (kind bytes : List ℕ) (option : PortOption) (rest : List ℕ) → ◌>>=◌ {B = PortOption × List ℕ} (limits_at bytes) (λ limits. Some (make limits.0, limits.1)) ≡ Some (option, rest)
+    → ((limits : LimitPair) (text : List ℕ) → SpellsLimits limits text → SpellsOption (make limits) kind text) → FoundOption option kind bytes rest
 limits_option make kind bytes option rest h spell =
     let a = bound (limits_at bytes) (λ limits. Some (make limits.0, limits.1)) (option, rest) h in
     let i = limits_found bytes a.0.0 a.0.1 a.1 in

@@ -3,7 +3,7 @@ use Rattle.std.proofs.Common.{◌≡◌, ℕ, List, Some, All, refl, ap, ◌∙�
 use Rattle.std.specs.Prelude.{nat_le, ◌&&◌}
 use Rattle.std.proofs.lemmas.Bool.{le-leb}
 use Rattle.std.proofs.lemmas.List.Elements.{All-nil, All-cons}
-use Rattle.gateway_script.specs.declared.options.QueueLimits.{QueueLimits}
+use Rattle.gateway_script.specs.declared.options.LimitPair.{LimitPair}
 use Rattle.gateway_script.specs.declared.options.PortOption.{PortOption}
 use Rattle.gateway_script.specs.declared.statement.Statement.{Statement}
 use Rattle.gateway_script.specs.declared.statement.Action.{Action}
@@ -13,7 +13,7 @@ use Rattle.gateway_script.specs.Grammar as G
 use Rattle.gateway_script.specs.Ranges.{AreLimits, InOption, InAction, InStatement}
 use Rattle.gateway_script.proofs.Found.{line_found}
 
-limits-ranges : (limits : QueueLimits) (text : List ℕ) → SpellsLimits limits text → AreLimits limits
+limits-ranges : (limits : LimitPair) (text : List ℕ) → SpellsLimits limits text → AreLimits limits
 limits-ranges limits text s = record { low_from = s.spelled_low.least; low_to = s.spelled_low.greatest; high_from = s.spelled_high.least; high_to = s.spelled_high.greatest }
 
 option-ranges : (option : PortOption) (kind text : List ℕ) → SpellsOption option kind text → InOption option

@@ -10,7 +10,7 @@ use Rattle.script_text.specs.Data as data_of
 use Rattle.script_text.specs.Reading.{io_bytes_at, value_at}
 use Rattle.gateway_script.specs.Words.{◌>>=◌, gap_at, word_at, next_word_at, next_name_at, free_name_of, next_free_name_at, last, next_number_at, number_within, next_text_at, next_file_at}
 use Rattle.gateway_script.specs.Options.{suits}
-use Rattle.gateway_script.specs.declared.options.QueueLimits.{QueueLimits}
+use Rattle.gateway_script.specs.declared.options.LimitPair.{LimitPair}
 use Rattle.gateway_script.specs.declared.options.PortOption.{PortOption}
 use Rattle.gateway_script.specs.declared.options.PortOption.TheVariants.{Msgq, MsgqOff, Run, Framing, Eof, ExitStatus, Busy}
 use Rattle.gateway_script.specs.declared.statement.Statement.{Statement}
@@ -22,7 +22,7 @@ use Rattle.gateway_script.specs.declared.statement.Action.TheVariants.{Command, 
 -- ---- the options of a port, each behind the word for it
 
 -- `LOW HIGH`, each from 1 to 1,073,741,824
-unfoldable pub limits_at : List ℕ → Option (QueueLimits × List ℕ)
+unfoldable pub limits_at : List ℕ → Option (LimitPair × List ℕ)
 limits_at bytes = do
   low ← number_within 1 1073741824 bytes
   high ← number_within 1 1073741824 low.1

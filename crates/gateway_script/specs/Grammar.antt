@@ -12,7 +12,7 @@ use Rattle.script_text.specs.Data.{SpellsIoList, SpellsTerm}
 use Rattle.gateway_script.specs.Words.{is_reserved}
 use Rattle.gateway_script.specs.Options.{suits}
 use Rattle.gateway_script.specs.Forms.{is_printable}
-use Rattle.gateway_script.specs.declared.options.QueueLimits.{QueueLimits}
+use Rattle.gateway_script.specs.declared.options.LimitPair.{LimitPair}
 use Rattle.gateway_script.specs.declared.options.PortOption.{PortOption}
 use Rattle.gateway_script.specs.declared.options.PortOption.TheVariants.{Msgq, MsgqOff, Run, Framing, Eof, ExitStatus, Busy}
 use Rattle.gateway_script.specs.declared.statement.Statement.{Statement}
@@ -41,7 +41,7 @@ pub record SpellsFile (name text : List ℕ) : Type 0 where
   pub utf8 : IsUtf8 name
 
 -- LOW and HIGH, each from 1 to 1,073,741,824
-pub record SpellsLimits (limits : QueueLimits) (text : List ℕ) : Type 0 where
+pub record SpellsLimits (limits : LimitPair) (text : List ℕ) : Type 0 where
   pub before : ℕ
   pub between : ℕ
   pub low : List ℕ
@@ -52,7 +52,7 @@ pub record SpellsLimits (limits : QueueLimits) (text : List ℕ) : Type 0 where
 
 -- An option of a port: the word for it, and what stands behind that.
 pub data SpellsOption : PortOption → List ℕ → List ℕ → Type 0 where
-  msgq : (limits : QueueLimits) (text : List ℕ) → SpellsLimits limits text → SpellsOption (Msgq limits) (codes "msgq") text
+  msgq : (limits : LimitPair) (text : List ℕ) → SpellsLimits limits text → SpellsOption (Msgq limits) (codes "msgq") text
   msgq_off : (n : ℕ) → SpellsOption MsgqOff (codes "msgq") (gap (suc n) ++ codes "off")
   run : (command : List ℕ) (n : ℕ) (text : List ℕ) → SpellsText command text → SpellsOption (Run command) (codes "run") (gap (suc n) ++ text)
   packet1 : (n : ℕ) (number : List ℕ) → SpellsNumber 1 number → SpellsOption (Framing Packet1) (codes "packet") (gap (suc n) ++ number)
@@ -62,7 +62,7 @@ pub data SpellsOption : PortOption → List ℕ → List ℕ → Type 0 where
   stream : SpellsOption (Framing Stream) (codes "stream") []
   eof : SpellsOption Eof (codes "eof") []
   exit_status : SpellsOption ExitStatus (codes "exit_status") []
-  busy : (limits : QueueLimits) (text : List ℕ) → SpellsLimits limits text → SpellsOption (Busy limits) (codes "busy") text
+  busy : (limits : LimitPair) (text : List ℕ) → SpellsLimits limits text → SpellsOption (Busy limits) (codes "busy") text
 
 -- The options of a port, each behind one or more spaces.
 pub data SpellsOptions : List PortOption → List ℕ → Type 0 where

@@ -1,7 +1,7 @@
 -- The ranges in which the numbers of a line lie.
 use Rattle.std.specs.Prelude.{◌≡◌, ◌≤◌, true, All}
 use Rattle.port_config.specs.Config.{is_served}
-use Rattle.gateway_script.specs.declared.options.QueueLimits.{QueueLimits}
+use Rattle.gateway_script.specs.declared.options.LimitPair.{LimitPair}
 use Rattle.gateway_script.specs.declared.options.PortOption.{PortOption}
 use Rattle.gateway_script.specs.declared.options.PortOption.TheVariants.{Msgq, Framing, Busy}
 use Rattle.gateway_script.specs.declared.statement.Statement.{Statement}
@@ -10,7 +10,7 @@ use Rattle.gateway_script.specs.declared.statement.Action.{Action}
 use Rattle.gateway_script.specs.declared.statement.Action.TheVariants.{File}
 
 -- both limits are from 1 to 1,073,741,824
-pub record AreLimits (limits : QueueLimits) : Type 0 where
+pub record AreLimits (limits : LimitPair) : Type 0 where
   pub low_from : 1 ≤ limits.low
   pub low_to : limits.low ≤ 1073741824
   pub high_from : 1 ≤ limits.high

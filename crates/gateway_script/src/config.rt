@@ -8,7 +8,7 @@ ghost use Rattle.gateway_script.specs.Options.{is_for_every_driver, suits as sui
 ghost use Rattle.gateway_script.specs.LineFault.{Tells};
 
 use crate::line_fault::LineFault;
-use crate::options::{PortOption, PortOptions, QueueLimits};
+use crate::options::{LimitPair, PortOption, PortOptions};
 use no_memory::NoMemory;
 use script_plan::{Config, Reason};
 use std::alloc::Global;

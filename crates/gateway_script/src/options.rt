@@ -18,7 +18,7 @@ const MAX_LINE: u32 = 262_143;
 
 /// A pair of limits of a queue, in bytes. The low one may be above the high one.
 #[derive(Clone, Copy, Debug)]
-pub(crate) struct QueueLimits {
+pub(crate) struct LimitPair {
     pub low: u32,
     pub high: u32,
 }
@@ -27,7 +27,7 @@ pub(crate) struct QueueLimits {
 #[derive(Drop)]
 pub(crate) enum PortOption {
     /// `msgq LOW HIGH`
-    Msgq(QueueLimits),
+    Msgq(LimitPair),
     /// `msgq off`
     MsgqOff,
     /// `run TEXT`
@@ -39,7 +39,7 @@ pub(crate) enum PortOption {
     /// `exit_status`
     ExitStatus,
     /// `busy LOW HIGH`
-    Busy(QueueLimits),
+    Busy(LimitPair),
 }
 
 /// The options of a port, as a line lists them.
@@ -123,12 +123,12 @@ fn option_behind<'a>(
 
 /// `LOW HIGH`.
 #[tactic(auto, unfolding(crate::specs::Forms::limits_at))]
-fn limits(bytes: &[u8]) -> Option<(QueueLimits, &[u8])>
+fn limits(bytes: &[u8]) -> Option<(LimitPair, &[u8])>
     ensures { option_map (λ x. (x.0, x.1.now)) result ≡ limits_at bytes.now }
 {
     let (low, rest) = number_within(1, MAX_LIMIT, bytes)?;
     let (high, rest) = number_within(1, MAX_LIMIT, rest)?;
-    Some((QueueLimits { low, high }, rest))
+    Some((LimitPair { low, high }, rest))
 }
 
 /// `off` or `LOW HIGH`.

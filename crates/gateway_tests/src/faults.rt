@@ -1,7 +1,7 @@
 //! Runs that aren't made, and runs that the outside fails.
 
 use crate::runs::{ABC, holding, run, standing};
-use gateway::{Cause, Ended, ScriptFault, StartRefusal};
+use gateway::{CallEnd, Cause, ScriptFault, StartRefusal};
 use outside::{MemFiles, MemPoll, MemSink};
 use std::alloc::Global;
 use std::sync::Wait;
@@ -17,7 +17,7 @@ fn end_of<R: Sync + Threads + Wait>(
 ) -> Result<(u8, Cause, String), Fail> {
     let mut out = MemSink::new(alloc);
     let ended = run(rt, words, files, &mut out, MemPoll::new(alloc), alloc)?;
-    let Ended {
+    let CallEnd {
         status,
         cause,
         drivers,

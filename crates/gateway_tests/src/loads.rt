@@ -3,7 +3,7 @@ ghost use Rattle.std.specs.Prelude.{All, IfOk};
 ghost use Rattle.gateway.specs.driver_hosts.Hosts.{IsUnused};
 
 use crate::runs::owned_words;
-use gateway::{Cause, Ended, Hosted, gateway, host_drivers};
+use gateway::{CallEnd, Cause, Hosted, gateway, host_drivers};
 use outside::{MemFiles, MemPoll, MemSink, OpenGate};
 use port_driver::Driver;
 use sample_drivers::Echo;
@@ -37,7 +37,7 @@ fn end_of<R: Sync + Threads + Wait>(
     let words = owned_words(alloc, words)?;
     let drivers = echoes(alloc, drivers)?;
     let poll = MemPoll::new(alloc);
-    let Ended {
+    let CallEnd {
         status,
         cause,
         report,

@@ -2,7 +2,7 @@
 ghost use Rattle.std.specs.Prelude.{All, IfOk};
 ghost use Rattle.gateway.specs.driver_hosts.Hosts.{IsUnused};
 
-use gateway::{Ended, Hosted, gateway, host_drivers};
+use gateway::{CallEnd, Hosted, gateway, host_drivers};
 use outside::{MemFiles, MemPoll, MemProgram, MemSink, MemSpawner, OpenGate};
 use port_driver::{Driver, Life};
 use sample_drivers::{Digest, Echo, Refuse, Refused, Store, Tally, Valve};
@@ -78,7 +78,7 @@ pub fn run<R: Sync + Threads + Wait>(
     out: &mut MemSink,
     poll: MemPoll,
     alloc: Global,
-) -> Result<Ended<MemPoll>, Fail> {
+) -> Result<CallEnd<MemPoll>, Fail> {
     let owned = owned_words(alloc, words)?;
     let drivers = hosts(alloc)?;
     Ok(gateway(

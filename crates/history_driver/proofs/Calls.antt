@@ -3,7 +3,7 @@ use Rattle.std.proofs.Common.{◌≡◌, ◌==◌, ℕ, length, List, [], ◌∷
 use Rattle.std.proofs.Math.Dec.{eqb-suc-zero}
 use Rattle.port_config.specs.declared.config.Config.{Config}
 use Rattle.driver_model.specs.port_signal.Reasons.{is_kill}
-use Rattle.driver_model.specs.port_signal.declared.row.Outside.{Outside}
+use Rattle.driver_model.specs.port_signal.declared.outside.Outside.{Outside}
 use Rattle.driver_model.specs.port_model.declared.effect.Effect.{Effect}
 use Rattle.driver_model.specs.Calls as driver
 use Rattle.driver_model.specs.Calls.{Callback, DriverCall, call_of, cut_of, is_empty, Own, Kind, Echo, Tally, Valve, Store, Digest, Spawn, Refuse1, Refuse2, Refuse3}

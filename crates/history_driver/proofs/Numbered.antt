@@ -6,8 +6,8 @@ use Rattle.port_config.specs.packet_framing.declared.mode.Mode.TheVariants.{Stre
 use Rattle.port_config.specs.packet_framing.declared.message.Message.{Message as Unframed}
 use Rattle.port_config.specs.packet_framing.Messages.{last_message, messages_of}
 use Rattle.port_config.specs.declared.config.Config.{Config}
-use Rattle.driver_model.specs.port_signal.declared.row.Outside.{Outside}
-use Rattle.driver_model.specs.port_signal.declared.row.Outside.TheVariants as answer
+use Rattle.driver_model.specs.port_signal.declared.outside.Outside.{Outside}
+use Rattle.driver_model.specs.port_signal.declared.outside.Outside.TheVariants as answer
 use Rattle.driver_model.specs.port_model.declared.event.Dir.TheVariants.{Read, Write}
 use Rattle.driver_model.specs.port_model.declared.effect.Effect.{Effect}
 use Rattle.driver_model.specs.port_model.declared.effect.Effect.TheVariants.{Message, Eof, Status, Busy, Select, Unuse, Async, Watch, Reply, ReplyBadarg, Fail}

@@ -15,7 +15,7 @@ use Rattle.port_history.specs.Service.{caller_of, effects_after, first_reason, f
 use Rattle.port_history.specs.State.{State, closing_reason, row_calls, signal_calls, stops}
 use Rattle.port_history.specs.Laws.{has_effects, is_answered_by}
 use Rattle.history_tables.specs.JobsKept.{are_next}
-use Rattle.history_state.specs.declared.rows.Closing.{Closing}
+use Rattle.history_state.specs.declared.rows.RowEnd.{RowEnd}
 use Rattle.history_driver.specs.declared.driver.HistoryDriver.{HistoryDriver}
 use Rattle.history_driver.specs.Calling.{AfterSignal, CalledAs, Flushed, is_stopped_for}
 use Rattle.history_driver.specs.Handled.{IsDriverOf, Judged, NumbersJobs, standing}
@@ -141,7 +141,7 @@ is-driver port before calls old_held last driver kind events e stands n q h =
     }
 
 -- a row that keeps the law
-pub judged-same : (port : Opening) (s : State) (t : Taken) (own : Own) (done last : Context) (old_held : List ℕ) (closing : Closing) (driver : HistoryDriver)
+pub judged-same : (port : Opening) (s : State) (t : Taken) (own : Own) (done last : Context) (old_held : List ℕ) (closing : RowEnd) (driver : HistoryDriver)
     → AfterRow port s t (own_in driver.driver) last → CalledAs port s t own done true → true ≡ same_effects t.effects last.effects
     → closing.reason ≡ closing_reason s t → closing.stops ≡ (not s.stopped && is_stopped_for (first_reason s.reason closing.reason) (is_empty last.queue))
     → kind_in driver.driver ≡ port.kind → SameEvents old_held (held_events port.kind port.config s.calls)

@@ -1,7 +1,7 @@
 -- What the calls of a row leave.
 use Rattle.std.specs.Prelude.{◌≡◌, ◌≤◌, ◌+◌, ℕ, List, [], ◌∷◌, ◌++◌, length, Bool, true, false, not, ◌&&◌, ◌||◌, Option, Some, None}
 use Rattle.driver_model.specs.port_signal.Reasons.{is_kill}
-use Rattle.driver_model.specs.port_signal.declared.row.Outside.{Outside}
+use Rattle.driver_model.specs.port_signal.declared.outside.Outside.{Outside}
 use Rattle.driver_model.specs.port_model.declared.effect.Effect.{Effect}
 use Rattle.driver_model.specs.Calls as driver
 use Rattle.driver_model.specs.Calls.{DriverCall, call_of, Kind, Own, Start}

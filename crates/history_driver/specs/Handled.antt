@@ -12,7 +12,7 @@ use Rattle.port_history.specs.Laws.{has_effects}
 use Rattle.port_history.specs.Opening.{Opening, Taken}
 use Rattle.port_history.specs.State.{State, start_call, closing_reason, row_calls, stops}
 use Rattle.history_tables.specs.JobsKept.{are_next}
-use Rattle.history_state.specs.declared.rows.Closing.{Closing}
+use Rattle.history_state.specs.declared.rows.RowEnd.{RowEnd}
 use Rattle.history_driver.specs.declared.driver.HistoryDriver.{HistoryDriver}
 use Rattle.history_driver.specs.Running.{kind_in, own_in}
 
@@ -42,13 +42,13 @@ StartsAs kind config owner read write driver effects port =
 
 -- a handled task that keeps the law of effects: for which reason its row closes the port, if it does, whether the driver is stopped in it,
 -- and that the driver went on
-pub record GoesOn (port : Opening) (s : State) (t : Taken) (closing : Closing) (driver : HistoryDriver) : Type 0 where
+pub record GoesOn (port : Opening) (s : State) (t : Taken) (closing : RowEnd) (driver : HistoryDriver) : Type 0 where
   pub closes : closing.reason ≡ closing_reason s t
   pub stops_it : closing.stops ≡ stops port s t
   pub driver_is : IsDriverOf driver port (row_calls port s t ++ s.calls)
   pub numbers : NumbersJobs port s.calls (row_calls port s t ++ s.calls) t.effects
 
 -- whether the row of a handled task keeps the law of effects
-abbrev pub Judged : Opening → State → Taken → Option Closing → HistoryDriver → Type 0
+abbrev pub Judged : Opening → State → Taken → Option RowEnd → HistoryDriver → Type 0
 Judged port s t None driver = has_effects port s t ≡ false
 Judged port s t (Some closing) driver = (has_effects port s t ≡ true) × GoesOn port s t closing driver

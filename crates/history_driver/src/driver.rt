@@ -11,7 +11,7 @@ use crate::handling::stops;
 use crate::held::HeldEvents;
 use crate::running::RunningDriver;
 use crate::starting::{begin, context};
-use crate::{Closing, Config, DriverKind, HistoryState};
+use crate::{Config, DriverKind, HistoryState, RowEnd};
 use driver_queue::DriverQueue;
 use port_model::{Effect, Items, NoMemory, Outside, Sender, Task};
 use std::alloc::Global;
@@ -69,7 +69,7 @@ impl HistoryDriver {
         alloc: Global,
         state: &HistoryState,
         handled: HandledTask<'_>,
-    ) -> Result<Option<Closing>, NoMemory>
+    ) -> Result<Option<RowEnd>, NoMemory>
         ensures { IfOk result (λ closing. (port : Opening) (s : State) (seq : ℕ) (task : TaskView) → task.signal ≡ handled.entry.task.now.signal
             → IsStateOf state.now port s → IsDriverOf self.old port s.calls
             → Judged port s (taken_of handled.entry.from seq task handled.entry.outside.now handled.entry.effects.now) closing self.new) }
@@ -90,6 +90,6 @@ impl HistoryDriver {
         if !same_effects(handled.effects, effects.as_slice()) {
             return Ok(None);
         }
-        Ok(Some(Closing { reason, stops }))
+        Ok(Some(RowEnd { reason, stops }))
     }
 }

@@ -12,7 +12,7 @@ mod sample;
 mod starting;
 
 pub use driver::{HandledTask, HistoryDriver};
-pub use history_state::{Closing, HistoryState};
+pub use history_state::{HistoryState, RowEnd};
 pub use kind::DriverKind;
 pub use port_config::Config;
 pub use port_model::{Effect, Items, NoMemory, Outside, Reason, Sender, Task};

@@ -7,8 +7,8 @@ use Rattle.driver_model.specs.Calls.{Kind}
 use Rattle.driver_model.specs.Drivers.{job_count}
 use Rattle.no_memory.specs.declared.NoMemory.{NoMemory}
 use Rattle.port_model.specs.Tasks.{TaskView}
-use Rattle.port_model.specs.port_signal.declared.row.MarkKind.{MarkKind}
-use Rattle.port_model.specs.port_signal.declared.row.Outside.{Outside}
+use Rattle.port_model.specs.port_signal.declared.mark.MarkKind.{MarkKind}
+use Rattle.port_model.specs.port_signal.declared.outside.Outside.{Outside}
 use Rattle.port_model.specs.declared.effect.Effect.{Effect}
 use Rattle.port_model.specs.declared.row.Row.{Row}
 use Rattle.port_model.specs.declared.row.Row.TheVariants.{Handled, Late, Listed, Resumed, Mark}
@@ -22,7 +22,7 @@ use Rattle.port_history.specs.Lawful.{KeepsLaws, least, kept_laws, law_broken}
 use Rattle.port_history.specs.Opening.{Opening, Taken, taken_of, late_of}
 use Rattle.port_history.specs.State.{State, after, after_handled, after_late, start_call, state_at_start}
 use Rattle.history_tables.specs.JobsKept.{are_next}
-use Rattle.history_state.specs.declared.rows.Closing.{Closing}
+use Rattle.history_state.specs.declared.rows.RowEnd.{RowEnd}
 use Rattle.history_state.specs.declared.state.HistoryState.{HistoryState}
 use Rattle.history_state.specs.Kept.{IsStateOf, IsHandledSo, is_next_job}
 use Rattle.history_driver.specs.declared.driver.HistoryDriver.{HistoryDriver}
@@ -68,12 +68,12 @@ next-job s handled (AsyncDone number output) e =
 next-job s handled signal e = refl
 
 -- a handled task judged by the law of effects
-tells-task : (port : Opening) (s : State) (from : Sender) (seq : ℕ) (task : TaskView) (outside : List Outside) (effects : List Effect) (closing : Option Closing) (driver : HistoryDriver)
+tells-task : (port : Opening) (s : State) (from : Sender) (seq : ℕ) (task : TaskView) (outside : List Outside) (effects : List Effect) (closing : Option RowEnd) (driver : HistoryDriver)
     → Judged port s (taken_of from seq task outside effects) closing driver → TellsEffects port s (Handled from seq task outside effects) closing driver
 tells-task port s from seq task outside effects None driver judged = judged
 tells-task port s from seq task outside effects (Some closing) driver judged = judged
 
-pub tells-handled : (r : Result (Option Closing) NoMemory) (walk : Walk) (row : Row) (from : Sender) (seq : ℕ) (task : TaskView) (outside outs : List Outside) (effects all : List Effect) (driver : HistoryDriver)
+pub tells-handled : (r : Result (Option RowEnd) NoMemory) (walk : Walk) (row : Row) (from : Sender) (seq : ℕ) (task : TaskView) (outside outs : List Outside) (effects all : List Effect) (driver : HistoryDriver)
     → row ≡ Handled from seq task outside effects → outs ≡ outside → all ≡ effects
     → IfOk r (λ closing. (port : Opening) (s : State) (place : ℕ) (told : TaskView) → told.signal ≡ task.signal → IsStateOf walk.state port s → IsDriverOf walk.driver port s.calls
     → Judged port s (taken_of from place told outs all) closing driver)
@@ -86,7 +86,7 @@ tells-handled (Err fault) walk row from seq task outside outs effects all driver
 
 -- a task was handled as its row tells
 handled-so : (port : Opening) (s : State) (from : Sender) (seq : ℕ) (task : TaskView) (outside : List Outside) (effects all : List Effect) (signal : Signal)
-    (closing : Closing) (driver : HistoryDriver) → GoesOn port s (taken_of from seq task outside effects) closing driver
+    (closing : RowEnd) (driver : HistoryDriver) → GoesOn port s (taken_of from seq task outside effects) closing driver
     → length s.jobs ≡ job_count port.kind port.config s.calls → is_told_right s true task.signal ≡ true → signal ≡ task.signal → all ≡ effects
     → IsHandledSo from signal all closing.reason closing.stops port s (taken_of from seq task outside effects)
 handled-so port s from seq task outside effects all signal closing driver on jobs told signal_is all_are = record {
@@ -100,7 +100,7 @@ handled-so port s from seq task outside effects all signal closing driver on job
 }
 
 -- what is kept after a handled task
-stands-handled : (port : Opening) (s : State) (t : Taken) (closing : Closing) (state : HistoryState) (driver : HistoryDriver)
+stands-handled : (port : Opening) (s : State) (t : Taken) (closing : RowEnd) (state : HistoryState) (driver : HistoryDriver)
     → GoesOn port s t closing driver → length s.jobs ≡ job_count port.kind port.config s.calls → IsStateOf state port (after_handled port s t)
     → StandsAt (record { state = state; driver = driver }) port (after_handled port s t)
 stands-handled port s t closing state driver on jobs is = record {
@@ -120,12 +120,12 @@ stands-other port s new state driver same_jobs same_calls held jobs is = record 
 }
 
 -- rows that are taken in
-abbrev pub TakesIn : HistoryState → HistoryState → HistoryDriver → Row → Closing → Type 0
+abbrev pub TakesIn : HistoryState → HistoryState → HistoryDriver → Row → RowEnd → Type 0
 TakesIn h new driver row closing =
     (port : Opening) (s : State) → law_broken port s row ≡ None → IsStateOf h port s → length s.jobs ≡ job_count port.kind port.config s.calls
     → WentOn port s row closing driver → StandsAt (record { state = new; driver = driver }) port (after port s row)
 
-pub takes-handled : (row : Row) (from : Sender) (seq : ℕ) (task : TaskView) (outside : List Outside) (effects all : List Effect) (signal : Signal) (closing : Closing) (h new : HistoryState) (driver : HistoryDriver)
+pub takes-handled : (row : Row) (from : Sender) (seq : ℕ) (task : TaskView) (outside : List Outside) (effects all : List Effect) (signal : Signal) (closing : RowEnd) (h new : HistoryState) (driver : HistoryDriver)
     → row ≡ Handled from seq task outside effects → signal ≡ task.signal → all ≡ effects
     → ((port : Opening) (s : State) (t : Taken) → IsHandledSo from signal all closing.reason closing.stops port s t → IsStateOf h port s → IsStateOf new port (after_handled port s t))
     → TakesIn h new driver row closing
@@ -136,7 +136,7 @@ takes-handled row from seq task outside effects all signal closing h new driver 
     let so = handled-so port s from seq task outside effects all signal closing driver on jobs kept.jobs signal_is all_are in
     stands-handled port s t closing new driver on jobs (notes port s t so is))
 
-pub takes-late : (row : Row) (from : Sender) (seq : ℕ) (task : TaskView) (signal : Signal) (closing : Closing) (h new : HistoryState) (driver : HistoryDriver)
+pub takes-late : (row : Row) (from : Sender) (seq : ℕ) (task : TaskView) (signal : Signal) (closing : RowEnd) (h new : HistoryState) (driver : HistoryDriver)
     → row ≡ Late from seq task → signal ≡ task.signal
     → ((port : Opening) (s : State) (t : Taken) → t.from ≡ from → t.task.signal ≡ signal → is_next_job s.jobs s.done signal ≡ true → IsStateOf h port s → IsStateOf new port (after_late s t))
     → TakesIn h new driver row closing
@@ -147,7 +147,7 @@ takes-late row from seq task signal closing h new driver row_is signal_is notes 
     stands-other port s (after_late s (late_of from seq task)) new driver refl refl on jobs
     (notes port s (late_of from seq task) refl (sym signal_is) next is))
 
-pub takes-listed : (row : Row) (from : Sender) (seq : ℕ) (closing : Closing) (h new : HistoryState) (driver : HistoryDriver) → row ≡ Listed from seq
+pub takes-listed : (row : Row) (from : Sender) (seq : ℕ) (closing : RowEnd) (h new : HistoryState) (driver : HistoryDriver) → row ≡ Listed from seq
     → ((port : Opening) (s : State) → keeps_listed s (Listed from seq) ≡ true → IsStateOf h port s → IsStateOf new port (after port s (Listed from seq)))
     → TakesIn h new driver row closing
 takes-listed row from seq closing h new driver row_is notes =
@@ -155,7 +155,7 @@ takes-listed row from seq closing h new driver row_is notes =
     let kept = all-kept port s (Listed from seq) none in
     stands-other port s (after port s (Listed from seq)) new driver refl refl on jobs (notes port s kept.listed is))
 
-pub takes-resumed : (row : Row) (from : Sender) (seq word : ℕ) (closing : Closing) (h new : HistoryState) (driver : HistoryDriver) → row ≡ Resumed from seq word
+pub takes-resumed : (row : Row) (from : Sender) (seq word : ℕ) (closing : RowEnd) (h new : HistoryState) (driver : HistoryDriver) → row ≡ Resumed from seq word
     → ((port : Opening) (s : State) → keeps_resumed s (Resumed from seq word) ≡ true → IsStateOf h port s → IsStateOf new port (after port s (Resumed from seq word)))
     → TakesIn h new driver row closing
 takes-resumed row from seq word closing h new driver row_is notes =
@@ -163,7 +163,7 @@ takes-resumed row from seq word closing h new driver row_is notes =
     let kept = all-kept port s (Resumed from seq word) none in
     stands-other port s (after port s (Resumed from seq word)) new driver refl refl on jobs (notes port s kept.resumed is))
 
-pub takes-mark : (row : Row) (kind : MarkKind) (closing : Closing) (h new : HistoryState) (driver : HistoryDriver) → row ≡ Mark kind
+pub takes-mark : (row : Row) (kind : MarkKind) (closing : RowEnd) (h new : HistoryState) (driver : HistoryDriver) → row ≡ Mark kind
     → ((port : Opening) (s : State) → is_due kind s.due ≡ true → IsStateOf h port s → IsStateOf new port (after port s (Mark kind)))
     → TakesIn h new driver row closing
 takes-mark row kind closing h new driver row_is notes =

@@ -8,7 +8,7 @@ use Rattle.port_history.specs.Laws.{keeps_order, keeps_lifetime, keeps_busy, kee
 use Rattle.port_history.specs.Lawful.{broken, law_broken}
 use Rattle.port_history.specs.Opening.{Opening, taken_of}
 use Rattle.port_history.specs.State.{State, state, after}
-use Rattle.history_state.specs.declared.rows.Closing.{Closing}
+use Rattle.history_state.specs.declared.rows.RowEnd.{RowEnd}
 use Rattle.history_state.specs.Kept.{IsStateOf}
 use Rattle.history_driver.specs.declared.driver.HistoryDriver.{HistoryDriver}
 use Rattle.history_driver.specs.Handled.{IsDriverOf, GoesOn}
@@ -42,12 +42,12 @@ pub record StandsAt (walk : Walk) (port : Opening) (s : State) : Type 0 where
   pub jobs_are : length s.jobs ≡ job_count port.kind port.config s.calls
 
 -- a row that keeps the law of effects left its port so, and the driver went on: only a handled task calls it
-abbrev pub WentOn : Opening → State → Row → Closing → HistoryDriver → Type 0
+abbrev pub WentOn : Opening → State → Row → RowEnd → HistoryDriver → Type 0
 WentOn port s (Handled from seq task outside effects) closing driver = GoesOn port s (taken_of from seq task outside effects) closing driver
 WentOn port s row closing driver = IsDriverOf driver port s.calls
 
 -- whether a row keeps the law of effects
-abbrev pub TellsEffects : Opening → State → Row → Option Closing → HistoryDriver → Type 0
+abbrev pub TellsEffects : Opening → State → Row → Option RowEnd → HistoryDriver → Type 0
 TellsEffects port s row None driver = keeps_effects port s row ≡ false
 TellsEffects port s row (Some closing) driver = (keeps_effects port s row ≡ true) × WentOn port s row closing driver
 

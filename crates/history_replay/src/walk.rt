@@ -11,7 +11,7 @@ ghost use Rattle.history_replay.specs.Walked.{IsJudgement, IsOpenedAs, StandsAt,
 
 use crate::BrokenLaw;
 use crate::judging::{EFFECTS, broken_before_effects, broken_behind_effects, broken_by_end};
-use history_driver::{Closing, DriverKind, HandledTask, HistoryDriver, HistoryState};
+use history_driver::{DriverKind, HandledTask, HistoryDriver, HistoryState, RowEnd};
 use journal_text::PortReport;
 use port_model::{NoMemory, Row};
 use std::alloc::Global;
@@ -20,7 +20,7 @@ use std::alloc::Global;
 #[derive(Drop)]
 pub(crate) enum Judgement {
     /// It keeps the laws, and left its port so.
-    Keeps(Closing),
+    Keeps(RowEnd),
     /// The least law that it breaks.
     Breaks(u32),
 }
@@ -54,7 +54,7 @@ impl Walk {
     }
 
     /// Judges the next row by the law of effects, for which the driver handles its task. A row of no handled task closes nothing.
-    fn judge_effects(&mut self, alloc: Global, row: &Row) -> Result<Option<Closing>, NoMemory>
+    fn judge_effects(&mut self, alloc: Global, row: &Row) -> Result<Option<RowEnd>, NoMemory>
         ensures tells { IfOk result (λ closing. (port : Opening) (s : State) → StandsAt self.old port s → TellsEffects port s row.now closing self.new.driver) }
         ensures stays { self.new.state ≡ self.old.state }
     {
@@ -74,7 +74,7 @@ impl Walk {
                 };
                 self.driver.handle(alloc, &self.state, handled)
             }
-            _ => Ok(Some(Closing {
+            _ => Ok(Some(RowEnd {
                 reason: None,
                 stops: false,
             })),
@@ -99,7 +99,7 @@ impl Walk {
     }
 
     /// Takes a row in that keeps the laws, and left its port so.
-    fn take_in(&mut self, row: &Row, closing: Closing) -> Result<(), NoMemory>
+    fn take_in(&mut self, row: &Row, closing: RowEnd) -> Result<(), NoMemory>
         ensures { OnOk result ((port : Opening) (s : State) → law_broken port s row.now ≡ None → IsStateOf self.old.state port s
             → length s.jobs ≡ job_count port.kind port.config s.calls → WentOn port s row.now closing self.old.driver → StandsAt self.new port (after port s row.now)) }
     {

@@ -7,7 +7,7 @@ ghost use Rattle.port_history.specs.Marks.{is_busy, none_due};
 ghost use Rattle.port_history.specs.Suspension.{is_queue_busy};
 ghost use Rattle.port_model.specs.Tasks.{TaskView};
 ghost use Rattle.port_model.specs.declared.effect.Effect.{Effect as EffectView};
-ghost use Rattle.port_signal.specs.declared.row.Outside.{Outside as OutsideView};
+ghost use Rattle.port_signal.specs.declared.outside.Outside.{Outside as OutsideView};
 ghost use Rattle.history_state.specs.Kept.{IsStateOf};
 
 use crate::senders::may_send;

@@ -15,5 +15,5 @@ pub use history_tables::{
 };
 pub use no_memory::NoMemory;
 pub use port_model::{Effect, MarkKind, Reason, Row, Sender, Signal, Task};
-pub use rows::Closing;
+pub use rows::RowEnd;
 pub use state::HistoryState;

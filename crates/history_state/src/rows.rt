@@ -17,7 +17,7 @@ use crate::{
 
 /// How a handled task left its port: for which reason it closed the port, if it did, and whether the driver was stopped in its row.
 #[derive(Drop)]
-pub struct Closing {
+pub struct RowEnd {
     pub reason: Option<Reason>,
     pub stops: bool,
 }
@@ -59,12 +59,12 @@ impl HistoryState {
         from: Sender,
         signal: &Signal,
         effects: &[Effect],
-        closing: Closing,
+        closing: RowEnd,
     ) -> Result<(), NoMemory>
         ensures { OnOk result ((port : Opening) (s : State) (t : Taken) → IsHandledSo from signal.now effects.now closing.reason closing.stops port s t → IsStateOf self.old port s
             → IsStateOf self.new port (after_handled port s t)) }
     {
-        let Closing { reason, stops } = closing;
+        let RowEnd { reason, stops } = closing;
         let closes = reason.is_some();
         note_ties(&mut self.ties, from, signal, self.processes, closes)?;
         self.watched.note(effects)?;

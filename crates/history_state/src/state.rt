@@ -5,7 +5,7 @@ ghost use Rattle.port_history.specs.Service.{caller_of, first_reason};
 ghost use Rattle.port_history.specs.State.{State, closing_reason, start_call, state_at_start, is_open};
 ghost use Rattle.port_history.specs.Ties.{failure};
 ghost use Rattle.port_model.specs.Tasks.{TaskView};
-ghost use Rattle.port_signal.specs.declared.row.Outside.{Outside as OutsideView};
+ghost use Rattle.port_signal.specs.declared.outside.Outside.{Outside as OutsideView};
 ghost use Rattle.history_tables.specs.JobsKept.{are_next};
 ghost use Rattle.history_state.specs.Kept.{IsStateOf, is_told};
 

@@ -1,7 +1,7 @@
 -- The marks of a history, as a table keeps them.
 use Rattle.std.specs.Prelude.{◌≡◌, List, [], ◌∷◌, ◌++◌, Bool, true, false, Option, Some, None}
-use Rattle.port_signal.specs.declared.row.MarkKind.{MarkKind}
-use Rattle.port_signal.specs.declared.row.MarkKind.TheVariants.{Busy, Free, Closed}
+use Rattle.port_signal.specs.declared.mark.MarkKind.{MarkKind}
+use Rattle.port_signal.specs.declared.mark.MarkKind.TheVariants.{Busy, Free, Closed}
 use Rattle.port_history.specs.Marks.{is_busy}
 use Rattle.history_tables.specs.declared.marks.PortMarks.{PortMarks}
 

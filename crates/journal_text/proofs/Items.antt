@@ -1,8 +1,8 @@
 -- Reading item by item, as a loop does.
 use Rattle.std.proofs.Common.{◌≡◌, ℕ, suc, ◌-◌, ◌+◌, ◌≤◌, ◌<◌, List, [], ◌∷◌, ◌++◌, Option, Some, None, refl, sym, ap, ◌∙◌, append_assoc, arith}
-use Rattle.journal_text.specs.declared.fault.LineFault.{LineFault}
-use Rattle.journal_text.specs.declared.fault.LineFault.TheVariants.{Bad, NoMemory}
-use Rattle.journal_text.specs.LineFault.{Missed}
+use Rattle.journal_text.specs.declared.fault.LinePartFault.{LinePartFault}
+use Rattle.journal_text.specs.declared.fault.LinePartFault.TheVariants.{Bad, NoMemory}
+use Rattle.journal_text.specs.LinePartFault.{Missed}
 use Rattle.journal_text.specs.Reading.{◌>>=◌, after}
 use Rattle.journal_text.specs.ReadingRows.{some_at}
 
@@ -59,6 +59,6 @@ past item front n i bytes rest le so_far =
     sym so_far ∙ one
 
 -- what was not read stops the whole
-pub missed_stops : {Y Z : Type 0} (fault : LineFault) (read : Option Y) (whole : Option Z) → Missed fault read → (read ≡ None → whole ≡ None) → Missed fault whole
+pub missed_stops : {Y Z : Type 0} (fault : LinePartFault) (read : Option Y) (whole : Option Z) → Missed fault read → (read ≡ None → whole ≡ None) → Missed fault whole
 missed_stops Bad read whole missed stops = stops missed
 missed_stops NoMemory read whole missed stops = tt

@@ -13,13 +13,13 @@ use Rattle.packet_framing.specs.declared.mode.Mode.TheVariants.{Packet1, Packet2
 use Rattle.port_config.specs.declared.config.Config.{Config}
 use Rattle.port_config.specs.Config.{is_config, is_served, is_pair}
 use Rattle.journal_text.specs.declared.port_line.Limits.{Limits}
-use Rattle.journal_text.specs.declared.port_line.Program.{Program}
+use Rattle.journal_text.specs.declared.port_line.ProgramOptions.{ProgramOptions}
 use Rattle.journal_text.specs.declared.port_line.PortLine.{PortLine}
 use Rattle.journal_text.specs.Words.{is_word_byte, is_line_byte, bytes_text, are_bytes, is_32, is_name}
 use Rattle.journal_text.specs.Ports.{drivers, is_driver, is_spawn, msgq_text, mode_text, eof_text, status_text, program_text, port_line, is_stream, is_nothing, without_program, are_limits, is_port}
 use Rattle.journal_text.specs.Reading.{◌>>=◌, behind, made, spaced_at, pair_at, field_at, by_word, number_of, number_at, name_at, bytes_at}
 use Rattle.journal_text.specs.ReadingRows.{whole, all_of}
-use Rattle.journal_text.specs.ReadingPorts.{this, this_at, driver_of, limits_by, limits_at, packet_of, mode_by, mode_at, either, eof_at, exit_status_at, two_at, events_at, Tail, tail_at, Parts, parts_at, program_of, program_at, no_program, program_after, Head, head_at, line_with, checked, port_behind, port_by, port_line_of}
+use Rattle.journal_text.specs.ReadingPorts.{this, this_at, driver_of, limits_by, limits_at, packet_of, mode_by, mode_at, either, eof_at, exit_status_at, two_at, events_at, Tail, tail_at, Parts, parts_at, program_of, program_at, no_program, program_after, PortHead, head_at, line_with, checked, port_behind, port_by, port_line_of}
 use Rattle.journal_text.proofs.ReadingLaws.{both, ends, line_bytes, line_append, front_parts, Law, By, Body, Front, Exact, field_law, pair_law, pair_text, pair_fits, nothing, tag, bare, part, own_part, part_again, word_then, by_word_law, map_law, made_found, spaced_found}
 use Rattle.journal_text.proofs.NumberLaws.{number_exact}
 use Rattle.journal_text.proofs.SenderLaws.{word_is, meant, never}
@@ -295,13 +295,13 @@ parts_law =
     (pair_law eof_text (λ x. true) eof_at t1 f1 a1 eof_law
     (pair_law status_text (λ x. true) exit_status_at tail_text tail_fits tail_at exit_status_law tail_law))))
 
-abbrev parts_of : Program → Parts
+abbrev parts_of : ProgramOptions → Parts
 parts_of p = (tt, (p.run, (p.mode, (p.eof, (p.exit_status, (tt, (p.busy_low, (p.busy_high, (tt, p.events)))))))))
 
-abbrev words : Program → List ℕ
+abbrev words : ProgramOptions → List ℕ
 words p = parts_text (parts_of p)
 
-abbrev program_fits : Program → Bool
+abbrev program_fits : ProgramOptions → Bool
 program_fits p = parts_fits (parts_of p)
 
 program_law : Law words program_fits program_at
@@ -309,10 +309,10 @@ program_law = map_law parts_text parts_fits parts_at words program_fits program_
 
 -- ---- heads
 
-abbrev head_text : Head → List ℕ
+abbrev head_text : PortHead → List ℕ
 head_text = pair_text (λ name. name) (pair_text decimal (pair_text (λ driver. driver) (pair_text (this_text (codes "msgq")) limits_text)))
 
-abbrev head_fits : ℕ → Head → Bool
+abbrev head_fits : ℕ → PortHead → Bool
 head_fits names = pair_fits is_name (pair_fits (λ n. nat_lt n names) (pair_fits is_driver (pair_fits (λ x. true) limits_fits)))
 
 head_law : (names : ℕ) → names ≤ 2 ^ 64 → Law head_text (head_fits names) (head_at names)
@@ -339,12 +339,12 @@ five : (a b c d e : List ℕ) → a ++ 32 ∷ (b ++ 32 ∷ (c ++ 32 ∷ (d ++ 32
 five a b c d e = simp append_assoc
 
 -- a line with and without a program
-spawn_line : (head : Head) (p : Program) → is_spawn head.1.1.0 ≡ true → port_line (line_with head p) ≡ codes "port" ++ 32 ∷ (head_text head ++ 32 ∷ words p)
+spawn_line : (head : PortHead) (p : ProgramOptions) → is_spawn head.1.1.0 ≡ true → port_line (line_with head p) ≡ codes "port" ++ 32 ∷ (head_text head ++ 32 ∷ words p)
 spawn_line head p e =
     rw (e, msgq_is head.1.1.1.1.on head.1.1.1.1.low head.1.1.1.1.high)
     (ap (λ (xs : List ℕ). codes "port" ++ 32 ∷ xs) (five head.0 (decimal head.1.0) head.1.1.0 (codes "msgq" ++ 32 ∷ limits_text head.1.1.1.1) (words p)))
 
-other_line : (head : Head) (p : Program) → is_spawn head.1.1.0 ≡ false → port_line (line_with head p) ≡ codes "port" ++ 32 ∷ head_text head
+other_line : (head : PortHead) (p : ProgramOptions) → is_spawn head.1.1.0 ≡ false → port_line (line_with head p) ≡ codes "port" ++ 32 ∷ head_text head
 other_line head p e = rw (e, msgq_is head.1.1.1.1.on head.1.1.1.1.low head.1.1.1.1.high) refl
 
 limits_are : (on : Bool) (low high : ℕ) → limits_fits (record { on = on; low = low; high = high }) ≡ true → are_limits on low high ≡ true
@@ -352,7 +352,7 @@ limits_are true low high h = refl
 limits_are false low high h = h
 
 -- the range of a line
-line_fits : (names : ℕ) (head : Head) (p : Program) → head_fits names head ≡ true → is_config (line_with head p).config ≡ true
+line_fits : (names : ℕ) (head : PortHead) (p : ProgramOptions) → head_fits names head ≡ true → is_config (line_with head p).config ≡ true
     → cond (is_spawn head.1.1.0) (are_bytes p.run && (is_32 p.events.0 && is_32 p.events.1)) (without_program (line_with head p).config p.events) ≡ true → is_port names (line_with head p) ≡ true
 line_fits names head p h config rest =
     let a = and_parts (is_name head.0) _ h in
@@ -362,7 +362,7 @@ line_fits names head p h config rest =
     both (is_name head.0) _ a.0 (both (nat_lt head.1.0 names) _ b.0 (both (is_driver head.1.1.0) _ c.0 (both (is_config (line_with head p).config) _ config
     (both (are_limits head.1.1.1.1.on head.1.1.1.1.low head.1.1.1.1.high) _ (limits_are head.1.1.1.1.on head.1.1.1.1.low head.1.1.1.1.high d.1) rest))))
 
-program_range : (p : Program) → program_fits p ≡ true → (are_bytes p.run && (is_32 p.events.0 && is_32 p.events.1)) ≡ true
+program_range : (p : ProgramOptions) → program_fits p ≡ true → (are_bytes p.run && (is_32 p.events.0 && is_32 p.events.1)) ≡ true
 program_range p h =
     let a = and_parts (are_bytes p.run) _ h in
     let b = and_parts (mode_fits p.mode) _ a.1 in
@@ -371,7 +371,7 @@ program_range p h =
     both (are_bytes p.run) _ a.0 d.1
 
 -- what the line with a head and a program is
-made_line : (names : ℕ) → names ≤ 2 ^ 64 → (rest : List ℕ) (head : Head) (behind : List ℕ) (p : Program) → spaced_at (head_at names) rest ≡ Some (head, behind) → program_after head.1.1.0 behind ≡ Some p → is_config (line_with head p).config ≡ true
+made_line : (names : ℕ) → names ≤ 2 ^ 64 → (rest : List ℕ) (head : PortHead) (behind : List ℕ) (p : ProgramOptions) → spaced_at (head_at names) rest ≡ Some (head, behind) → program_after head.1.1.0 behind ≡ Some p → is_config (line_with head p).config ≡ true
     → IsLine port_line (is_port names) (line_with head p) (codes "port" ++ rest)
 unfolding program_after
 made_line names le rest head behind p first second config =
@@ -381,9 +381,9 @@ made_line names le rest head behind p first second config =
           option_and_then_some _ (spaced_at program_at behind) p (rw e at second) (λ x read all.
           let w = whole_is x.0 p x.1 all in
           let f = spaced_found words program_fits program_at program_law behind x.0 x.1 read in
-          let is : behind ≡ 32 ∷ words p = f.0 ∙ ap (λ (xs : List ℕ). 32 ∷ (words x.0 ++ xs)) w.0 ∙ ap (λ (xs : List ℕ). 32 ∷ xs) (append-nil (words x.0)) ∙ ap (λ (q : Program). 32 ∷ words q) w.1 in
+          let is : behind ≡ 32 ∷ words p = f.0 ∙ ap (λ (xs : List ℕ). 32 ∷ (words x.0 ++ xs)) w.0 ∙ ap (λ (xs : List ℕ). 32 ∷ xs) (append-nil (words x.0)) ∙ ap (λ (q : ProgramOptions). 32 ∷ words q) w.1 in
           let range = program_range p (ap program_fits (sym w.1) ∙ f.1) in
-          let clean : list_all is_line_byte (words p) ≡ true = ap (λ (q : Program). list_all is_line_byte (words q)) (sym w.1) ∙ f.2 in
+          let clean : list_all is_line_byte (words p) ≡ true = ap (λ (q : ProgramOptions). list_all is_line_byte (words q)) (sym w.1) ∙ f.2 in
           let text = spawn_line head p e in
           record {
             parts = ap (λ (xs : List ℕ). codes "port" ++ xs) (h.0 ∙ ap (λ (xs : List ℕ). 32 ∷ (head_text head ++ xs)) is) ∙ sym text;
@@ -438,10 +438,10 @@ mode_in Packet2 h = refl
 mode_in Packet4 h = refl
 mode_in Stream h = refl
 
-abbrev head_of : PortLine → Head
+abbrev head_of : PortLine → PortHead
 head_of port = (port.name, (port.owner, (port.driver, (tt, record { on = port.config.msgq_on; low = port.config.msgq_low; high = port.config.msgq_high }))))
 
-abbrev program_in : PortLine → Program
+abbrev program_in : PortLine → ProgramOptions
 program_in port = record { run = port.config.run; mode = port.config.mode; eof = port.config.eof; exit_status = port.config.exit_status; busy_low = port.config.busy_low; busy_high = port.config.busy_high; events = port.events }
 
 record Ranges (names : ℕ) (port : PortLine) : Type 0 where
@@ -528,6 +528,6 @@ port_again names le port h =
     let head = (head_law names le).again (head_of port) rest r.head (rest_ends (is_spawn port.driver) (words (program_in port))) in
     ap (λ (xs : List ℕ). port_by names (take_while is_word_byte xs) (behind is_word_byte xs)) (line_rest port)
     ∙ word_then (port_by names) (codes "port") (32 ∷ (head_text (head_of port) ++ rest)) refl refl
-    ∙ ap (λ (o : Option (Head × List ℕ)). o >>= λ head. (program_after head.0.1.1.0 head.1 >>= λ program. checked (line_with head.0 program))) head
-    ∙ ap (λ (o : Option Program). o >>= λ program. checked (line_with (head_of port) program)) (after_again names port r rest refl)
+    ∙ ap (λ (o : Option (PortHead × List ℕ)). o >>= λ head. (program_after head.0.1.1.0 head.1 >>= λ program. checked (line_with head.0 program))) head
+    ∙ ap (λ (o : Option ProgramOptions). o >>= λ program. checked (line_with (head_of port) program)) (after_again names port r rest refl)
     ∙ ap (λ (b : Bool). cond b (Some port) None) r.config

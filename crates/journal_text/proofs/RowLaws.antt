@@ -6,10 +6,10 @@ use Rattle.std.specs.Fmt.{decimal}
 use Rattle.std.proofs.lemmas.Bool.{and_parts}
 use Rattle.std.proofs.lemmas.Option.{option_and_then_some}
 use Rattle.std.proofs.lemmas.List.{append-nil}
-use Rattle.port_signal.specs.declared.row.MarkKind.{MarkKind}
-use Rattle.port_signal.specs.declared.row.MarkKind.TheVariants.{Busy, Free, Closed}
-use Rattle.port_signal.specs.declared.row.Outside.{Outside}
-use Rattle.port_signal.specs.declared.row.Outside.TheVariants as answer
+use Rattle.port_signal.specs.declared.mark.MarkKind.{MarkKind}
+use Rattle.port_signal.specs.declared.mark.MarkKind.TheVariants.{Busy, Free, Closed}
+use Rattle.port_signal.specs.declared.outside.Outside.{Outside}
+use Rattle.port_signal.specs.declared.outside.Outside.TheVariants as answer
 use Rattle.port_model.specs.declared.signal.Sender.{Sender}
 use Rattle.port_model.specs.declared.effect.Effect.{Effect}
 use Rattle.port_model.specs.declared.effect.Effect.TheVariants as effect

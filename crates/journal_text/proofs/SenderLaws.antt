@@ -10,8 +10,8 @@ use Rattle.std.proofs.lemmas.List.{append-nil, nil_from_length}
 use Rattle.std.proofs.lemmas.Slice.Eq.{bytes_eq-Decides}
 use Rattle.port_model.specs.declared.signal.Sender.{Sender}
 use Rattle.port_model.specs.declared.signal.Sender.TheVariants.{Process, Poller, Worker, Timer}
-use Rattle.journal_text.specs.declared.how.How.{How}
-use Rattle.journal_text.specs.declared.how.How.TheVariants.{Plain, Suspends, Forced}
+use Rattle.journal_text.specs.declared.how.CommandFlags.{CommandFlags}
+use Rattle.journal_text.specs.declared.how.CommandFlags.TheVariants.{Plain, Suspends, Forced}
 use Rattle.journal_text.specs.Words.{is_word_byte, bytes_text, are_bytes, is_32}
 use Rattle.journal_text.specs.Signals.{sender_text, is_sender, how_text, is_payload}
 use Rattle.journal_text.specs.Reading.{◌>>=◌, number_of, sender_of, how_of, bytes_of, bytes_at, payload_of, payload_at}
@@ -36,18 +36,18 @@ meant text word keyword x y others is rest h =
 pub never : {A : Type 0} (text : A → List ℕ) (word : List ℕ) (y : A) → ◌≡◌ {A = Option A} None (Some y) → word ≡ text y
 never text word y h = absurd cc
 
-how_found : (word : List ℕ) (how : How) → how_of word ≡ Some how → (word ≡ how_text how) × (true ≡ true)
+how_found : (word : List ℕ) (how : CommandFlags) → how_of word ≡ Some how → (word ≡ how_text how) × (true ≡ true)
 unfolding how_of
 how_found word how h =
     (meant how_text word (codes "-") Plain how _ refl (meant how_text word (codes "s") Suspends how _ refl (meant how_text word (codes "f") Forced how _ refl (never how_text word how))) h, refl)
 
-how_again : (how : How) → true ≡ true → how_of (how_text how) ≡ Some how
+how_again : (how : CommandFlags) → true ≡ true → how_of (how_text how) ≡ Some how
 unfolding how_of
 how_again Plain h = refl
 how_again Suspends h = refl
 how_again Forced h = refl
 
-how_words : (how : How) → true ≡ true → list_all is_word_byte (how_text how) ≡ true
+how_words : (how : CommandFlags) → true ≡ true → list_all is_word_byte (how_text how) ≡ true
 how_words Plain h = refl
 how_words Suspends h = refl
 how_words Forced h = refl

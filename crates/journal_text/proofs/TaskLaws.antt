@@ -11,8 +11,8 @@ use Rattle.port_model.specs.declared.signal.Signal.{Signal}
 use Rattle.port_model.specs.declared.signal.Signal.TheVariants.{Command, OwnerCommand, Control, Call, Close, OwnerClose, Connect, OwnerConnect, Link, Unlink, Monitor, Demonitor, Exit, Gone, Ready, Dropped, AsyncDone}
 use Rattle.port_model.specs.Signals.{is_command}
 use Rattle.port_model.specs.Tasks.{TaskView}
-use Rattle.journal_text.specs.declared.how.How.{How}
-use Rattle.journal_text.specs.declared.how.How.TheVariants.{Plain, Suspends, Forced}
+use Rattle.journal_text.specs.declared.how.CommandFlags.{CommandFlags}
+use Rattle.journal_text.specs.declared.how.CommandFlags.TheVariants.{Plain, Suspends, Forced}
 use Rattle.journal_text.specs.Words.{is_word_byte, bytes_text, are_bytes, is_name}
 use Rattle.journal_text.specs.Signals.{how_text, signal_text, is_signal, is_payload, how_of, task_of, task_text, is_task, are_flags}
 use Rattle.journal_text.specs.Reading.{◌>>=◌, behind, made, spaced_at, pair_at, field_at, by_word, number_of, number_at, name_of, name_at, bytes_of, bytes_at, how_at, payload_at, event_by, carrying_by, signal_by, task_by, task_at}
@@ -126,22 +126,22 @@ signal_again names le (AsyncDone n bytes) rest h e = word_then (signal_by names)
 
 -- ---- tasks
 
-task_is : (how : How) (payload : List (List ℕ)) → task_text (task_of how (Command payload)) ≡ codes "command" ++ 32 ∷ pair_text how_text payload_text (how, payload)
+task_is : (how : CommandFlags) (payload : List (List ℕ)) → task_text (task_of how (Command payload)) ≡ codes "command" ++ 32 ∷ pair_text how_text payload_text (how, payload)
 task_is Plain payload = refl
 task_is Suspends payload = refl
 task_is Forced payload = refl
 
-owner_task_is : (how : How) (payload : List (List ℕ)) → task_text (task_of how (OwnerCommand payload)) ≡ codes "send" ++ 32 ∷ pair_text how_text payload_text (how, payload)
+owner_task_is : (how : CommandFlags) (payload : List (List ℕ)) → task_text (task_of how (OwnerCommand payload)) ≡ codes "send" ++ 32 ∷ pair_text how_text payload_text (how, payload)
 owner_task_is Plain payload = refl
 owner_task_is Suspends payload = refl
 owner_task_is Forced payload = refl
 
-task_within : (names : ℕ) (how : How) (payload : List (List ℕ)) → is_payload payload ≡ true → is_task names (task_of how (Command payload)) ≡ true
+task_within : (names : ℕ) (how : CommandFlags) (payload : List (List ℕ)) → is_payload payload ≡ true → is_task names (task_of how (Command payload)) ≡ true
 task_within names Plain payload h = h
 task_within names Suspends payload h = h
 task_within names Forced payload h = h
 
-owner_task_within : (names : ℕ) (how : How) (payload : List (List ℕ)) → is_payload payload ≡ true → is_task names (task_of how (OwnerCommand payload)) ≡ true
+owner_task_within : (names : ℕ) (how : CommandFlags) (payload : List (List ℕ)) → is_payload payload ≡ true → is_task names (task_of how (OwnerCommand payload)) ≡ true
 owner_task_within names Plain payload h = h
 owner_task_within names Suspends payload h = h
 owner_task_within names Forced payload h = h
@@ -181,14 +181,14 @@ no_flags false true h = absurd cc
 no_flags false false h = (refl, refl)
 
 -- a command is read again
-command_again : (names : ℕ) (how : How) (payload : List (List ℕ)) (rest : List ℕ) → is_payload payload ≡ true → ends rest ≡ true
+command_again : (names : ℕ) (how : CommandFlags) (payload : List (List ℕ)) (rest : List ℕ) → is_payload payload ≡ true → ends rest ≡ true
     → task_at names (signal_text how (Command payload) ++ rest) ≡ Some (task_of how (Command payload), rest)
 unfolding task_by
 command_again names how payload rest h e =
     word_then (task_by names) (codes "command") (32 ∷ (pair_text how_text payload_text (how, payload) ++ rest)) refl refl
     ∙ part_again (pair_text how_text payload_text) (pair_fits (λ how. true) is_payload) (pair_at how_at payload_at) (λ p. task_of p.0 (Command p.1)) flagged (how, payload) rest h e
 
-owner_command_again : (names : ℕ) (how : How) (payload : List (List ℕ)) (rest : List ℕ) → is_payload payload ≡ true → ends rest ≡ true
+owner_command_again : (names : ℕ) (how : CommandFlags) (payload : List (List ℕ)) (rest : List ℕ) → is_payload payload ≡ true → ends rest ≡ true
     → task_at names (signal_text how (OwnerCommand payload) ++ rest) ≡ Some (task_of how (OwnerCommand payload), rest)
 unfolding task_by
 owner_command_again names how payload rest h e =

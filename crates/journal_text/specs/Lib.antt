@@ -1,4 +1,4 @@
-pub mod LineFault
+pub mod LinePartFault
 pub mod TextFault
 pub mod Words
 pub mod Signals

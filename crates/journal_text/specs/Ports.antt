@@ -1,4 +1,4 @@
--- How a port is written: its line, the lines of its rows, and the line `end`.
+-- CommandFlags a port is written: its line, the lines of its rows, and the line `end`.
 use Rattle.std.specs.Prelude.{◌==◌, ℕ, List, [], ◌∷◌, ◌++◌, map, Bool, true, false, not, ◌&&◌, ◌||◌, if◌then◌else◌, nat_lt, codes}
 use Rattle.std.specs.List.{list_all, list_any}
 use Rattle.std.specs.Str.{bytes_eq}

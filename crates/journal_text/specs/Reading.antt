@@ -16,12 +16,12 @@ use Rattle.port_model.specs.declared.signal.Signal.TheVariants as signal
 use Rattle.port_model.specs.Tasks.{TaskView}
 use Rattle.io_vector.specs.declared.flag.Flag.{Flag}
 use Rattle.io_vector.specs.declared.flag.Flag.TheVariants as flag
-use Rattle.port_signal.specs.declared.row.Outside.{Outside}
-use Rattle.port_signal.specs.declared.row.Outside.TheVariants as answer
+use Rattle.port_signal.specs.declared.outside.Outside.{Outside}
+use Rattle.port_signal.specs.declared.outside.Outside.TheVariants as answer
 use Rattle.port_model.specs.declared.effect.Effect.{Effect}
 use Rattle.port_model.specs.declared.effect.Effect.TheVariants as effect
-use Rattle.journal_text.specs.declared.how.How.{How}
-use Rattle.journal_text.specs.declared.how.How.TheVariants.{Plain, Suspends, Forced}
+use Rattle.journal_text.specs.declared.how.CommandFlags.{CommandFlags}
+use Rattle.journal_text.specs.declared.how.CommandFlags.TheVariants.{Plain, Suspends, Forced}
 use Rattle.journal_text.specs.Words.{is_word_byte}
 use Rattle.journal_text.specs.Signals.{task_of}
 
@@ -133,13 +133,13 @@ sender_of names (first ∷ digits) =
 abbrev pub sender_at : ℕ → List ℕ → Option (Sender × List ℕ)
 sender_at names = field_at (sender_of names)
 
-unfoldable pub how_of : List ℕ → Option How
+unfoldable pub how_of : List ℕ → Option CommandFlags
 how_of word =
     if bytes_eq word (codes "-") then Some Plain
     else (if bytes_eq word (codes "s") then Some Suspends
     else (if bytes_eq word (codes "f") then Some Forced else None))
 
-abbrev pub how_at : List ℕ → Option (How × List ℕ)
+abbrev pub how_at : List ℕ → Option (CommandFlags × List ℕ)
 how_at = field_at how_of
 
 -- a signal of the poller or of a worker, behind its word

@@ -7,7 +7,7 @@ use Rattle.packet_framing.specs.declared.mode.Mode.TheVariants.{Packet1, Packet2
 use Rattle.port_config.specs.declared.config.Config.{Config}
 use Rattle.port_config.specs.Config.{is_config}
 use Rattle.journal_text.specs.declared.port_line.Limits.{Limits}
-use Rattle.journal_text.specs.declared.port_line.Program.{Program}
+use Rattle.journal_text.specs.declared.port_line.ProgramOptions.{ProgramOptions}
 use Rattle.journal_text.specs.declared.port_line.PortLine.{PortLine}
 use Rattle.journal_text.specs.Ports.{is_driver, is_spawn}
 use Rattle.journal_text.specs.Words.{is_word_byte}
@@ -80,7 +80,7 @@ Parts = Unit {0} × (List ℕ × (Mode × (Bool × (Bool × Tail))))
 abbrev pub parts_at : List ℕ → Option (Parts × List ℕ)
 parts_at = pair_at (this_at (codes "run")) (pair_at bytes_at (pair_at mode_at (pair_at eof_at (pair_at exit_status_at tail_at))))
 
-abbrev pub program_of : Parts → Program
+abbrev pub program_of : Parts → ProgramOptions
 program_of p = record {
   run = p.1.0;
   mode = p.1.1.0;
@@ -92,25 +92,25 @@ program_of p = record {
 }
 
 -- the options and the events of a program
-abbrev pub program_at : List ℕ → Option (Program × List ℕ)
+abbrev pub program_at : List ℕ → Option (ProgramOptions × List ℕ)
 program_at bytes = made program_of (parts_at bytes)
 
 -- nothing is said of a program
-abbrev pub no_program : Program
+abbrev pub no_program : ProgramOptions
 no_program = record { run = []; mode = Stream; eof = false; exit_status = false; busy_low = 4096; busy_high = 8192; events = (0, 0) }
 
 -- what stands behind the limits of a port of this driver, to the end of its line
-unfoldable pub program_after : List ℕ → List ℕ → Option Program
+unfoldable pub program_after : List ℕ → List ℕ → Option ProgramOptions
 program_after driver rest = if is_spawn driver then all_of (spaced_at program_at rest) else whole no_program rest
 
 -- a name, an owner, a driver and the limits of the message queue
-abbrev pub Head : Type 0
-Head = List ℕ × (ℕ × (List ℕ × (Unit {0} × Limits)))
+abbrev pub PortHead : Type 0
+PortHead = List ℕ × (ℕ × (List ℕ × (Unit {0} × Limits)))
 
-abbrev pub head_at : ℕ → List ℕ → Option (Head × List ℕ)
+abbrev pub head_at : ℕ → List ℕ → Option (PortHead × List ℕ)
 head_at names = pair_at name_at (pair_at (number_at names) (pair_at (field_at driver_of) (pair_at (this_at (codes "msgq")) limits_at)))
 
-abbrev pub line_with : Head → Program → PortLine
+abbrev pub line_with : PortHead → ProgramOptions → PortLine
 line_with head program = record {
   name = head.0;
   driver = head.1.1.0;

@@ -1,9 +1,9 @@
 -- Reading a row: all of a line.
 use Rattle.std.specs.Prelude.{ℕ, zero, suc, ◌^◌, ◌==◌, if◌then◌else◌, List, [], ◌∷◌, Option, Some, None, codes}
 use Rattle.std.specs.Str.{bytes_eq}
-use Rattle.port_signal.specs.declared.row.MarkKind.{MarkKind}
-use Rattle.port_signal.specs.declared.row.MarkKind.TheVariants.{Busy, Free, Closed}
-use Rattle.port_signal.specs.declared.row.Outside.{Outside}
+use Rattle.port_signal.specs.declared.mark.MarkKind.{MarkKind}
+use Rattle.port_signal.specs.declared.mark.MarkKind.TheVariants.{Busy, Free, Closed}
+use Rattle.port_signal.specs.declared.outside.Outside.{Outside}
 use Rattle.port_signal.specs.declared.items.TheConstants.{MAX_ITEMS}
 use Rattle.port_model.specs.declared.effect.Effect.{Effect}
 use Rattle.port_model.specs.declared.signal.Sender.{Sender}

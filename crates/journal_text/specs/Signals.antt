@@ -1,4 +1,4 @@
--- How the senders and the signals of a row are written, among so many processes.
+-- CommandFlags the senders and the signals of a row are written, among so many processes.
 use Rattle.std.specs.Prelude.{ℕ, ◌^◌, List, [], ◌∷◌, Bool, true, false, not, ◌&&◌, ◌||◌, nat_lt, codes}
 use Rattle.std.specs.List.{concat}
 use Rattle.std.specs.Fmt.{decimal}
@@ -10,8 +10,8 @@ use Rattle.port_model.specs.declared.signal.Signal.{Signal}
 use Rattle.port_model.specs.declared.signal.Signal.TheVariants.{Command, OwnerCommand, Control, Call, Close, OwnerClose, Connect, OwnerConnect, Link, Unlink, Monitor, Demonitor, Exit, Gone, Ready, Dropped, AsyncDone}
 use Rattle.port_model.specs.Signals.{is_command}
 use Rattle.port_model.specs.Tasks.{TaskView}
-use Rattle.journal_text.specs.declared.how.How.{How}
-use Rattle.journal_text.specs.declared.how.How.TheVariants.{Plain, Suspends, Forced}
+use Rattle.journal_text.specs.declared.how.CommandFlags.{CommandFlags}
+use Rattle.journal_text.specs.declared.how.CommandFlags.TheVariants.{Plain, Suspends, Forced}
 use Rattle.journal_text.specs.Words.{spaced, bytes_text, are_bytes, is_32, is_64, is_name}
 
 -- `p` and a process, `e` for the poller, `w` and a worker, `t` for the timers
@@ -28,22 +28,22 @@ is_sender names (Worker worker) = is_32 worker
 is_sender names Timer = true
 
 -- `s` where the task suspends its sender, `f` where it is forced
-abbrev pub how_text : How → List ℕ
+abbrev pub how_text : CommandFlags → List ℕ
 how_text Plain = 45 ∷ []
 how_text Suspends = 115 ∷ []
 how_text Forced = 102 ∷ []
 
-abbrev pub how_of : Bool → Bool → How
+abbrev pub how_of : Bool → Bool → CommandFlags
 how_of true forced = Suspends
 how_of false true = Forced
 how_of false false = Plain
 
-abbrev pub task_of : How → Signal → TaskView
+abbrev pub task_of : CommandFlags → Signal → TaskView
 task_of Plain signal = record { signal = signal; suspends = false; forced = false }
 task_of Suspends signal = record { signal = signal; suspends = true; forced = false }
 task_of Forced signal = record { signal = signal; suspends = false; forced = true }
 
-abbrev pub signal_text : How → Signal → List ℕ
+abbrev pub signal_text : CommandFlags → Signal → List ℕ
 signal_text how (Command payload) = spaced (codes "command" ∷ how_text how ∷ bytes_text (concat payload) ∷ [])
 signal_text how (OwnerCommand payload) = spaced (codes "send" ∷ how_text how ∷ bytes_text (concat payload) ∷ [])
 signal_text how (Control op bytes) = spaced (codes "control" ∷ decimal op ∷ bytes_text bytes ∷ [])

@@ -1,13 +1,13 @@
 -- What a reader of lines gives.
 use Rattle.std.specs.Prelude.{◌≡◌, ℕ, Result, Ok, Err}
-use Rattle.journal_text.specs.declared.fault.LineFault.{LineFault}
-use Rattle.journal_text.specs.declared.fault.LineFault.TheVariants as line
+use Rattle.journal_text.specs.declared.fault.LinePartFault.{LinePartFault}
+use Rattle.journal_text.specs.declared.fault.LinePartFault.TheVariants as line
 use Rattle.journal_text.specs.declared.fault.TextFault.{TextFault}
 use Rattle.journal_text.specs.declared.fault.TextFault.TheVariants.{Bad, NoMemory}
 use Rattle.journal_text.specs.ReadingBooks.{Lines, size_of}
 
 -- a line's fault, where so many bytes are left from the line on
-abbrev pub fault_of : LineFault → ℕ → TextFault
+abbrev pub fault_of : LinePartFault → ℕ → TextFault
 fault_of line.Bad left = Bad left
 fault_of line.NoMemory left = NoMemory
 

@@ -14,42 +14,42 @@ pub enum JournalFault {
 
 /// Why a part of a line isn't read.
 #[derive(Clone, Copy, Debug, PartialEq, Eq)]
-pub(crate) enum LineFault {
+pub(crate) enum LinePartFault {
     /// It isn't in the grammar.
     Bad,
     NoMemory,
 }
 
-impl From<NoMemory> for LineFault {
+impl From<NoMemory> for LinePartFault {
     ghost use Rattle.std.specs.Prelude.{◌≡◌};
-    ghost use Rattle.journal_text.specs.declared.fault.LineFault.TheVariants as fault;
+    ghost use Rattle.journal_text.specs.declared.fault.LinePartFault.TheVariants as fault;
 
     ghost from_gives = { λ _ f. f ≡ fault.NoMemory };
 
-    fn from(_: NoMemory) -> LineFault {
-        LineFault::NoMemory
+    fn from(_: NoMemory) -> LinePartFault {
+        LinePartFault::NoMemory
     }
 }
 
-impl From<AllocError> for LineFault {
+impl From<AllocError> for LinePartFault {
     ghost use Rattle.std.specs.Prelude.{◌≡◌};
-    ghost use Rattle.journal_text.specs.declared.fault.LineFault.TheVariants as fault;
+    ghost use Rattle.journal_text.specs.declared.fault.LinePartFault.TheVariants as fault;
 
     ghost from_gives = { λ _ f. f ≡ fault.NoMemory };
 
-    fn from(_: AllocError) -> LineFault {
-        LineFault::NoMemory
+    fn from(_: AllocError) -> LinePartFault {
+        LinePartFault::NoMemory
     }
 }
 
-impl<T: Drop> From<AllocFailed<T>> for LineFault {
+impl<T: Drop> From<AllocFailed<T>> for LinePartFault {
     ghost use Rattle.std.specs.Prelude.{◌≡◌};
-    ghost use Rattle.journal_text.specs.declared.fault.LineFault.TheVariants as fault;
+    ghost use Rattle.journal_text.specs.declared.fault.LinePartFault.TheVariants as fault;
 
     ghost from_gives = { λ _ f. f ≡ fault.NoMemory };
 
-    fn from(_: AllocFailed<T>) -> LineFault {
-        LineFault::NoMemory
+    fn from(_: AllocFailed<T>) -> LinePartFault {
+        LinePartFault::NoMemory
     }
 }
 

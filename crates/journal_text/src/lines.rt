@@ -7,7 +7,7 @@ ghost use Rattle.journal_text.specs.Reading.{behind};
 ghost use Rattle.journal_text.specs.ReadingBooks.{lines_of, size_of, first_line, is_over};
 ghost use Rattle.journal_text.specs.TextFault.{fault_of};
 
-use crate::fault::{LineFault, TextFault};
+use crate::fault::{LinePartFault, TextFault};
 
 /// Whether a line may have this byte.
 fn is_line_byte(byte: u8) -> bool
@@ -63,11 +63,11 @@ pub(crate) fn bad(bytes: &[u8]) -> TextFault
 }
 
 /// The fault of a line, where these bytes stand from it on.
-pub(crate) fn fault_at(fault: LineFault, bytes: &[u8]) -> TextFault
+pub(crate) fn fault_at(fault: LinePartFault, bytes: &[u8]) -> TextFault
     ensures { result ≡ fault_of fault (size_of (lines_of bytes.now)) }
 {
     match fault {
-        LineFault::Bad => bad(bytes),
-        LineFault::NoMemory => TextFault::NoMemory,
+        LinePartFault::Bad => bad(bytes),
+        LinePartFault::NoMemory => TextFault::NoMemory,
     }
 }

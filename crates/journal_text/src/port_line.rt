@@ -2,12 +2,12 @@
 
 ghost use Rattle.std.specs.Prelude.{◌≡◌, ◌^◌, ◌≤◌, option_map, codes};
 ghost use Rattle.std.specs.Str.{bytes_eq};
-ghost use Rattle.journal_text.specs.LineFault.{Reads};
+ghost use Rattle.journal_text.specs.LinePartFault.{Reads};
 ghost use Rattle.journal_text.specs.Ports.{is_driver, is_spawn};
 ghost use Rattle.journal_text.specs.Reading.{spaced_at, pair_at, made, field_at, number_at, name_at};
 ghost use Rattle.journal_text.specs.ReadingPorts.{this_at, driver_of, limits_by, limits_at, packet_of, mode_by, mode_at, either, eof_at, exit_status_at, two_at, events_at, tail_at, parts_at, program_of, program_at, no_program, program_after, head_at, line_with, checked, port_behind, port_line_of};
 
-use crate::fault::LineFault;
+use crate::fault::LinePartFault;
 use crate::words::{
     next_bytes, next_name, next_number_32, next_number_below, number_32_of, space, spells, word,
 };
@@ -27,7 +27,7 @@ pub(crate) struct Limits {
 
 /// The options and the events of a program.
 #[derive(Drop)]
-pub(crate) struct Program {
+pub(crate) struct ProgramOptions {
     pub(crate) run: Piece,
     pub(crate) mode: Mode,
     pub(crate) eof: bool,
@@ -233,17 +233,17 @@ fn next_tail(front: &[u8]) -> Option<(Tail, &[u8])>
 }
 
 /// The options and the events of a program, behind a space.
-fn next_program(alloc: Global, front: &[u8]) -> Result<(Program, &[u8]), LineFault>
+fn next_program(alloc: Global, front: &[u8]) -> Result<(ProgramOptions, &[u8]), LinePartFault>
     ensures { Reads (λ x. (x.0, x.1.now)) result (spaced_at program_at front.now) }
 {
-    let (_, rest) = next_this("run", front).ok_or(LineFault::Bad)?;
+    let (_, rest) = next_this("run", front).ok_or(LinePartFault::Bad)?;
     let (run, rest) = next_bytes(alloc, rest)?;
-    let (mode, rest) = next_mode(rest).ok_or(LineFault::Bad)?;
-    let (eof, rest) = next_eof(rest).ok_or(LineFault::Bad)?;
-    let (exit_status, rest) = next_exit_status(rest).ok_or(LineFault::Bad)?;
-    let (tail, rest) = next_tail(rest).ok_or(LineFault::Bad)?;
+    let (mode, rest) = next_mode(rest).ok_or(LinePartFault::Bad)?;
+    let (eof, rest) = next_eof(rest).ok_or(LinePartFault::Bad)?;
+    let (exit_status, rest) = next_exit_status(rest).ok_or(LinePartFault::Bad)?;
+    let (tail, rest) = next_tail(rest).ok_or(LinePartFault::Bad)?;
     let (_, (busy_low, (busy_high, (_, events)))) = tail;
-    let program = Program {
+    let program = ProgramOptions {
         run,
         mode,
         eof,
@@ -256,10 +256,10 @@ fn next_program(alloc: Global, front: &[u8]) -> Result<(Program, &[u8]), LineFau
 }
 
 /// A program of which nothing is said.
-fn no_program() -> Program
+fn no_program() -> ProgramOptions
     ensures { result ≡ no_program }
 {
-    Program {
+    ProgramOptions {
         run: Piece::empty(),
         mode: Mode::Stream,
         eof: false,
@@ -279,27 +279,31 @@ pub(crate) fn is_spawn(driver: &Reason) -> bool
 
 /// What stands behind the limits of a port of this driver, to the end of its line.
 #[tactic(auto, unfolding(crate::specs::ReadingPorts::program_after))]
-fn program_after(alloc: Global, driver: &Reason, front: &[u8]) -> Result<Program, LineFault>
+fn program_after(
+    alloc: Global,
+    driver: &Reason,
+    front: &[u8],
+) -> Result<ProgramOptions, LinePartFault>
     ensures { Reads (λ program. program) result (program_after driver.now front.now) }
 {
     if !is_spawn(driver) {
         return match front {
             [] => Ok(no_program()),
-            [_, ..] => Err(LineFault::Bad),
+            [_, ..] => Err(LinePartFault::Bad),
         };
     }
     let (program, rest) = next_program(alloc, front)?;
     let [] = rest else {
-        return Err(LineFault::Bad);
+        return Err(LinePartFault::Bad);
     };
     Ok(program)
 }
 
 /// What stands in the line of a port before what is said of a program.
-type Head = (Reason, (u32, (Reason, ((), Limits))));
+type PortHead = (Reason, (u32, (Reason, ((), Limits))));
 
 /// A name, an owner, a driver and the limits of the message queue, behind a space.
-fn next_head(names: u32, front: &[u8]) -> Option<(Head, &[u8])>
+fn next_head(names: u32, front: &[u8]) -> Option<(PortHead, &[u8])>
     ensures { option_map (λ x. (x.0, x.1.now)) result ≡ spaced_at (head_at names) front.now }
 {
     let (name, rest) = next_name(front)?;
@@ -311,7 +315,7 @@ fn next_head(names: u32, front: &[u8]) -> Option<(Head, &[u8])>
 }
 
 /// The line of these parts.
-fn line_with(head: Head, program: Program) -> PortLine
+fn line_with(head: PortHead, program: ProgramOptions) -> PortLine
     ensures { result ≡ line_with head program }
 {
     let (name, (owner, (driver, (_, limits)))) = head;
@@ -348,22 +352,22 @@ fn checked(line: PortLine) -> Option<PortLine>
 
 /// The line of a port, behind its first word.
 #[tactic(auto, unfolding(crate::specs::ReadingPorts::port_behind))]
-fn port_behind(alloc: Global, names: u32, front: &[u8]) -> Result<PortLine, LineFault>
+fn port_behind(alloc: Global, names: u32, front: &[u8]) -> Result<PortLine, LinePartFault>
     ensures { Reads (λ line. line) result (port_behind names front.now) }
 {
-    let (head, rest) = next_head(names, front).ok_or(LineFault::Bad)?;
+    let (head, rest) = next_head(names, front).ok_or(LinePartFault::Bad)?;
     let program = program_after(alloc, &head.1.1.0, rest)?;
-    checked(line_with(head, program)).ok_or(LineFault::Bad)
+    checked(line_with(head, program)).ok_or(LinePartFault::Bad)
 }
 
 /// The line of a port, among so many processes.
 #[tactic(auto, unfolding(crate::specs::ReadingPorts::port_line_of))]
-pub(crate) fn port_line(alloc: Global, names: u32, line: &[u8]) -> Result<PortLine, LineFault>
+pub(crate) fn port_line(alloc: Global, names: u32, line: &[u8]) -> Result<PortLine, LinePartFault>
     ensures { Reads (λ line. line) result (port_line_of names line.now) }
 {
     let (word, rest) = word(line);
     if !spells(word, "port") {
-        return Err(LineFault::Bad);
+        return Err(LinePartFault::Bad);
     }
     port_behind(alloc, names, rest)
 }

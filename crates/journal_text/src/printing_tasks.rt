@@ -5,7 +5,7 @@ ghost use Rattle.journal_text.specs.Words.{bytes_text};
 ghost use Rattle.std.specs.List.{concat};
 ghost use Rattle.journal_text.specs.Signals.{sender_text, how_text, how_of, signal_text, task_text};
 
-use crate::how::How;
+use crate::how::CommandFlags;
 use crate::printing::{
     put, put_bytes, put_number, put_numbered, put_with_name, put_with_number, put_word,
 };
@@ -31,15 +31,15 @@ pub(crate) fn put_sender(out: &mut Vec<u8>, from: Sender) -> Result<(), NoMemory
 }
 
 /// The flags of a task.
-fn how_of(suspends: bool, forced: bool) -> How
+fn how_of(suspends: bool, forced: bool) -> CommandFlags
     ensures { result ≡ how_of suspends forced }
 {
     if suspends {
-        How::Suspends
+        CommandFlags::Suspends
     } else if forced {
-        How::Forced
+        CommandFlags::Forced
     } else {
-        How::Plain
+        CommandFlags::Plain
     }
 }
 
@@ -56,7 +56,12 @@ fn put_payload(out: &mut Vec<u8>, payload: &IoVec) -> Result<(), NoMemory>
 }
 
 /// A word, the flags of a command and its bytes.
-fn put_command(out: &mut Vec<u8>, word: &[u8], how: How, payload: &IoVec) -> Result<(), NoMemory>
+fn put_command(
+    out: &mut Vec<u8>,
+    word: &[u8],
+    how: CommandFlags,
+    payload: &IoVec,
+) -> Result<(), NoMemory>
     ensures { OnOk result (out.new.items ≡ out.old.items ++ (word.now ++ 32 ∷ how_text how ++ 32 ∷ bytes_text (concat payload.now))) }
 {
     put_word(out, word)?;
@@ -65,19 +70,19 @@ fn put_command(out: &mut Vec<u8>, word: &[u8], how: How, payload: &IoVec) -> Res
     put_payload(out, payload)
 }
 
-fn put_how(out: &mut Vec<u8>, how: How) -> Result<(), NoMemory>
+fn put_how(out: &mut Vec<u8>, how: CommandFlags) -> Result<(), NoMemory>
     ensures { OnOk result (out.new.items ≡ out.old.items ++ how_text how) }
 {
     match how {
-        How::Plain => put(out, b"-"),
-        How::Suspends => put(out, b"s"),
-        How::Forced => put(out, b"f"),
+        CommandFlags::Plain => put(out, b"-"),
+        CommandFlags::Suspends => put(out, b"s"),
+        CommandFlags::Forced => put(out, b"f"),
     }
 }
 
 /// An event that is ready in this direction.
 fn put_ready(out: &mut Vec<u8>, event: u32, dir: Dir) -> Result<(), NoMemory>
-    ensures { OnOk result (out.new.items ≡ out.old.items ++ signal_text How.Plain (Signal.Ready event dir)) }
+    ensures { OnOk result (out.new.items ≡ out.old.items ++ signal_text CommandFlags.Plain (Signal.Ready event dir)) }
 {
     match dir {
         Dir::Read => put_with_number(out, b"input", u64::from(event)),
@@ -85,7 +90,7 @@ fn put_ready(out: &mut Vec<u8>, event: u32, dir: Dir) -> Result<(), NoMemory>
     }
 }
 
-fn put_signal(out: &mut Vec<u8>, how: How, signal: &Signal) -> Result<(), NoMemory>
+fn put_signal(out: &mut Vec<u8>, how: CommandFlags, signal: &Signal) -> Result<(), NoMemory>
     ensures { OnOk result (out.new.items ≡ out.old.items ++ signal_text how signal.now) }
 {
     match signal {

@@ -1,7 +1,7 @@
 //! Journals that are read, line by line.
 
 ghost use Rattle.std.specs.Prelude.{◌≡◌, ◌≤◌, ◌-◌, ℕ, true, Ok, Err, length, IfOk, IfErr, IfSome};
-ghost use Rattle.journal_text.specs.LineFault.{Reads};
+ghost use Rattle.journal_text.specs.LinePartFault.{Reads};
 ghost use Rattle.journal_text.specs.TextFault.{MissedText, ReadsText};
 ghost use Rattle.journal_text.specs.Ports.{with_rows};
 ghost use Rattle.journal_text.specs.Books.{BookView, is_book, journal_text};
@@ -11,7 +11,7 @@ ghost use Rattle.journal_text.specs.ReadingPorts.{port_line_of};
 ghost use Rattle.journal_text.specs.ReadingBooks.{lines_of, or_fault, line_at, rows_at, port_at, ports_at, names_at, names_of, head_of, book_at};
 ghost use Rattle.journal_text.specs.Told.{Gives, Tells};
 
-use crate::fault::{JournalFault, LineFault, TextFault};
+use crate::fault::{JournalFault, LinePartFault, TextFault};
 use crate::lines::{bad, fault_at, first_line, is_over};
 use crate::port_line::{PortLine, port_line};
 use crate::rows::row;
@@ -116,7 +116,7 @@ fn ports(alloc: Global, names: u32, bytes: &[u8]) -> Result<Vec<PortReport>, Tex
 }
 
 /// Names, each behind a space, to the end of a line.
-fn more_names(alloc: Global, bytes: &[u8]) -> Result<Vec<Reason>, LineFault>
+fn more_names(alloc: Global, bytes: &[u8]) -> Result<Vec<Reason>, LinePartFault>
     ensures reads { Reads (λ names. names.items) result (names_at MAX_NAMES bytes.now) }
     ensures few { IfOk result (λ names. length names.items ≤ MAX_NAMES) }
 {
@@ -127,26 +127,26 @@ fn more_names(alloc: Global, bytes: &[u8]) -> Result<Vec<Reason>, LineFault>
             return Ok(names);
         }
         let Some((name, behind)) = next_name(rest) else {
-            return Err(LineFault::Bad);
+            return Err(LinePartFault::Bad);
         };
         names.push(name)?;
         rest = behind;
     }
     if !rest.is_empty() {
-        return Err(LineFault::Bad);
+        return Err(LinePartFault::Bad);
     }
     Ok(names)
 }
 
 /// The names of the line of processes.
 #[tactic(auto, unfolding(crate::specs::ReadingBooks::names_of))]
-fn names_of(alloc: Global, line: &[u8]) -> Result<Vec<Reason>, LineFault>
+fn names_of(alloc: Global, line: &[u8]) -> Result<Vec<Reason>, LinePartFault>
     ensures reads { Reads (λ names. names.items) result (names_of line.now) }
     ensures few { IfOk result (λ names. length names.items ≤ MAX_NAMES) }
 {
     let (word, rest) = word(line);
     if !spells(word, "processes") {
-        return Err(LineFault::Bad);
+        return Err(LinePartFault::Bad);
     }
     more_names(alloc, rest)
 }

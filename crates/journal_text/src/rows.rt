@@ -2,12 +2,12 @@
 
 ghost use Rattle.std.specs.Prelude.{◌≡◌, ◌^◌, ◌≤◌, ◌<◌, length, vec_len, option_map, IfOk};
 ghost use Rattle.port_signal.specs.declared.items.TheConstants.{MAX_ITEMS};
-ghost use Rattle.journal_text.specs.LineFault.{Reads};
+ghost use Rattle.journal_text.specs.LinePartFault.{Reads};
 ghost use Rattle.journal_text.specs.Reading.{field_at, made, spaced_at, pair_at, number_at, sender_at, answer_at, effect_at};
 ghost use Rattle.journal_text.specs.ReadingRows.{some_at, list_at, semicolon_at, calls_at, sent_at, handled_at, mark_of, row_by, row_of};
 
 use crate::effects::{answer, effect};
-use crate::fault::LineFault;
+use crate::fault::LinePartFault;
 use crate::tasks::{next_sender, next_task};
 use crate::words::{after, next_number, space, spells, word};
 use port_model::{Effect, Items, MarkKind, Outside, Row, Sender, Task};
@@ -15,7 +15,7 @@ use port_signal::MAX_ITEMS;
 use std::alloc::Global;
 
 /// One or more answers.
-fn some_answers(alloc: Global, front: &[u8]) -> Result<(Vec<Outside>, &[u8]), LineFault>
+fn some_answers(alloc: Global, front: &[u8]) -> Result<(Vec<Outside>, &[u8]), LinePartFault>
     ensures reads { Reads (λ x. (x.0.items, x.1.now)) result (some_at answer_at MAX_ITEMS front.now) }
     ensures few { IfOk result (λ x. vec_len x.0 ≤ MAX_ITEMS) }
 {
@@ -28,15 +28,19 @@ fn some_answers(alloc: Global, front: &[u8]) -> Result<(Vec<Outside>, &[u8]), Li
             return Ok((items, behind));
         };
         let Some(inner) = space(next) else {
-            return Err(LineFault::Bad);
+            return Err(LinePartFault::Bad);
         };
         rest = inner;
     }
-    Err(LineFault::Bad)
+    Err(LinePartFault::Bad)
 }
 
 /// One or more effects.
-fn some_effects(alloc: Global, names: u32, front: &[u8]) -> Result<(Vec<Effect>, &[u8]), LineFault>
+fn some_effects(
+    alloc: Global,
+    names: u32,
+    front: &[u8],
+) -> Result<(Vec<Effect>, &[u8]), LinePartFault>
     ensures reads { Reads (λ x. (x.0.items, x.1.now)) result (some_at (effect_at names) MAX_ITEMS front.now) }
     ensures few { IfOk result (λ x. vec_len x.0 ≤ MAX_ITEMS) }
 {
@@ -49,23 +53,23 @@ fn some_effects(alloc: Global, names: u32, front: &[u8]) -> Result<(Vec<Effect>,
             return Ok((items, behind));
         };
         let Some(inner) = space(next) else {
-            return Err(LineFault::Bad);
+            return Err(LinePartFault::Bad);
         };
         rest = inner;
     }
-    Err(LineFault::Bad)
+    Err(LinePartFault::Bad)
 }
 
 /// The answers of a row, of which there may be none.
 #[tactic(auto, unfolding(crate::specs::ReadingRows::list_at))]
-fn answers(alloc: Global, front: &[u8]) -> Result<(Items<Outside>, &[u8]), LineFault>
+fn answers(alloc: Global, front: &[u8]) -> Result<(Items<Outside>, &[u8]), LinePartFault>
     ensures { Reads (λ x. (x.0, x.1.now)) result (list_at answer_at front.now) }
 {
     match front {
         [] | [_, b';', ..] => Ok((Items::new(alloc), front)),
-        [_] => Err(LineFault::Bad),
+        [_] => Err(LinePartFault::Bad),
         [_, _, ..] => {
-            let (items, rest) = some_answers(alloc, space(front).ok_or(LineFault::Bad)?)?;
+            let (items, rest) = some_answers(alloc, space(front).ok_or(LinePartFault::Bad)?)?;
             Ok((Items::of_vec(items), rest))
         }
     }
@@ -73,14 +77,18 @@ fn answers(alloc: Global, front: &[u8]) -> Result<(Items<Outside>, &[u8]), LineF
 
 /// The effects of a row, of which there may be none.
 #[tactic(auto, unfolding(crate::specs::ReadingRows::list_at))]
-fn effects(alloc: Global, names: u32, front: &[u8]) -> Result<(Items<Effect>, &[u8]), LineFault>
+fn effects(alloc: Global, names: u32, front: &[u8]) -> Result<(Items<Effect>, &[u8]), LinePartFault>
     ensures { Reads (λ x. (x.0, x.1.now)) result (list_at (effect_at names) front.now) }
 {
     match front {
         [] | [_, b';', ..] => Ok((Items::new(alloc), front)),
-        [_] => Err(LineFault::Bad),
+        [_] => Err(LinePartFault::Bad),
         [_, _, ..] => {
-            let (items, rest) = some_effects(alloc, names, space(front).ok_or(LineFault::Bad)?)?;
+            let (items, rest) = some_effects(
+                alloc,
+                names,
+                space(front).ok_or(LinePartFault::Bad)?,
+            )?;
             Ok((Items::of_vec(items), rest))
         }
     }
@@ -99,11 +107,11 @@ fn calls(
     alloc: Global,
     names: u32,
     front: &[u8],
-) -> Result<((Items<Outside>, Items<Effect>), &[u8]), LineFault>
+) -> Result<((Items<Outside>, Items<Effect>), &[u8]), LinePartFault>
     ensures { Reads (λ x. (x.0, x.1.now)) result (calls_at names front.now) }
 {
-    let (outside, rest) = answers(alloc, semicolon(front).ok_or(LineFault::Bad)?)?;
-    let (effects, rest) = effects(alloc, names, semicolon(rest).ok_or(LineFault::Bad)?)?;
+    let (outside, rest) = answers(alloc, semicolon(front).ok_or(LinePartFault::Bad)?)?;
+    let (effects, rest) = effects(alloc, names, semicolon(rest).ok_or(LinePartFault::Bad)?)?;
     Ok(((outside, effects), rest))
 }
 
@@ -121,18 +129,18 @@ fn next_sent(
     alloc: Global,
     names: u32,
     front: &[u8],
-) -> Result<((Sender, (u64, Task)), &[u8]), LineFault>
+) -> Result<((Sender, (u64, Task)), &[u8]), LinePartFault>
     ensures { Reads (λ x. (x.0, x.1.now)) result (spaced_at (sent_at names) front.now) }
 {
-    let (from, rest) = next_sender(names, front).ok_or(LineFault::Bad)?;
-    let (seq, rest) = next_number(rest).ok_or(LineFault::Bad)?;
+    let (from, rest) = next_sender(names, front).ok_or(LinePartFault::Bad)?;
+    let (seq, rest) = next_number(rest).ok_or(LinePartFault::Bad)?;
     let (task, rest) = next_task(alloc, names, rest)?;
     Ok(((from, (seq, task)), rest))
 }
 
 /// A handled task, behind its word.
 #[tactic(auto, unfolding(crate::specs::ReadingRows::handled_at))]
-fn handled(alloc: Global, names: u32, front: &[u8]) -> Result<(Row, &[u8]), LineFault>
+fn handled(alloc: Global, names: u32, front: &[u8]) -> Result<(Row, &[u8]), LinePartFault>
     ensures { Reads (λ x. (x.0, x.1.now)) result (handled_at names front.now) }
 {
     let ((from, (seq, task)), rest) = next_sent(alloc, names, front)?;
@@ -148,7 +156,7 @@ fn handled(alloc: Global, names: u32, front: &[u8]) -> Result<(Row, &[u8]), Line
 }
 
 /// A late task, behind its word.
-fn late(alloc: Global, names: u32, front: &[u8]) -> Result<(Row, &[u8]), LineFault>
+fn late(alloc: Global, names: u32, front: &[u8]) -> Result<(Row, &[u8]), LinePartFault>
     ensures { Reads (λ x. (x.0, x.1.now)) result (made (λ p. Row.Late p.0 p.1.0 p.1.1) (spaced_at (sent_at names) front.now)) }
 {
     let ((from, (seq, task)), rest) = next_sent(alloc, names, front)?;
@@ -195,7 +203,7 @@ fn row_behind<'a>(
     names: u32,
     word: &[u8],
     front: &'a [u8],
-) -> Result<(Row, &'a [u8]), LineFault>
+) -> Result<(Row, &'a [u8]), LinePartFault>
     ensures { Reads (λ x. (x.0, x.1.now)) result (row_by names word.now front.now) }
 {
     if spells(word, "h") {
@@ -203,27 +211,27 @@ fn row_behind<'a>(
     } else if spells(word, "l") {
         late(alloc, names, front)
     } else if spells(word, "s") {
-        let ((from, seq), rest) = next_place(names, front).ok_or(LineFault::Bad)?;
+        let ((from, seq), rest) = next_place(names, front).ok_or(LinePartFault::Bad)?;
         Ok((Row::Listed { from, seq }, rest))
     } else if spells(word, "r") {
-        resumed(names, front).ok_or(LineFault::Bad)
+        resumed(names, front).ok_or(LinePartFault::Bad)
     } else if spells(word, "m") {
-        let (kind, rest) = next_mark(front).ok_or(LineFault::Bad)?;
+        let (kind, rest) = next_mark(front).ok_or(LinePartFault::Bad)?;
         Ok((Row::Mark(kind), rest))
     } else {
-        Err(LineFault::Bad)
+        Err(LinePartFault::Bad)
     }
 }
 
 /// The row of a line, among so many processes.
 #[tactic(auto, unfolding(crate::specs::ReadingRows::row_of))]
-pub(crate) fn row(alloc: Global, names: u32, line: &[u8]) -> Result<Row, LineFault>
+pub(crate) fn row(alloc: Global, names: u32, line: &[u8]) -> Result<Row, LinePartFault>
     ensures { Reads (λ row. row) result (row_of names line.now) }
 {
     let (word, rest) = word(line);
     let (row, rest) = row_behind(alloc, names, word, rest)?;
     let [] = rest else {
-        return Err(LineFault::Bad);
+        return Err(LinePartFault::Bad);
     };
     Ok(row)
 }

@@ -2,12 +2,12 @@
 
 ghost use Rattle.std.specs.Prelude.{◌≡◌, ◌^◌, ◌<◌, true, option_map};
 ghost use Rattle.port_model.specs.Signals.{is_command};
-ghost use Rattle.journal_text.specs.LineFault.{Reads};
+ghost use Rattle.journal_text.specs.LinePartFault.{Reads};
 ghost use Rattle.journal_text.specs.Signals.{task_of};
 ghost use Rattle.journal_text.specs.Reading.{spaced_at, pair_at, number_at, bytes_at, payload_of, payload_at, sender_of, sender_at, how_of, how_at, event_by, carrying_by, signal_by, task_by, task_at, made};
 
-use crate::fault::LineFault;
-use crate::how::How;
+use crate::fault::LinePartFault;
+use crate::how::CommandFlags;
 use crate::words::{
     bytes, next_bytes, next_name, next_number, next_number_32, next_number_below, number_32_of,
     number_below_of, space, spells, word,
@@ -47,22 +47,22 @@ pub(crate) fn next_sender(names: u32, front: &[u8]) -> Option<(Sender, &[u8])>
 
 /// The flags that a word is.
 #[tactic(auto, unfolding(crate::specs::Reading::how_of))]
-fn how_of(word: &[u8]) -> Option<How>
+fn how_of(word: &[u8]) -> Option<CommandFlags>
     ensures { result ≡ how_of word.now }
 {
     if spells(word, "-") {
-        Some(How::Plain)
+        Some(CommandFlags::Plain)
     } else if spells(word, "s") {
-        Some(How::Suspends)
+        Some(CommandFlags::Suspends)
     } else if spells(word, "f") {
-        Some(How::Forced)
+        Some(CommandFlags::Forced)
     } else {
         None
     }
 }
 
 /// The flags in front.
-fn how(bytes: &[u8]) -> Option<(How, &[u8])>
+fn how(bytes: &[u8]) -> Option<(CommandFlags, &[u8])>
     ensures { option_map (λ x. (x.0, x.1.now)) result ≡ how_at bytes.now }
 {
     let (word, rest) = word(bytes);
@@ -81,7 +81,7 @@ fn payload_of(alloc: Global, piece: Piece) -> IoVec
 }
 
 /// The vector in front.
-fn payload(alloc: Global, front: &[u8]) -> Result<(IoVec, &[u8]), LineFault>
+fn payload(alloc: Global, front: &[u8]) -> Result<(IoVec, &[u8]), LinePartFault>
     ensures { Reads (λ x. (x.0, x.1.now)) result (payload_at front.now) }
 {
     let (piece, rest) = bytes(alloc, front)?;
@@ -89,42 +89,45 @@ fn payload(alloc: Global, front: &[u8]) -> Result<(IoVec, &[u8]), LineFault>
 }
 
 /// The vector behind a space.
-fn next_payload(alloc: Global, front: &[u8]) -> Result<(IoVec, &[u8]), LineFault>
+fn next_payload(alloc: Global, front: &[u8]) -> Result<(IoVec, &[u8]), LinePartFault>
     ensures { Reads (λ x. (x.0, x.1.now)) result (spaced_at payload_at front.now) }
 {
-    payload(alloc, space(front).ok_or(LineFault::Bad)?)
+    payload(alloc, space(front).ok_or(LinePartFault::Bad)?)
 }
 
 /// The flags behind a space.
-fn next_how(front: &[u8]) -> Option<(How, &[u8])>
+fn next_how(front: &[u8]) -> Option<(CommandFlags, &[u8])>
     ensures { option_map (λ x. (x.0, x.1.now)) result ≡ spaced_at how_at front.now }
 {
     how(space(front)?)
 }
 
 /// The flags and the vector of a command, behind a space.
-fn flags_and_payload(alloc: Global, front: &[u8]) -> Result<((How, IoVec), &[u8]), LineFault>
+fn flags_and_payload(
+    alloc: Global,
+    front: &[u8],
+) -> Result<((CommandFlags, IoVec), &[u8]), LinePartFault>
     ensures { Reads (λ x. (x.0, x.1.now)) result (spaced_at (pair_at how_at payload_at) front.now) }
 {
-    let (how, rest) = next_how(front).ok_or(LineFault::Bad)?;
+    let (how, rest) = next_how(front).ok_or(LinePartFault::Bad)?;
     let (payload, rest) = next_payload(alloc, rest)?;
     Ok(((how, payload), rest))
 }
 
 /// An operation and its bytes, behind a space.
-fn operation(alloc: Global, front: &[u8]) -> Result<((u32, Piece), &[u8]), LineFault>
+fn operation(alloc: Global, front: &[u8]) -> Result<((u32, Piece), &[u8]), LinePartFault>
     ensures { Reads (λ x. (x.0, x.1.now)) result (spaced_at (pair_at (number_at (2 ^ 32)) bytes_at) front.now) }
 {
-    let (op, rest) = next_number_32(front).ok_or(LineFault::Bad)?;
+    let (op, rest) = next_number_32(front).ok_or(LinePartFault::Bad)?;
     let (piece, rest) = next_bytes(alloc, rest)?;
     Ok(((op, piece), rest))
 }
 
 /// The number of a job and its output, behind a space.
-fn job_output(alloc: Global, front: &[u8]) -> Result<((u64, Piece), &[u8]), LineFault>
+fn job_output(alloc: Global, front: &[u8]) -> Result<((u64, Piece), &[u8]), LinePartFault>
     ensures { Reads (λ x. (x.0, x.1.now)) result (spaced_at (pair_at (number_at (2 ^ 64)) bytes_at) front.now) }
 {
-    let (number, rest) = next_number(front).ok_or(LineFault::Bad)?;
+    let (number, rest) = next_number(front).ok_or(LinePartFault::Bad)?;
     let (piece, rest) = next_bytes(alloc, rest)?;
     Ok(((number, piece), rest))
 }
@@ -143,21 +146,21 @@ fn event_signal<'a>(
     alloc: Global,
     word: &[u8],
     front: &'a [u8],
-) -> Result<(Signal, &'a [u8]), LineFault>
+) -> Result<(Signal, &'a [u8]), LinePartFault>
     ensures { Reads (λ x. (x.0, x.1.now)) result (event_by word.now front.now) }
 {
     if spells(word, "input") {
-        ready(Dir::Read, front).ok_or(LineFault::Bad)
+        ready(Dir::Read, front).ok_or(LinePartFault::Bad)
     } else if spells(word, "output") {
-        ready(Dir::Write, front).ok_or(LineFault::Bad)
+        ready(Dir::Write, front).ok_or(LinePartFault::Bad)
     } else if spells(word, "dropped") {
-        let (event, rest) = next_number_32(front).ok_or(LineFault::Bad)?;
+        let (event, rest) = next_number_32(front).ok_or(LinePartFault::Bad)?;
         Ok((Signal::Dropped(event), rest))
     } else if spells(word, "done") {
         let ((number, output), rest) = job_output(alloc, front)?;
         Ok((Signal::AsyncDone { number, output }, rest))
     } else {
-        Err(LineFault::Bad)
+        Err(LinePartFault::Bad)
     }
 }
 
@@ -168,26 +171,26 @@ fn carrying_signal<'a>(
     names: u32,
     word: &[u8],
     front: &'a [u8],
-) -> Result<(Signal, &'a [u8]), LineFault>
+) -> Result<(Signal, &'a [u8]), LinePartFault>
     ensures { Reads (λ x. (x.0, x.1.now)) result (carrying_by names word.now front.now) }
 {
     if spells(word, "connect") {
-        let (process, rest) = next_number_below(names, front).ok_or(LineFault::Bad)?;
+        let (process, rest) = next_number_below(names, front).ok_or(LinePartFault::Bad)?;
         Ok((Signal::Connect(process), rest))
     } else if spells(word, "ownerconnect") {
-        let (process, rest) = next_number_below(names, front).ok_or(LineFault::Bad)?;
+        let (process, rest) = next_number_below(names, front).ok_or(LinePartFault::Bad)?;
         Ok((Signal::OwnerConnect(process), rest))
     } else if spells(word, "monitor") {
-        let (number, rest) = next_number(front).ok_or(LineFault::Bad)?;
+        let (number, rest) = next_number(front).ok_or(LinePartFault::Bad)?;
         Ok((Signal::Monitor(number), rest))
     } else if spells(word, "demonitor") {
-        let (number, rest) = next_number(front).ok_or(LineFault::Bad)?;
+        let (number, rest) = next_number(front).ok_or(LinePartFault::Bad)?;
         Ok((Signal::Demonitor(number), rest))
     } else if spells(word, "exit") {
-        let (reason, rest) = next_name(front).ok_or(LineFault::Bad)?;
+        let (reason, rest) = next_name(front).ok_or(LinePartFault::Bad)?;
         Ok((Signal::Exit(reason), rest))
     } else if spells(word, "gone") {
-        let (reason, rest) = next_name(front).ok_or(LineFault::Bad)?;
+        let (reason, rest) = next_name(front).ok_or(LinePartFault::Bad)?;
         Ok((Signal::Gone(reason), rest))
     } else {
         event_signal(alloc, word, front)
@@ -201,7 +204,7 @@ fn signal<'a>(
     names: u32,
     word: &[u8],
     front: &'a [u8],
-) -> Result<(Signal, &'a [u8]), LineFault>
+) -> Result<(Signal, &'a [u8]), LinePartFault>
     ensures { Reads (λ x. (x.0, x.1.now)) result (signal_by names word.now front.now) }
 {
     if spells(word, "control") {
@@ -224,14 +227,14 @@ fn signal<'a>(
 }
 
 /// The task of a command with these flags.
-fn task_of(how: How, signal: Signal) -> Task
+fn task_of(how: CommandFlags, signal: Signal) -> Task
     requires { is_command signal ≡ true }
     ensures { result ≡ task_of how signal }
 {
     match how {
-        How::Plain => Task::new(signal),
-        How::Suspends => Task::suspending(signal),
-        How::Forced => Task::forced(signal),
+        CommandFlags::Plain => Task::new(signal),
+        CommandFlags::Suspends => Task::suspending(signal),
+        CommandFlags::Forced => Task::forced(signal),
     }
 }
 
@@ -242,7 +245,7 @@ fn task_behind<'a>(
     names: u32,
     word: &[u8],
     front: &'a [u8],
-) -> Result<(Task, &'a [u8]), LineFault>
+) -> Result<(Task, &'a [u8]), LinePartFault>
     ensures { Reads (λ x. (x.0, x.1.now)) result (task_by names word.now front.now) }
 {
     if spells(word, "command") {
@@ -258,7 +261,7 @@ fn task_behind<'a>(
 }
 
 /// The task in front.
-fn task(alloc: Global, names: u32, front: &[u8]) -> Result<(Task, &[u8]), LineFault>
+fn task(alloc: Global, names: u32, front: &[u8]) -> Result<(Task, &[u8]), LinePartFault>
     ensures { Reads (λ x. (x.0, x.1.now)) result (task_at names front.now) }
 {
     let (word, rest) = word(front);
@@ -266,8 +269,12 @@ fn task(alloc: Global, names: u32, front: &[u8]) -> Result<(Task, &[u8]), LineFa
 }
 
 /// The task behind a space.
-pub(crate) fn next_task(alloc: Global, names: u32, front: &[u8]) -> Result<(Task, &[u8]), LineFault>
+pub(crate) fn next_task(
+    alloc: Global,
+    names: u32,
+    front: &[u8],
+) -> Result<(Task, &[u8]), LinePartFault>
     ensures { Reads (λ x. (x.0, x.1.now)) result (spaced_at (task_at names) front.now) }
 {
-    task(alloc, names, space(front).ok_or(LineFault::Bad)?)
+    task(alloc, names, space(front).ok_or(LinePartFault::Bad)?)
 }

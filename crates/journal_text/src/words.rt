@@ -3,11 +3,11 @@
 ghost use Rattle.std.specs.Prelude.{◌≡◌, if◌then◌else◌, nat_lt, None, ◌≤◌, ◌<◌, ◌^◌, ◌+◌, length, option_map, IfSome};
 ghost use Rattle.std.specs.List.{list_all, take_while, prefix_len};
 ghost use Rattle.std.specs.Str.{bytes_eq};
-ghost use Rattle.journal_text.specs.LineFault.{Reads};
+ghost use Rattle.journal_text.specs.LinePartFault.{Reads};
 ghost use Rattle.journal_text.specs.Words.{is_word_byte};
 ghost use Rattle.journal_text.specs.Reading.{after, behind, is_digit, is_numeral, number_of, number_at, negative, status_of, status_at, name_of, name_at, is_lower_digit, bytes_of, bytes_at, spaced_at};
 
-use crate::fault::LineFault;
+use crate::fault::LinePartFault;
 use hex::FromHexError;
 use port_model::{Piece, Reason};
 use std::alloc::Global;
@@ -209,24 +209,24 @@ fn all_lower_digits(word: &[u8]) -> bool
 
 /// The bytes that a word spells.
 #[tactic(auto, unfolding(crate::specs::Reading::bytes_of))]
-pub(crate) fn bytes_of(alloc: Global, word: &[u8]) -> Result<Piece, LineFault>
+pub(crate) fn bytes_of(alloc: Global, word: &[u8]) -> Result<Piece, LinePartFault>
     ensures { Reads (λ piece. piece) result (bytes_of word.now) }
 {
     if spells(word, "-") {
         return Ok(Piece::empty());
     }
     if !all_lower_digits(word) || word.is_empty() {
-        return Err(LineFault::Bad);
+        return Err(LinePartFault::Bad);
     }
     match hex::decode(alloc, word) {
         Ok(bytes) => Ok(Piece::of_vec(bytes)?),
-        Err(FromHexError::OutOfMemory) => Err(LineFault::NoMemory),
-        Err(_) => Err(LineFault::Bad),
+        Err(FromHexError::OutOfMemory) => Err(LinePartFault::NoMemory),
+        Err(_) => Err(LinePartFault::Bad),
     }
 }
 
 /// The bytes in front.
-pub(crate) fn bytes(alloc: Global, bytes: &[u8]) -> Result<(Piece, &[u8]), LineFault>
+pub(crate) fn bytes(alloc: Global, bytes: &[u8]) -> Result<(Piece, &[u8]), LinePartFault>
     ensures { Reads (λ x. (x.0, x.1.now)) result (bytes_at bytes.now) }
 {
     let (word, rest) = word(bytes);
@@ -276,8 +276,8 @@ pub(crate) fn next_name(bytes: &[u8]) -> Option<(Reason, &[u8])>
 }
 
 /// The bytes behind a space.
-pub(crate) fn next_bytes(alloc: Global, front: &[u8]) -> Result<(Piece, &[u8]), LineFault>
+pub(crate) fn next_bytes(alloc: Global, front: &[u8]) -> Result<(Piece, &[u8]), LinePartFault>
     ensures { Reads (λ x. (x.0, x.1.now)) result (spaced_at bytes_at front.now) }
 {
-    bytes(alloc, space(front).ok_or(LineFault::Bad)?)
+    bytes(alloc, space(front).ok_or(LinePartFault::Bad)?)
 }

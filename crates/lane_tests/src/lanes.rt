@@ -13,9 +13,9 @@ use task_queue::{Fits, Item, SendEnd, TakeEnd, lane};
 
 // Every number fits, in a lane with no key.
 #[derive(Clone, Copy, Debug, Drop, PartialEq)]
-struct Number(u64);
+struct LaneNumber(u64);
 
-impl Fits for Number {
+impl Fits for LaneNumber {
     type Key = ();
 
     ghost fits = { λ key number value. Unit {0} };
@@ -33,23 +33,23 @@ impl Fits for Place {
 
 // What one thread puts.
 #[derive(Drop)]
-struct Job {
-    end: SendEnd<Number>,
-    values: Vec<Number>,
+struct PutJob {
+    end: SendEnd<LaneNumber>,
+    values: Vec<LaneNumber>,
     ghost fresh: { end.sent ≡ [] },
 }
 
 // Puts all values, and says that it is done.
-fn put_all<R: Wait>(rt: &R, job: Job, done: &AtomicU64) -> Option<SendEnd<Number>>
+fn put_all<R: Wait>(rt: &R, job: PutJob, done: &AtomicU64) -> Option<SendEnd<LaneNumber>>
     ensures { IfSome result (λ end. end ≡ record job.end { sent = job.values.items }) }
 {
-    let Job { mut end, values } = job;
+    let PutJob { mut end, values } = job;
     let put = put_each(rt, &mut end, &values);
     done.fetch_add(1, Ordering::SeqCst);
     put.then_some(end)
 }
 
-fn put_each<R: Wait>(rt: &R, end: &mut SendEnd<Number>, values: &[Number]) -> bool
+fn put_each<R: Wait>(rt: &R, end: &mut SendEnd<LaneNumber>, values: &[LaneNumber]) -> bool
     requires { end.old.sent ≡ [] }
     ensures { result ≡ true → end.new ≡ record end.old { sent = values.now } }
 {
@@ -64,8 +64,8 @@ fn put_each<R: Wait>(rt: &R, end: &mut SendEnd<Number>, values: &[Number]) -> bo
 // Takes until so many senders are done and the lane is empty.
 fn gather<R: Wait>(
     rt: &R,
-    end: &mut TakeEnd<Number>,
-    items: &mut Vec<Item<Number>>,
+    end: &mut TakeEnd<LaneNumber>,
+    items: &mut Vec<Item<LaneNumber>>,
     done: &AtomicU64,
     senders: u64,
 ) -> Result<(), AllocError>
@@ -90,8 +90,8 @@ fn gather<R: Wait>(
 // What was taken, beside the end that took it.
 #[derive(Drop)]
 struct Gathered {
-    end: TakeEnd<Number>,
-    items: Vec<Item<Number>>,
+    end: TakeEnd<LaneNumber>,
+    items: Vec<Item<LaneNumber>>,
     ghost kept: { items.items ≡ end.taken },
 }
 
@@ -116,10 +116,13 @@ fn take_until<R: Wait>(
 fn exchange<R: Threads + Wait + Sync>(
     rt: &R,
     done: &AtomicU64,
-    first: Job,
-    second: Job,
+    first: PutJob,
+    second: PutJob,
     gathered: Gathered,
-) -> (Option<(SendEnd<Number>, SendEnd<Number>)>, Option<Gathered>)
+) -> (
+    Option<(SendEnd<LaneNumber>, SendEnd<LaneNumber>)>,
+    Option<Gathered>,
+)
     ensures first { IfSome result.0 (λ ends. ends.0 ≡ record first.end { sent = first.values.items }) }
     ensures second { IfSome result.0 (λ ends. ends.1 ≡ record second.end { sent = second.values.items }) }
     ensures same { IfSome result.1 (λ r. r.end ≡ record gathered.end { taken = r.end.taken }) }
@@ -134,9 +137,9 @@ fn exchange<R: Threads + Wait + Sync>(
 fn put_both<R: Threads + Wait + Sync>(
     rt: &R,
     done: &AtomicU64,
-    first: Job,
-    second: Job,
-) -> Option<(SendEnd<Number>, SendEnd<Number>)>
+    first: PutJob,
+    second: PutJob,
+) -> Option<(SendEnd<LaneNumber>, SendEnd<LaneNumber>)>
     ensures first { IfSome result (λ ends. ends.0 ≡ record first.end { sent = first.values.items }) }
     ensures second { IfSome result (λ ends. ends.1 ≡ record second.end { sent = second.values.items }) }
 {
@@ -152,10 +155,10 @@ fn put_both<R: Threads + Wait + Sync>(
 fn finish<R: Wait>(
     rt: &R,
     gathered: Gathered,
-    one: SendEnd<Number>,
-    two: SendEnd<Number>,
+    one: SendEnd<LaneNumber>,
+    two: SendEnd<LaneNumber>,
     done: &AtomicU64,
-) -> Option<Vec<Item<Number>>>
+) -> Option<Vec<Item<LaneNumber>>>
     requires lanes { (one.lane ≡ gathered.end.lane) × (two.lane ≡ gathered.end.lane) }
     requires fresh { gathered.end.ended ≡ [] }
     ensures one { IfSome result (λ items. of one.number items.items ≡ one.sent) }
@@ -176,14 +179,14 @@ fn finish<R: Wait>(
 fn deliver<R: Threads + Wait + Sync>(
     rt: &R,
     alloc: Global,
-    first: Vec<Number>,
-    second: Vec<Number>,
-) -> Option<Vec<Item<Number>>>
+    first: Vec<LaneNumber>,
+    second: Vec<LaneNumber>,
+) -> Option<Vec<Item<LaneNumber>>>
     ensures first { IfSome result (λ items. of 0 items.items ≡ first.items) }
     ensures second { IfSome result (λ items. of 1 items.items ≡ second.items) }
     ensures numbered { IfSome result (λ items. IsNumbered items.items) }
 {
-    let Ok((mut one, end)) = lane::<Number>(alloc, Snapshot::of(&())) else {
+    let Ok((mut one, end)) = lane::<LaneNumber>(alloc, Snapshot::of(&())) else {
         return None;
     };
     let Ok(two) = one.split() else {
@@ -194,11 +197,11 @@ fn deliver<R: Threads + Wait + Sync>(
         end,
         items: Vec::new(alloc),
     };
-    let one = Job {
+    let one = PutJob {
         end: one,
         values: first,
     };
-    let two = Job {
+    let two = PutJob {
         end: two,
         values: second,
     };
@@ -212,8 +215,8 @@ fn deliver<R: Threads + Wait + Sync>(
 #[test]
 fn two_threads_put_and_a_third_takes(rt: HostRuntime) -> Result<(), Fail> {
     let alloc = rt.alloc();
-    let first: Vec<Number> = (0..1000).map(Number).collect(alloc)?;
-    let second: Vec<Number> = (5000..6000).map(Number).collect(alloc)?;
+    let first: Vec<LaneNumber> = (0..1000).map(LaneNumber).collect(alloc)?;
+    let second: Vec<LaneNumber> = (5000..6000).map(LaneNumber).collect(alloc)?;
     let items = deliver(&rt, alloc, first, second).ok_or("memory")?;
     assert_eq!(rt; items.len(), 2000);
     for item in items.iter().take(2000) {
@@ -224,7 +227,11 @@ fn two_threads_put_and_a_third_takes(rt: HostRuntime) -> Result<(), Fail> {
 }
 
 // A job for each list: ends 1, 2 and so on put them.
-fn jobs_of(alloc: Global, maker: &mut SendEnd<Number>, lists: Vec<Vec<Number>>) -> Option<Vec<Job>>
+fn jobs_of(
+    alloc: Global,
+    maker: &mut SendEnd<LaneNumber>,
+    lists: Vec<Vec<LaneNumber>>,
+) -> Option<Vec<PutJob>>
     requires number { maker.old.number ≡ 0 }
     requires made { maker.old.made ≡ 1 }
     ensures len { IfSome result (λ jobs. vec_len jobs ≡ vec_len lists) }
@@ -236,7 +243,7 @@ fn jobs_of(alloc: Global, maker: &mut SendEnd<Number>, lists: Vec<Vec<Number>>) 
         let Ok(end) = maker.split() else {
             return None;
         };
-        if jobs.push(Job { end, values }).is_err() {
+        if jobs.push(PutJob { end, values }).is_err() {
             return None;
         }
     }
@@ -247,8 +254,8 @@ fn jobs_of(alloc: Global, maker: &mut SendEnd<Number>, lists: Vec<Vec<Number>>) 
 fn put_lists<R: Threads + Wait + Sync>(
     rt: &R,
     done: &AtomicU64,
-    jobs: Vec<Job>,
-) -> Option<Vec<Option<SendEnd<Number>>>>
+    jobs: Vec<PutJob>,
+) -> Option<Vec<Option<SendEnd<LaneNumber>>>>
     ensures len { IfSome result (λ ends. vec_len ends ≡ vec_len jobs) }
     ensures sent { IfSome result (λ ends. (n : ℕ) (e : _) (j : _) → n < vec_len jobs → IfSome (slice_index_or ends.items n e) (λ end. end ≡ record (slice_index_or jobs.items n j).end { sent = (slice_index_or jobs.items n j).values.items })) }
 {
@@ -259,9 +266,9 @@ fn put_lists<R: Threads + Wait + Sync>(
 fn exchange_all<R: Threads + Wait + Sync>(
     rt: &R,
     done: &AtomicU64,
-    jobs: Vec<Job>,
+    jobs: Vec<PutJob>,
     gathered: Gathered,
-) -> (Option<Vec<Option<SendEnd<Number>>>>, Option<Gathered>)
+) -> (Option<Vec<Option<SendEnd<LaneNumber>>>>, Option<Gathered>)
     ensures len { IfSome result.0 (λ ends. vec_len ends ≡ vec_len jobs) }
     ensures sent { IfSome result.0 (λ ends. (n : ℕ) (e : _) (j : _) → n < vec_len jobs → IfSome (slice_index_or ends.items n e) (λ end. end ≡ record (slice_index_or jobs.items n j).end { sent = (slice_index_or jobs.items n j).values.items })) }
     ensures same { IfSome result.1 (λ r. r.end ≡ record gathered.end { taken = r.end.taken }) }
@@ -275,7 +282,7 @@ fn exchange_all<R: Threads + Wait + Sync>(
 }
 
 // Takes in all ends, if each is there.
-fn take_in_all(end: &mut TakeEnd<Number>, ends: Vec<Option<SendEnd<Number>>>) -> bool
+fn take_in_all(end: &mut TakeEnd<LaneNumber>, ends: Vec<Option<SendEnd<LaneNumber>>>) -> bool
     requires { (n : ℕ) (e : _) → n < vec_len ends → IfSome (slice_index_or ends.items n e) (λ s. s.lane ≡ end.old.lane) }
     ensures same { end.new ≡ record end.old { ended = end.new.ended } }
     ensures ended { result ≡ true → (n : ℕ) (e : _) → n < vec_len ends → IsSomeAnd (slice_index_or ends.items n e) (λ s. Contains end.new.ended (ended_of s)) }
@@ -293,9 +300,9 @@ fn take_in_all(end: &mut TakeEnd<Number>, ends: Vec<Option<SendEnd<Number>>>) ->
 fn finish_all<R: Wait>(
     rt: &R,
     gathered: Gathered,
-    ends: Vec<Option<SendEnd<Number>>>,
+    ends: Vec<Option<SendEnd<LaneNumber>>>,
     done: &AtomicU64,
-) -> Option<Vec<Item<Number>>>
+) -> Option<Vec<Item<LaneNumber>>>
     requires { (n : ℕ) (e : _) → n < vec_len ends → IfSome (slice_index_or ends.items n e) (λ s. s.lane ≡ gathered.end.lane) }
     ensures { IfSome result (λ items. (n : ℕ) (e : _) → n < vec_len ends → IsSomeAnd (slice_index_or ends.items n e) (λ s. of s.number items.items ≡ s.sent)) }
 {
@@ -314,11 +321,11 @@ fn finish_all<R: Wait>(
 fn fan_in<R: Threads + Wait + Sync>(
     rt: &R,
     alloc: Global,
-    lists: Vec<Vec<Number>>,
-) -> Option<Vec<Item<Number>>>
+    lists: Vec<Vec<LaneNumber>>,
+) -> Option<Vec<Item<LaneNumber>>>
     ensures { IfSome result (λ items. (n : ℕ) (v : _) → n < vec_len lists → of (n + 1) items.items ≡ (slice_index_or lists.items n v).items) }
 {
-    let Ok((mut maker, end)) = lane::<Number>(alloc, Snapshot::of(&())) else {
+    let Ok((mut maker, end)) = lane::<LaneNumber>(alloc, Snapshot::of(&())) else {
         return None;
     };
     let Some(jobs) = jobs_of(alloc, &mut maker, lists) else {
@@ -341,7 +348,11 @@ fn each_of_many_lists_comes_in_its_order(rt: HostRuntime) -> Result<(), Fail> {
     let alloc = rt.alloc();
     let mut lists = Vec::new(alloc);
     for start in 0..8u64 {
-        lists.push((100 * start..100 * start + 50).map(Number).collect(alloc)?)?;
+        lists.push(
+            (100 * start..100 * start + 50)
+                .map(LaneNumber)
+                .collect(alloc)?,
+        )?;
     }
     let items = fan_in(&rt, alloc, lists).ok_or("memory")?;
     assert_eq!(rt; items.len(), 400);
@@ -356,16 +367,16 @@ fn each_of_many_lists_comes_in_its_order(rt: HostRuntime) -> Result<(), Fail> {
 
 #[test]
 fn items_come_in_the_order_of_each_sender(rt: HostRuntime) -> Result<(), Fail> {
-    let (mut first, mut taker) = lane::<Number>(rt.alloc(), Snapshot::of(&()))?;
+    let (mut first, mut taker) = lane::<LaneNumber>(rt.alloc(), Snapshot::of(&()))?;
     assert_eq!(rt; first.number(), 0);
-    assert_eq!(rt; first.put(&rt, Number(10))?, 0);
+    assert_eq!(rt; first.put(&rt, LaneNumber(10))?, 0);
     let mut second = first.split()?;
     assert_eq!(rt; second.number(), 1);
-    assert_eq!(rt; second.put(&rt, Number(20))?, 0);
-    assert_eq!(rt; first.put(&rt, Number(30))?, 1);
+    assert_eq!(rt; second.put(&rt, LaneNumber(20))?, 0);
+    assert_eq!(rt; first.put(&rt, LaneNumber(30))?, 1);
     let wanted = [(0, 0, 10), (1, 0, 20), (0, 1, 30)];
     for (sender, seq, number) in wanted {
-        let value = Number(number);
+        let value = LaneNumber(number);
         assert_eq!(rt; taker.take(&rt), Some(Item { sender, seq, value }));
     }
     assert_eq!(rt; taker.take(&rt), None);
@@ -374,9 +385,9 @@ fn items_come_in_the_order_of_each_sender(rt: HostRuntime) -> Result<(), Fail> {
 
 #[test]
 fn ends_are_taken_in_with_what_they_sent(rt: HostRuntime) -> Result<(), Fail> {
-    let (mut first, mut taker) = lane::<Number>(rt.alloc(), Snapshot::of(&()))?;
+    let (mut first, mut taker) = lane::<LaneNumber>(rt.alloc(), Snapshot::of(&()))?;
     let second = first.split()?;
-    first.put(&rt, Number(10))?;
+    first.put(&rt, LaneNumber(10))?;
     taker.take_in(second);
     taker.take_in(first);
     assert_eq!(rt; taker.take(&rt).map(|item| item.value.0), Some(10));

@@ -1,6 +1,6 @@
 //! Commands of 8 processes at one port, by hand on one thread. A port is passed by reference, since what has one by value costs its proof the layout of all of it.
 use crate::opening::{BURST, Crew, SENDERS, data, settle};
-use crate::work::Work;
+use crate::work::BodyWork;
 use anyhow::{Result, ensure};
 use port_body::{Body, Driver};
 use std::alloc::Global;
@@ -14,13 +14,13 @@ pub(crate) fn timed<D: Driver, R: Clock + Wait>(
     alloc: Global,
     body: &mut Body<D>,
     crew: &mut Crew,
-    work: Work,
+    work: BodyWork,
     commands: u32,
 ) -> Result<Duration> {
     match work {
-        Work::Echo => echo_time(rt, alloc, body, crew, commands),
-        Work::Wait => wait_time(rt, alloc, body, crew, commands),
-        Work::Free => free_time(rt, alloc, body, crew, commands),
+        BodyWork::Echo => echo_time(rt, alloc, body, crew, commands),
+        BodyWork::Wait => wait_time(rt, alloc, body, crew, commands),
+        BodyWork::Free => free_time(rt, alloc, body, crew, commands),
     }
 }
 

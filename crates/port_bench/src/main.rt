@@ -17,7 +17,7 @@ mod work;
 
 use crate::loads::{load_of, timed_run};
 use crate::rows::{SCHEDULERS, print_idle, print_rows, print_schedulers, print_works};
-use crate::work::{WORKS, Work};
+use crate::work::{BodyWork, WORKS};
 use anyhow::{Context, Result, bail};
 use std::env;
 use std::rt::Clock;
@@ -85,6 +85,6 @@ fn make<R: Clock + CpuClock + AllocGlobal + Print + Wait + Threads + Sync>(
 }
 
 /// The work on one port that has this name.
-fn work_named(name: &str) -> Option<Work> {
+fn work_named(name: &str) -> Option<BodyWork> {
     WORKS.into_iter().find(|work| work.name() == name)
 }

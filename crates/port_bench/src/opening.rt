@@ -7,7 +7,7 @@ ghost use Rattle.run_lanes.specs.Opened.{CanBegin, CanOpen};
 
 use crate::bodies::timed;
 use crate::peers::Peer;
-use crate::work::Work;
+use crate::work::BodyWork;
 use anyhow::{Result, bail};
 use port_body::{Body, BodyParts, Driver, Turn};
 use port_config::{Config, DEFAULT_HIGH, DEFAULT_LOW};
@@ -128,7 +128,7 @@ fn on_body<D: Driver, R: Clock + Wait>(
     alloc: Global,
     parts: BodyParts<D>,
     crew: &mut Crew,
-    work: Work,
+    work: BodyWork,
     commands: u32,
 ) -> Result<Duration>
     requires fresh { D.stage parts.port.driver ≡ Life.Fresh }
@@ -152,7 +152,7 @@ pub(crate) fn work_on<D: Driver, R: Clock + Wait>(
     alloc: Global,
     driver: D,
     limited: bool,
-    work: Work,
+    work: BodyWork,
     commands: u32,
 ) -> Result<Duration>
     requires { D.stage driver ≡ Life.Fresh }

@@ -1,6 +1,6 @@
 //! The rows that are printed.
 use crate::loads::{Timed, best_run, idle_load, load_of, timed_run};
-use crate::work::{WORKS, Work, time_of};
+use crate::work::{BodyWork, WORKS, time_of};
 use anyhow::Result;
 use std::rt::Clock;
 use std::sync::Wait;
@@ -36,7 +36,7 @@ fn print_time<R: Print>(
 /// Prints the rows of a work with so many commands, and with eight times as many.
 pub(crate) fn print_rows<R: Clock + AllocGlobal + Print + Wait>(
     rt: &R,
-    work: Work,
+    work: BodyWork,
     commands: u32,
 ) -> Result<()> {
     let mut before = None;

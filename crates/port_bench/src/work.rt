@@ -11,7 +11,7 @@ pub(crate) const ROUNDS: u32 = 5;
 
 /// A work on one port, of so many commands.
 #[derive(Clone, Copy, Debug)]
-pub(crate) enum Work {
+pub(crate) enum BodyWork {
     /// They are put and an echo port handles them.
     Echo,
     /// They come to wait for a busy port.
@@ -20,22 +20,22 @@ pub(crate) enum Work {
     Free,
 }
 
-pub(crate) const WORKS: [Work; 3] = [Work::Echo, Work::Wait, Work::Free];
+pub(crate) const WORKS: [BodyWork; 3] = [BodyWork::Echo, BodyWork::Wait, BodyWork::Free];
 
-impl Work {
+impl BodyWork {
     pub(crate) fn name(self) -> &'static str {
         match self {
-            Work::Echo => "body_echo",
-            Work::Wait => "body_waits",
-            Work::Free => "body_freed",
+            BodyWork::Echo => "body_echo",
+            BodyWork::Wait => "body_waits",
+            BodyWork::Free => "body_freed",
         }
     }
 
     /// How many commands it has where nothing is said; it is made with eight times as many too.
     pub(crate) fn commands(self) -> u32 {
         match self {
-            Work::Echo => 16_384,
-            Work::Wait | Work::Free => 25_000,
+            BodyWork::Echo => 16_384,
+            BodyWork::Wait | BodyWork::Free => 25_000,
         }
     }
 
@@ -47,8 +47,15 @@ impl Work {
     ) -> Result<Duration> {
         let alloc = rt.alloc();
         match self {
-            Work::Echo => work_on(rt, alloc, Echo::new(), true, self, commands),
-            Work::Wait | Work::Free => work_on(rt, alloc, Valve::new(), false, self, commands),
+            BodyWork::Echo => work_on(rt, alloc, Echo::new(), true, self, commands),
+            BodyWork::Wait | BodyWork::Free => work_on(
+                rt,
+                alloc,
+                Valve::new(),
+                false,
+                self,
+                commands,
+            ),
         }
     }
 }
@@ -56,7 +63,7 @@ impl Work {
 /// The shortest time of some rounds of a work.
 pub(crate) fn time_of<R: Clock + AllocGlobal + Wait>(
     rt: &R,
-    work: Work,
+    work: BodyWork,
     commands: u32,
 ) -> Result<Duration> {
     let mut best = Duration::MAX;

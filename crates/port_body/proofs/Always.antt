@@ -36,5 +36,6 @@ always_ended old new broken finished faults ended same always =
       body = λ whole. ended_body old ended (always.body whole);
       finished = always.finished;
       faults = always.faults;
+      failed = always.failed;
       life = always.life;
     })

@@ -6,7 +6,7 @@ use Rattle.std.proofs.lemmas.List.{reverse-append}
 use Rattle.port_model.specs.declared.event.Dir.{Dir}
 use Rattle.port_model.specs.declared.event.Dir.TheVariants.{Read, Write}
 use Rattle.port_model.specs.declared.effect.Effect.{Effect}
-use Rattle.port_model.specs.port_signal.declared.row.Outside.{Outside}
+use Rattle.port_model.specs.port_signal.declared.outside.Outside.{Outside}
 use Rattle.port_model.specs.declared.row.Row.{Row}
 use Rattle.port_model.specs.declared.row.Row.TheVariants.{Handled, Late, Listed, Resumed, Mark}
 use Rattle.port_model.specs.declared.signal.Sender.{Sender}

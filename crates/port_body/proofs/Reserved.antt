@@ -65,7 +65,7 @@ reserved_same old new same = same_lane old new
     (ap (λ (v : LanePortView). v.lane) same.rest) (ap (λ (v : LanePortView). v.processes) same.rest) (ap (λ (v : LanePortView). v.workers) same.rest)
   where
     same_room : (v : RecordedView) (room : ℕ) → IsSameRecorded v (record v { room = room })
-    same_room v room = let s = same-refl v in record { opening = s.opening; rows = s.rows; port = s.port; ends = s.ends; seat = s.seat; places = s.places }
+    same_room v room = let s = same-refl v in record { opening = s.opening; rows = s.rows; port = s.port; ends = s.ends; seat = s.seat; places = s.places; failed = s.failed }
 
 came_row : (old new : LanePortView) (room : ℕ) (w : Waiting) (x : Item ParcelView) → w.items ≡ old.waiting.items
     → CameToRow (record old { port = record old.port { room = room }; waiting = w }) new x → CameToRow old new x

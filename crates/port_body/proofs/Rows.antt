@@ -5,7 +5,7 @@ use Rattle.std.specs.List.{list_all}
 use Rattle.std.proofs.lemmas.List.{append_assoc, reverse-append}
 use Rattle.std.proofs.lemmas.List.Sums.{sum_by-cons}
 use Rattle.std.proofs.lemmas.List.Folds.{list_all-append}
-use Rattle.port_model.specs.port_signal.declared.row.MarkKind.{MarkKind}
+use Rattle.port_model.specs.port_signal.declared.mark.MarkKind.{MarkKind}
 use Rattle.port_model.specs.declared.row.Row.{Row}
 use Rattle.port_model.specs.declared.row.Row.TheVariants.{Handled, Late, Listed, Resumed, Mark}
 use Rattle.port_model.specs.declared.signal.Sender.{Sender}

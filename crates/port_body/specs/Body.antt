@@ -2,6 +2,7 @@
 use Rattle.std.specs.Prelude.{◌≡◌, ◌≢◌, ◌≤◌, ℕ, List, Bool, false}
 use Rattle.atomic_table.specs.Seated.{TableId}
 use Rattle.task_queue.specs.Ends.{LaneId}
+use Rattle.port_driver.specs.Faults.{failures_in, RisenBy}
 use Rattle.port_driver.specs.declared.life.Life.TheVariants.{Fresh}
 use Rattle.port_events.specs.port_history.Opening.{Opening}
 use Rattle.port_lanes.specs.Keys.{Key}
@@ -53,9 +54,10 @@ name_of v = record {
 }
 
 -- Of a body that isn't broken all holds that a step keeps, and it has finished exactly where nothing is wanting at the end of its history. Of each its driver's
--- faults didn't fall, and its driver was started
+-- faults didn't fall, and rose by the failures that the rows tell, and its driver was started
 pub record AlwaysHolds (v : BodyView) : Type 0 where
   pub body : v.broken ≡ false → IsBody v.lane_port
   pub finished : v.broken ≡ false → v.finished ≡ is_finished (state_of v.lane_port.port)
   pub faults : v.first_faults ≤ v.lane_port.port.port.state.service.faults
+  pub failed : RisenBy (failures_in v.lane_port.port.rows) v.first_faults v.lane_port.port.port.state.service.faults
   pub life : v.lane_port.port.port.state.service.stage ≢ Fresh

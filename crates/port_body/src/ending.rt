@@ -1,6 +1,7 @@
 //! How a body takes in an end of its lane, and how it comes to its end.
 ghost use Rattle.std.specs.Prelude.{◌≡◌, ◌≤◌, ◌∷◌, ◌++◌, [], false, reverse};
 ghost use Rattle.task_queue.specs.Ends.{ended_of};
+ghost use Rattle.port_driver.specs.Faults.{failures_in, RisenBy};
 ghost use Rattle.port_driver.specs.declared.life.Life.TheVariants.{Stopped};
 ghost use Rattle.recorded_port.specs.View.{is_finished, state_of};
 ghost use Rattle.port_body.specs.Body.{name_of};
@@ -58,6 +59,7 @@ impl<D: Driver> Body<D> {
         ensures program { D.program result.port.driver ≡ self.lane_port.port.port.state.service.program }
         ensures faults { D.faults result.port.driver ≡ self.lane_port.port.port.state.service.faults }
         ensures rises { self.first_faults ≤ D.faults result.port.driver }
+        ensures failed { RisenBy (failures_in result.port.journal.rows) self.first_faults (D.faults result.port.driver) }
         ensures stands { self.broken ≡ false → IsLeftByCalls self.lane_port.port.opening (reverse self.lane_port.port.rows) (D.own result.port.driver) (D.program result.port.driver) }
         ensures whole { self.broken ≡ false → IsWholeEnd self result.port.journal.rows result.port.outlets result.lane }
     {

@@ -6,3 +6,4 @@ pub mod Lent
 pub mod Replies
 pub mod Starting
 pub mod Driven
+pub mod Faults

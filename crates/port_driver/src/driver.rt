@@ -4,6 +4,7 @@ ghost use Rattle.driver_model.specs.Calls.{Kind, Own, Outputv, Control, Call, Re
 ghost use Rattle.driver_model.specs.Drivers.{is_soft, kind_name, read_event_of, refusal_of, write_event_of};
 ghost use Rattle.driver_model.specs.Programs.{ToldProgram};
 ghost use Rattle.port_driver.specs.Driven.{Did, Began, Ended, Keeps, KeepsRoom, MayCall};
+ghost use Rattle.port_driver.specs.Faults.{CountsFailures};
 ghost use Rattle.port_driver.specs.Replies.{reply_effect};
 ghost use Rattle.port_driver.specs.Starting.{Refuses};
 
@@ -15,7 +16,7 @@ use std::alloc::Global;
 /// `outputv`.
 ///
 /// A callback that finds no memory may have changed what the driver holds, its program and its context; its kind and its stage stay,
-/// and its count of faults doesn't fall.
+/// and its count of faults doesn't fall. One that answers has counted a fault for each failure that it recorded.
 pub trait Driver: Drop {
     ghost use Rattle.port_driver.specs.declared.life.Life.{Life};
 
@@ -83,6 +84,7 @@ pub trait Driver: Drop {
     ) -> Result<(), NoMemory>
         requires called { MayCall (stage self.old) ctx.old }
         ensures kept { Keeps (kind self.old) (kind self.new) (faults self.old) (faults self.new) (stage self.new) ctx.old ctx.new }
+        ensures counted { OnOk result (CountsFailures ctx.old.outside ctx.new.outside (faults self.old) (faults self.new)) }
         ensures did { OnOk result (Did (kind self.old) (Outputv (concat payload.now)) (own self.old) (own self.new) (program self.old) (program self.new) ctx.old ctx.new []) };
 
     /// Makes an operation on some bytes, and answers: `control` of driver_entry.
@@ -95,6 +97,7 @@ pub trait Driver: Drop {
     ) -> Result<ReplyTo, NoMemory>
         requires called { MayCall (stage self.old) ctx.old }
         ensures kept { Keeps (kind self.old) (kind self.new) (faults self.old) (faults self.new) (stage self.new) ctx.old ctx.new }
+        ensures counted { OnOk result (CountsFailures ctx.old.outside ctx.new.outside (faults self.old) (faults self.new)) }
         ensures did { IfOk result (λ answer. Did (kind self.old) (Control op bytes.now) (own self.old) (own self.new) (program self.old) (program self.new) ctx.old ctx.new (reply_effect answer ∷ [])) };
 
     /// Makes an operation on the external form of a term, and answers with one: `call` of driver_entry.
@@ -107,6 +110,7 @@ pub trait Driver: Drop {
     ) -> Result<ReplyTo, NoMemory>
         requires called { MayCall (stage self.old) ctx.old }
         ensures kept { Keeps (kind self.old) (kind self.new) (faults self.old) (faults self.new) (stage self.new) ctx.old ctx.new }
+        ensures counted { OnOk result (CountsFailures ctx.old.outside ctx.new.outside (faults self.old) (faults self.new)) }
         ensures did { IfOk result (λ answer. Did (kind self.old) (Call op bytes.now) (own self.old) (own self.new) (program self.old) (program self.new) ctx.old ctx.new (reply_effect answer ∷ [])) };
 
     /// Is told that there is something to read: `ready_input` of driver_entry.
@@ -118,6 +122,7 @@ pub trait Driver: Drop {
     ) -> Result<(), NoMemory>
         requires called { MayCall (stage self.old) ctx.old }
         ensures kept { Keeps (kind self.old) (kind self.new) (faults self.old) (faults self.new) (stage self.new) ctx.old ctx.new }
+        ensures counted { OnOk result (CountsFailures ctx.old.outside ctx.new.outside (faults self.old) (faults self.new)) }
         ensures did { OnOk result (Did (kind self.old) (ReadyInput event) (own self.old) (own self.new) (program self.old) (program self.new) ctx.old ctx.new []) };
 
     /// Is told that there is room to write: `ready_output` of driver_entry.
@@ -129,6 +134,7 @@ pub trait Driver: Drop {
     ) -> Result<(), NoMemory>
         requires called { MayCall (stage self.old) ctx.old }
         ensures kept { Keeps (kind self.old) (kind self.new) (faults self.old) (faults self.new) (stage self.new) ctx.old ctx.new }
+        ensures counted { OnOk result (CountsFailures ctx.old.outside ctx.new.outside (faults self.old) (faults self.new)) }
         ensures did { OnOk result (Did (kind self.old) (ReadyOutput event) (own self.old) (own self.new) (program self.old) (program self.new) ctx.old ctx.new []) };
 
     /// Is told that its job of this number was done, with this output: `ready_async` of driver_entry.
@@ -141,6 +147,7 @@ pub trait Driver: Drop {
     ) -> Result<(), NoMemory>
         requires called { MayCall (stage self.old) ctx.old }
         ensures kept { Keeps (kind self.old) (kind self.new) (faults self.old) (faults self.new) (stage self.new) ctx.old ctx.new }
+        ensures counted { OnOk result (CountsFailures ctx.old.outside ctx.new.outside (faults self.old) (faults self.new)) }
         ensures did { OnOk result (Did (kind self.old) (ReadyAsync number output.now) (own self.old) (own self.new) (program self.old) (program self.new) ctx.old ctx.new []) };
 
     /// Is told of the end of a process that it watches: `process_exit` of driver_entry.
@@ -152,12 +159,14 @@ pub trait Driver: Drop {
     ) -> Result<(), NoMemory>
         requires called { MayCall (stage self.old) ctx.old }
         ensures kept { Keeps (kind self.old) (kind self.new) (faults self.old) (faults self.new) (stage self.new) ctx.old ctx.new }
+        ensures counted { OnOk result (CountsFailures ctx.old.outside ctx.new.outside (faults self.old) (faults self.new)) }
         ensures did { OnOk result (Did (kind self.old) (ProcessExit process) (own self.old) (own self.new) (program self.old) (program self.new) ctx.old ctx.new []) };
 
     /// Sends or puts away what is queued, as its port closes: `flush` of driver_entry.
     fn flush(&mut self, alloc: Global, ctx: &mut DriverCtx) -> Result<(), NoMemory>
         requires called { MayCall (stage self.old) ctx.old }
         ensures kept { Keeps (kind self.old) (kind self.new) (faults self.old) (faults self.new) (stage self.new) ctx.old ctx.new }
+        ensures counted { OnOk result (CountsFailures ctx.old.outside ctx.new.outside (faults self.old) (faults self.new)) }
         ensures did { OnOk result (Did (kind self.old) Flush (own self.old) (own self.new) (program self.old) (program self.new) ctx.old ctx.new []) };
 
     /// Is told that an event that it gave up is waited for no more: `stop_select` of driver_entry.

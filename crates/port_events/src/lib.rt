@@ -20,5 +20,5 @@ pub use no_memory::NoMemory;
 pub use port_events::PortEvents;
 pub use port_model::{Dir, Effect, Signal};
 pub use ready_select::PollAsk;
-pub use rows::Ending;
+pub use rows::AfterTask;
 pub use task_queue::SendEnd;

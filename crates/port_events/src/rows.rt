@@ -12,7 +12,7 @@ use std::sync::Wait;
 
 /// Whether the port is closed once a task was handled, and whether its driver is stopped in the task's row.
 #[derive(Clone, Copy, Debug, PartialEq, Eq)]
-pub struct Ending {
+pub struct AfterTask {
     pub closed: bool,
     pub stops: bool,
 }
@@ -109,7 +109,7 @@ impl PortEvents {
         alloc: Global,
         signal: &Signal,
         effects: &[Effect],
-        ending: Ending,
+        ending: AfterTask,
     ) -> Result<Vec<u32>, EventFault>
         ensures events { OnOk result ((events : List Event) → Agrees self.old.selector events
             → Agrees self.new.selector (events_after signal.now effects.now ending.closed ending.stops events)) }

@@ -2,8 +2,8 @@
 use Rattle.std.specs.Prelude.{ℕ, ◌==◌, List, [], ◌∷◌, ◌++◌, Bool, true, false, ◌&&◌, not, if◌then◌else◌, Option, Some, None, is_some, map, filter, codes}
 use Rattle.std.specs.List.{flat_map}
 use Rattle.driver_model.specs.port_signal.declared.monitor.Monitor.{Monitor as MonitorEntry}
-use Rattle.driver_model.specs.port_signal.declared.mail.Answer.{Answer}
-use Rattle.driver_model.specs.port_signal.declared.mail.Answer.TheVariants.{Bytes, True, Badarg}
+use Rattle.driver_model.specs.port_signal.declared.answer.Answer.{Answer}
+use Rattle.driver_model.specs.port_signal.declared.answer.Answer.TheVariants.{Bytes, True, Badarg}
 use Rattle.driver_model.specs.port_signal.Links.{has}
 use Rattle.driver_model.specs.port_signal.Reasons.{told_reason}
 use Rattle.driver_model.specs.port_model.declared.signal.Sender.{Sender}

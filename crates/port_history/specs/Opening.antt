@@ -1,7 +1,7 @@
 -- What a history begins with, and what a row tells of a task.
 use Rattle.std.specs.Prelude.{ℕ, List, [], ◌==◌, Bool, true, false}
 use Rattle.driver_model.specs.port_config.declared.config.Config.{Config}
-use Rattle.driver_model.specs.port_signal.declared.row.Outside.{Outside}
+use Rattle.driver_model.specs.port_signal.declared.outside.Outside.{Outside}
 use Rattle.driver_model.specs.port_model.declared.signal.Sender.{Sender}
 use Rattle.driver_model.specs.port_model.declared.signal.Sender.TheVariants.{Process, Poller, Worker, Timer}
 use Rattle.driver_model.specs.port_model.declared.effect.Effect.{Effect}

@@ -1,6 +1,6 @@
 -- What a history tells of its port: the state of the port after its rows.
 use Rattle.std.specs.Prelude.{ℕ, List, [], ◌∷◌, ◌++◌, drop, map, Bool, true, false, ◌&&◌, ◌||◌, not, Option, Some, None, is_some, if◌then◌else◌}
-use Rattle.driver_model.specs.port_signal.declared.row.MarkKind.{MarkKind}
+use Rattle.driver_model.specs.port_signal.declared.mark.MarkKind.{MarkKind}
 use Rattle.driver_model.specs.port_model.declared.signal.Sender.{Sender}
 use Rattle.driver_model.specs.port_model.declared.signal.Sender.TheVariants.{Process}
 use Rattle.driver_model.specs.port_model.declared.signal.Signal.{Signal}

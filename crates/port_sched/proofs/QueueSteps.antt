@@ -5,7 +5,7 @@ use Rattle.std.specs.List.{sum_by}
 use Rattle.std.proofs.lemmas.List.Sums.{sum_by-cons, sum_by-append}
 use Rattle.std.proofs.lemmas.Option.{get_or_from_slice_get, slice_get_within, same_Some, none-some}
 use Rattle.port_words.specs.declared.home.homes.Ticket.{Ticket}
-use Rattle.run_queue.specs.declared.account.Hand.{Hand}
+use Rattle.run_queue.specs.declared.account.QueueHand.{QueueHand}
 use Rattle.run_queue.specs.Account.{after_put, after_take, parts_of, put_weight, taken_weight}
 use Rattle.run_queue.specs.Seats.{DequeKnown, RunKnown, changed_first, changed_at, hands_of, took_own, stole, took_entry, KeepsShape, KeepsEnds, IsDequeEnd, put_by_owner, Took}
 use Rattle.run_queue.proofs.SeatLemmas.{at_set, keeps, all_to_get}
@@ -36,17 +36,17 @@ module _ {A : Type 0} where
   first_length g [] = refl
   first_length g (x ∷ xs) = refl
 
-some_map : (h : Hand → Hand) (own : Option Hand) → IsSome own → IsSome (option_map h own)
+some_map : (h : QueueHand → QueueHand) (own : Option QueueHand) → IsSome own → IsSome (option_map h own)
 some_map h None some = absurd (true≢false (sym some))
 some_map h (Some v) some = some
 
 -- the owner's hand changes, or that of the first pass
-own_changed : (f : Hand → ℕ) (h : Hand → Hand) (a : ℕ) → ((v : Hand) → f (h v) ≡ f v + a) → (own : Option Hand) (guests : List Hand) → IsSome own
+own_changed : (f : QueueHand → ℕ) (h : QueueHand → QueueHand) (a : ℕ) → ((v : QueueHand) → f (h v) ≡ f v + a) → (own : Option QueueHand) (guests : List QueueHand) → IsSome own
     → sum_by f (option_to_list (option_map h own) ++ guests) ≡ sum_by f (option_to_list own ++ guests) + a
 own_changed f h a each None guests some = absurd (true≢false (sym some))
 own_changed f h a each (Some v) guests some = let one = each v in omega (arith, sum_by-cons f v guests, sum_by-cons f (h v) guests)
 
-guest_changed : (f : Hand → ℕ) (h : Hand → Hand) (a : ℕ) → ((v : Hand) → f (h v) ≡ f v + a) → (own : Option Hand) (guests : List Hand) → 0 < length guests
+guest_changed : (f : QueueHand → ℕ) (h : QueueHand → QueueHand) (a : ℕ) → ((v : QueueHand) → f (h v) ≡ f v + a) → (own : Option QueueHand) (guests : List QueueHand) → 0 < length guests
     → sum_by f (option_to_list own ++ changed_first h guests) ≡ sum_by f (option_to_list own ++ guests) + a
 guest_changed f h a each own [] has = absurd (omega arith)
 guest_changed f h a each own (v ∷ vs) has =
@@ -54,16 +54,16 @@ guest_changed f h a each own (v ∷ vs) has =
     omega (arith, sum_by-append f (option_to_list own) (h v ∷ vs), sum_by-append f (option_to_list own) (v ∷ vs), sum_by-cons f v vs, sum_by-cons f (h v) vs)
 
 -- the owner stays where it is, and each hand has the parts that it had
-same_owner : (h : Hand → Hand) (own : Option Hand) → is_some (option_map h own) ≡ is_some own
+same_owner : (h : QueueHand → QueueHand) (own : Option QueueHand) → is_some (option_map h own) ≡ is_some own
 same_owner h None = refl
 same_owner h (Some v) = refl
 
-own_parts : (h : Hand → Hand) → ((v : Hand) → parts_of (h v) ≡ parts_of v) → (own : Option Hand) (guests : List Hand)
+own_parts : (h : QueueHand → QueueHand) → ((v : QueueHand) → parts_of (h v) ≡ parts_of v) → (own : Option QueueHand) (guests : List QueueHand)
     → sum_by parts_of (option_to_list (option_map h own) ++ guests) ≡ sum_by parts_of (option_to_list own ++ guests)
 own_parts h each None guests = refl
 own_parts h each (Some v) guests = let one = each v in omega (arith, sum_by-cons parts_of v guests, sum_by-cons parts_of (h v) guests)
 
-guest_parts : (h : Hand → Hand) → ((v : Hand) → parts_of (h v) ≡ parts_of v) → (own : Option Hand) (guests : List Hand)
+guest_parts : (h : QueueHand → QueueHand) → ((v : QueueHand) → parts_of (h v) ≡ parts_of v) → (own : Option QueueHand) (guests : List QueueHand)
     → sum_by parts_of (option_to_list own ++ changed_first h guests) ≡ sum_by parts_of (option_to_list own ++ guests)
 guest_parts h each own [] = refl
 guest_parts h each own (v ∷ vs) =
@@ -71,16 +71,16 @@ guest_parts h each own (v ∷ vs) =
     omega (arith, sum_by-append parts_of (option_to_list own) (h v ∷ vs), sum_by-append parts_of (option_to_list own) (v ∷ vs), sum_by-cons parts_of v vs, sum_by-cons parts_of (h v) vs)
 
 -- what a put and a take add to a hand
-put_more : (weight : Ticket → ℕ) (t : Ticket) (v : Hand) → put_weight weight (after_put (t ∷ []) v) ≡ put_weight weight v + sum_by weight (t ∷ [])
+put_more : (weight : Ticket → ℕ) (t : Ticket) (v : QueueHand) → put_weight weight (after_put (t ∷ []) v) ≡ put_weight weight v + sum_by weight (t ∷ [])
 put_more weight t v = sum_by-append weight v.put (t ∷ [])
 
-put_same : (weight : Ticket → ℕ) (t : Ticket) (v : Hand) → put_weight weight (after_take (t ∷ []) v) ≡ put_weight weight v + sum_by weight []
+put_same : (weight : Ticket → ℕ) (t : Ticket) (v : QueueHand) → put_weight weight (after_take (t ∷ []) v) ≡ put_weight weight v + sum_by weight []
 put_same weight t v = omega arith
 
-taken_more : (weight : Ticket → ℕ) (t : Ticket) (v : Hand) → taken_weight weight (after_take (t ∷ []) v) ≡ taken_weight weight v + sum_by weight (t ∷ [])
+taken_more : (weight : Ticket → ℕ) (t : Ticket) (v : QueueHand) → taken_weight weight (after_take (t ∷ []) v) ≡ taken_weight weight v + sum_by weight (t ∷ [])
 taken_more weight t v = sum_by-append weight v.taken (t ∷ [])
 
-taken_same : (weight : Ticket → ℕ) (t : Ticket) (v : Hand) → taken_weight weight (after_put (t ∷ []) v) ≡ taken_weight weight v + sum_by weight []
+taken_same : (weight : Ticket → ℕ) (t : Ticket) (v : QueueHand) → taken_weight weight (after_put (t ∷ []) v) ≡ taken_weight weight v + sum_by weight []
 taken_same weight t v = omega arith
 
 keeps_changed : (xs : List DequeKnown) (n : ℕ) (f : DequeKnown → DequeKnown) (x : DequeKnown) → slice_get xs n ≡ Some x → KeepsShape x (f x) → KeepsEnds xs (changed_at f n xs)
@@ -94,7 +94,7 @@ own_deque : (s : RunKnown) → IsQueueSeat s → (k : DequeKnown) × (slice_get 
 own_deque s is = let k = found s.deques s.number is.0.0 in (k.0, k.1, is.0.1 k.0 k.1)
 
 -- one of the deques changes as its owner's hand does
-own_step : (h : Hand → Hand) (s : RunKnown) → ((v : Hand) → parts_of (h v) ≡ parts_of v)
+own_step : (h : QueueHand → QueueHand) (s : RunKnown) → ((v : QueueHand) → parts_of (h v) ≡ parts_of v)
     → IsSameSeat s (record s { deques = changed_at (λ (k : DequeKnown). record k { own = option_map h k.own }) s.number s.deques })
 own_step h s each =
     let F : DequeKnown → DequeKnown = λ k. record k { own = option_map h k.own } in
@@ -112,7 +112,7 @@ own_step h s each =
           (kept.owns s.number is.0, kept.ends s.seats is.1);
     }
 
-own_sum : (f : Hand → ℕ) (h : Hand → Hand) (a : ℕ) (s : RunKnown) → ((v : Hand) → f (h v) ≡ f v + a) → IsQueueSeat s
+own_sum : (f : QueueHand → ℕ) (h : QueueHand → QueueHand) (a : ℕ) (s : RunKnown) → ((v : QueueHand) → f (h v) ≡ f v + a) → IsQueueSeat s
     → sum_by (λ k. sum_by f (hands_of k)) (changed_at (λ (k : DequeKnown). record k { own = option_map h k.own }) s.number s.deques) ≡ sum_by (λ k. sum_by f (hands_of k)) s.deques + a
 own_sum f h a s each is =
     let mine = own_deque s is in

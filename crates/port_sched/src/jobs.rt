@@ -9,7 +9,7 @@ use std::thread;
 use std::thread::Threads;
 
 /// What runs beside the schedulers: a process, the poller, a worker or the timers. A run that has several kinds of them makes an enum of them.
-pub trait Job {
+pub trait ThreadJob {
     // What a job needs, and what a run of it does.
     ghost can_run: { Self → Type 0 };
 
@@ -22,7 +22,7 @@ pub trait Job {
 }
 
 // Runs all jobs at the same time once they have met, and returns once all have ended.
-pub(crate) fn run_jobs<K: Job + Send, R: Threads + Wait + Sync>(
+pub(crate) fn run_jobs<K: ThreadJob + Send, R: Threads + Wait + Sync>(
     rt: &R,
     meeting: &Meeting,
     jobs: &mut [K],

@@ -21,7 +21,7 @@ pub use body::{PortBody, Turn};
 pub use closing::{close_homes, join_homes};
 pub use counts::TurnCounts;
 pub use idle::Idle;
-pub use jobs::Job;
+pub use jobs::ThreadJob;
 pub use lodger::Lodger;
 pub use no_memory::NoMemory;
 pub use schedulers::{Scheduler, run};

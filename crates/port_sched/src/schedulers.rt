@@ -6,7 +6,7 @@ ghost use Rattle.port_sched.specs.Schedulers.{CanSchedule, Scheduled, CanBegin, 
 
 use crate::body::PortBody;
 use crate::counts::TurnCounts;
-use crate::jobs::{Job, run_jobs};
+use crate::jobs::{ThreadJob, run_jobs};
 use crate::meeting::Meeting;
 use crate::scheduling::{SchedEnd, SchedSeats, counted_scheduler};
 use outside::Gate;
@@ -86,7 +86,7 @@ fn run_schedulers<B: PortBody + Send, G: Gate + Sync, R: Threads + Wait + Sync>(
 ///
 /// All begin once each has a thread of its own. Where they don't within ten seconds, since a thread can't be made, the schedulers stop the run without a turn, and each
 /// other job is run all the same: it finds the run stopped.
-pub fn run<B: PortBody + Send, G: Gate + Sync, K: Job + Send, R: Threads + Wait + Sync>(
+pub fn run<B: PortBody + Send, G: Gate + Sync, K: ThreadJob + Send, R: Threads + Wait + Sync>(
     rt: &R,
     gate: &G,
     schedulers: &mut [Scheduler<B>],

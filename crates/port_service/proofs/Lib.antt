@@ -3,3 +3,4 @@ pub mod Calls
 pub mod Rows
 pub mod Watched
 pub mod Begun
+pub mod Counted

@@ -3,7 +3,7 @@ use Rattle.std.proofs.Common.{◌≡◌, ℕ, ◌+◌, List, [], ◌∷◌, Opti
 use Rattle.std.specs.Prelude.{IfSome}
 use Rattle.std.proofs.lemmas.List.Sums.{sum_by-cons}
 use Rattle.port_driver.specs.port_config.declared.config.Config.{Config}
-use Rattle.port_model.specs.port_signal.declared.row.Outside.{Outside}
+use Rattle.port_model.specs.port_signal.declared.outside.Outside.{Outside}
 use Rattle.port_model.specs.declared.effect.Effect.{Effect}
 use Rattle.port_driver.specs.driver_model.Calls.{Callback, DriverCall, call_of, cut_of, Own, Counted, Kind, Echo, Tally, Valve, Store, Digest, Spawn, Refuse1, Refuse2, Refuse3}
 use Rattle.port_driver.specs.driver_model.Tally.{commands, command_bytes, command_count, command_length}

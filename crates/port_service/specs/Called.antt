@@ -1,6 +1,6 @@
 -- What the callback of a signal left.
 use Rattle.std.specs.Prelude.{◌≡◌, ◌≤◌, ℕ, List, [], ◌∷◌, ◌++◌, length, true, Option, Some, None}
-use Rattle.port_model.specs.port_signal.declared.row.Outside.{Outside}
+use Rattle.port_model.specs.port_signal.declared.outside.Outside.{Outside}
 use Rattle.port_model.specs.declared.effect.Effect.{Effect}
 use Rattle.port_driver.specs.driver_model.Calls.{Callback, DriverCall, call_of, Own, Kind}
 use Rattle.port_driver.specs.driver_model.Programs.{ToldProgram}

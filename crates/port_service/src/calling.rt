@@ -2,6 +2,7 @@
 ghost use Rattle.std.specs.Prelude.{Some, None, OnOk, if◌then◌else◌};
 ghost use Rattle.std.specs.List.{concat};
 ghost use Rattle.port_driver.specs.driver_model.Calls.{Outputv, ProcessExit};
+ghost use Rattle.port_driver.specs.Faults.{CountsFailures};
 ghost use Rattle.port_service.specs.Callbacks.{callback_by};
 ghost use Rattle.port_service.specs.Called.{Called, IsUncalled, KeepsFew};
 
@@ -19,6 +20,7 @@ fn call_outputv<D: Driver>(
 ) -> Result<(), NoMemory>
     requires fresh { IsUncalled (D.stage driver.old) ctx.old }
     ensures kept { KeepsFew (D.kind driver.old) (D.kind driver.new) (D.faults driver.old) (D.faults driver.new) (D.stage driver.new) ctx.old ctx.new }
+    ensures counted { OnOk result (CountsFailures ctx.old.outside ctx.new.outside (D.faults driver.old) (D.faults driver.new)) }
     ensures called { OnOk result (Called (D.kind driver.old) (if owns then Some (Outputv (concat payload.now)) else None) (D.own driver.old) (D.own driver.new) (D.program driver.old) (D.program driver.new) ctx.old ctx.new) }
 {
     if !owns {
@@ -36,6 +38,7 @@ fn call_process_exit<D: Driver>(
 ) -> Result<(), NoMemory>
     requires fresh { IsUncalled (D.stage driver.old) ctx.old }
     ensures kept { KeepsFew (D.kind driver.old) (D.kind driver.new) (D.faults driver.old) (D.faults driver.new) (D.stage driver.new) ctx.old ctx.new }
+    ensures counted { OnOk result (CountsFailures ctx.old.outside ctx.new.outside (D.faults driver.old) (D.faults driver.new)) }
     ensures called { OnOk result (Called (D.kind driver.old) (if watched then Some (ProcessExit ctx.old.caller) else None) (D.own driver.old) (D.own driver.new) (D.program driver.old) (D.program driver.new) ctx.old ctx.new) }
 {
     if !watched {
@@ -56,6 +59,7 @@ pub(crate) fn call_driver<D: Driver>(
 ) -> Result<(), NoMemory>
     requires fresh { IsUncalled (D.stage driver.old) ctx.old }
     ensures kept { KeepsFew (D.kind driver.old) (D.kind driver.new) (D.faults driver.old) (D.faults driver.new) (D.stage driver.new) ctx.old ctx.new }
+    ensures counted { OnOk result (CountsFailures ctx.old.outside ctx.new.outside (D.faults driver.old) (D.faults driver.new)) }
     ensures called { OnOk result (Called (D.kind driver.old) (callback_by owns watched ctx.old.caller signal.now) (D.own driver.old) (D.own driver.new) (D.program driver.old) (D.program driver.new) ctx.old ctx.new) }
 {
     match signal {

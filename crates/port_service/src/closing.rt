@@ -2,6 +2,7 @@
 ghost use Rattle.std.specs.Prelude.{◌≡◌, ◌≤◌, ◌+◌, true, false, length, OnOk, if◌then◌else◌};
 ghost use Rattle.port_driver.specs.driver_model.Calls.{is_empty};
 ghost use Rattle.port_driver.specs.Driven.{Keeps, MayCall};
+ghost use Rattle.port_driver.specs.Faults.{CountsFailures};
 ghost use Rattle.port_history.specs.Ties.{failure};
 ghost use Rattle.port_service.specs.Closing.{ends_driver, is_flushed, Flushed, Halted};
 
@@ -40,6 +41,7 @@ pub(crate) fn flush_queued<D: Driver>(
 ) -> Result<(), NoMemory>
     requires called { MayCall (D.stage driver.old) ctx.old }
     ensures kept { Keeps (D.kind driver.old) (D.kind driver.new) (D.faults driver.old) (D.faults driver.new) (D.stage driver.new) ctx.old ctx.new }
+    ensures counted { OnOk result (CountsFailures ctx.old.outside ctx.new.outside (D.faults driver.old) (D.faults driver.new)) }
     ensures flushed { OnOk result (Flushed (D.kind driver.old) reason.now (D.own driver.old) (D.own driver.new) (D.program driver.old) (D.program driver.new) ctx.old ctx.new) }
 {
     if !is_flushed(ctx, reason) {

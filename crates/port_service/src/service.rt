@@ -1,6 +1,7 @@
 ghost use Rattle.std.specs.Prelude.{◌≡◌, ◌≢◌, ◌==◌, ◌≤◌, ◌+◌, ◌⊎◌, ℕ, List, [], ◌++◌, true, false, None, length, replicate, if◌then◌else◌, is_some, IfOk, IfErr, OnOk, OnErr};
 ghost use Rattle.std.specs.List.{concat};
 ghost use Rattle.port_driver.specs.Driven.{Stands};
+ghost use Rattle.port_driver.specs.Faults.{failures, RisenBy};
 ghost use Rattle.port_history.specs.Opening.{Opening, taken_of};
 ghost use Rattle.port_history.specs.Service.{first_reason};
 ghost use Rattle.port_history.specs.Ties.{failure, signal_reason, watched_by};
@@ -156,6 +157,7 @@ impl<D: Driver> Service<D> {
         requires held { length held.now ≤ 64 }
         ensures kind { self.new.kind ≡ self.old.kind }
         ensures faults { self.old.faults ≤ self.new.faults }
+        ensures failed { IfOk result (λ made. RisenBy (failures made.outside) self.old.faults self.new.faults) }
         ensures stage { IfOk result (λ made. self.new.stage ≡ (if made.stops then Life.Stopped else Life.Started)) }
         ensures err { OnErr result (self.new.stage ≡ Life.Started) }
         ensures flags { length self.new.watched ≡ length self.old.watched }

@@ -1,8 +1,6 @@
 -- The processes that are linked to a port, and the monitors of it, as lists in rising order, each once.
-use Rattle.std.specs.Prelude.{◌==◌, ℕ, List, [], ◌∷◌, ◌++◌, Bool, false, not, ◌&&◌, ◌||◌, if◌then◌else◌, nat_lt, map, filter}
+use Rattle.std.specs.Prelude.{◌==◌, ℕ, List, [], ◌∷◌, ◌++◌, Bool, false, not, ◌&&◌, ◌||◌, if◌then◌else◌, nat_lt, filter}
 use Rattle.port_signal.specs.declared.monitor.Monitor.{Monitor}
-use Rattle.port_signal.specs.declared.mail.Post.{Post}
-use Rattle.port_signal.specs.declared.mail.Mail.TheVariants.{Exit, Down}
 use Rattle.port_signal.specs.Reasons.{is_normal}
 
 -- the process is among these
@@ -45,18 +43,6 @@ without_monitor m others = filter (λ other. not (is_same m other)) others
 -- without the monitors of a process
 abbrev pub without_watcher : ℕ → List Monitor → List Monitor
 without_watcher process others = filter (λ other. not (other.process == process)) others
-
--- an exit signal of the port of this number
-abbrev pub exit_post : ℕ → List ℕ → ℕ → Post
-exit_post port reason process = record { to = process; mail = Exit port reason }
-
--- what a monitor of the port is told
-abbrev pub down_post : ℕ → List ℕ → Monitor → Post
-down_post port reason m = record { to = m.process; mail = Down port m.number reason }
-
--- what the end of a port sends: exit signals to the linked processes, and then what the monitors are told, each in rising order
-abbrev pub end_posts : ℕ → List ℕ → List ℕ → List Monitor → List Post
-end_posts port reason linked monitors = map (exit_post port reason) linked ++ map (down_post port reason) monitors
 
 -- an exit signal closes the port where its reason is a failure, or where the owner sends it
 abbrev pub exit_closes : ℕ → ℕ → List ℕ → Bool

@@ -1,26 +1,25 @@
-//! What travels between processes and ports: signals and tasks, the rows of a port's history, mail, and the reasons for
-//! which things end. With them stand the definitions on a history that need no driver: whose tasks have a row, in which
-//! order, which marks were made, and which word STAT they give.
+//! What the signals, rows and mail of ports are made of: names and the reasons for which things end, what a port answers, the marks
+//! that its STAT word shows, what the outside answers, monitors, and lists.
 //!
 //! It has no behaviour of its own: who handles a signal, and what that does, is the work of the crates above.
 #![tactic(auto)]
 
+mod answer;
 mod items;
-mod mail;
+mod mark;
 mod meanings;
 mod monitor;
 mod name;
-mod row;
-mod signal;
+mod outside;
 mod spelling;
 
+pub use answer::Answer;
 pub use io_vector::{Flag, IoVec, Piece};
 pub use items::{Items, Log, MAX_ITEMS};
-pub use mail::{Answer, Mail, Mails, Post};
+pub use mark::MarkKind;
 pub use monitor::Monitor;
 pub use name::{MAX_NAME, Reason, ReasonFault};
 pub use no_memory::NoMemory;
-pub use row::{Effect, Journal, MarkKind, Outside, Row, Rows};
-pub use signal::{Sender, Signal, Task};
+pub use outside::Outside;
 pub use spelling::reason;
 pub use task_queue::Fits;

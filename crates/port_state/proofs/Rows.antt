@@ -2,8 +2,8 @@
 use Rattle.std.proofs.Common.{◌≡◌, ℕ, List, [], ◌∷◌, ◌++◌, length, Bool, true, false, ◌&&◌, ◌||◌, Option, Some, None, is_some, refl, sym, ap, ◌∙◌, subst}
 use Rattle.std.specs.Prelude.{◌<◌, not, if◌then◌else◌, IsSomeAnd}
 use Rattle.port_model.specs.port_signal.Reasons.{is_kill}
-use Rattle.port_model.specs.port_signal.declared.row.MarkKind.{MarkKind}
-use Rattle.port_model.specs.port_signal.declared.row.MarkKind.TheVariants.{Closed}
+use Rattle.port_model.specs.port_signal.declared.mark.MarkKind.{MarkKind}
+use Rattle.port_model.specs.port_signal.declared.mark.MarkKind.TheVariants.{Closed}
 use Rattle.port_driver.specs.driver_model.Calls.{DriverCall}
 use Rattle.port_driver.specs.driver_model.Drivers.{held_events}
 use Rattle.port_driver.specs.driver_model.Same.{same_effects}

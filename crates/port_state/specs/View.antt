@@ -1,8 +1,8 @@
 -- The state of a port, as contracts see it, and what it says of a history.
 use Rattle.std.specs.Prelude.{◌≡◌, ℕ, List, [], ◌∷◌, ◌++◌, length, Bool, true, false, Option, Some, None, IfSome, is_some, ◌&&◌, ◌||◌, not, if◌then◌else◌}
 use Rattle.port_model.specs.port_signal.Reasons.{is_kill}
-use Rattle.port_model.specs.port_signal.declared.row.MarkKind.{MarkKind}
-use Rattle.port_model.specs.port_signal.declared.row.MarkKind.TheVariants.{Busy, Free, Closed}
+use Rattle.port_model.specs.port_signal.declared.mark.MarkKind.{MarkKind}
+use Rattle.port_model.specs.port_signal.declared.mark.MarkKind.TheVariants.{Busy, Free, Closed}
 use Rattle.port_links.specs.Table.{LinkTable}
 use Rattle.port_driver.specs.driver_model.Drivers.{held_events}
 use Rattle.port_driver.specs.Driven.{Stands}

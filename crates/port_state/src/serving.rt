@@ -1,6 +1,7 @@
 //! A task that the port handles.
 ghost use Rattle.std.specs.Prelude.{◌≡◌, ◌≢◌, ◌≤◌, ◌&&◌, true, [], length, map, not, is_some, if◌then◌else◌, IfOk, OnOk};
 ghost use Rattle.port_driver.specs.Context.{SameEvents};
+ghost use Rattle.port_driver.specs.Faults.{failures, RisenBy};
 ghost use Rattle.port_driver.specs.driver_model.Drivers.{held_events};
 ghost use Rattle.port_links.specs.Posts.{sent_of};
 ghost use Rattle.port_links.specs.Table.{IsAmong};
@@ -124,6 +125,7 @@ impl<D: Driver> PortState<D> {
         requires held { length held.now ≤ 64 }
         ensures same { IsSamePort self.old self.new }
         ensures faults { self.old.service.faults ≤ self.new.service.faults }
+        ensures failed { IfOk result (λ made. RisenBy (failures made.outside) self.old.service.faults self.new.service.faults) }
         ensures life { self.new.service.stage ≢ Life.Fresh }
         ensures serves { IfOk result (λ made. (port : Opening) (s : State) (task : TaskView) → task.signal ≡ signal.now → IsStateOf self.old port s → s.due ≡ []
             → SameEvents held.now (held_events port.kind port.config s.calls)
@@ -143,6 +145,7 @@ impl<D: Driver> PortState<D> {
     /// Handles a task of the poller that tells that an event was dropped, once the driver is stopped: it calls nothing, and nothing changes.
     pub fn serve_dropped(&self, alloc: Global, seq: u64, event: u32) -> Served
         requires stopped { self.now.stopped ≡ true }
+        ensures outside { result.outside ≡ [] }
         ensures serves { (port : Opening) (s : State) (task : TaskView) → task.signal ≡ Dropped event → IsStateOf self.now port s → s.due ≡ []
             → IsServed port s (taken_of Poller seq task result.outside result.effects) (Dropped event) result self.now }
     {

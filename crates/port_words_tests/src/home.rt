@@ -6,12 +6,12 @@ use std::thread::{Threads, join};
 
 // A lodger that counts its turns.
 #[derive(Drop)]
-struct Lodger {
+struct CountedBody {
     name: u32,
     turns: u32,
 }
 
-impl Lodged for Lodger {
+impl Lodged for CountedBody {
     ghost Name = { ℕ };
 
     ghost name = { λ lodger. lodger.name };
@@ -19,7 +19,7 @@ impl Lodged for Lodger {
 
 #[test]
 fn a_ticket_runs_its_turn_once(rt: HostRuntime) -> Result<(), Fail> {
-    let Ok(mut seats) = home(rt.alloc(), 7, Lodger { name: 3, turns: 0 }, 2) else {
+    let Ok(mut seats) = home(rt.alloc(), 7, CountedBody { name: 3, turns: 0 }, 2) else {
         panic!(rt; "there is memory")
     };
     let mut other = seats.pop().ok_or("no seat")?;
@@ -55,7 +55,7 @@ fn a_ticket_runs_its_turn_once(rt: HostRuntime) -> Result<(), Fail> {
 }
 
 // Queues a turn and runs it, where no other seat was first.
-fn run_one(mut seat: HomeSeat<Lodger>) -> HomeSeat<Lodger>
+fn run_one(mut seat: HomeSeat<CountedBody>) -> HomeSeat<CountedBody>
     requires { seat.known.running ≡ None }
     ensures { (result.home ≡ seat.home) × (result.known.running ≡ None) × (result.known.shares ≡ seat.known.shares) × (result.known.seats ≡ seat.known.seats) }
 {
@@ -75,9 +75,9 @@ fn run_one(mut seat: HomeSeat<Lodger>) -> HomeSeat<Lodger>
 
 fn run_two<R: Threads + Sync>(
     rt: &R,
-    a: HomeSeat<Lodger>,
-    b: HomeSeat<Lodger>,
-) -> (HomeSeat<Lodger>, HomeSeat<Lodger>)
+    a: HomeSeat<CountedBody>,
+    b: HomeSeat<CountedBody>,
+) -> (HomeSeat<CountedBody>, HomeSeat<CountedBody>)
     requires { (a.known.running ≡ None) × (b.known.running ≡ None) }
     ensures a { (result.0.home ≡ a.home) × (result.0.known.running ≡ None) × (result.0.known.shares ≡ a.known.shares) × (result.0.known.seats ≡ a.known.seats) }
     ensures b { (result.1.home ≡ b.home) × (result.1.known.running ≡ None) × (result.1.known.shares ≡ b.known.shares) × (result.1.known.seats ≡ b.known.seats) }
@@ -87,7 +87,7 @@ fn run_two<R: Threads + Sync>(
 
 #[test]
 fn two_and_four_threads_run_one_body(rt: HostRuntime) -> Result<(), Fail> {
-    let Ok(mut seats) = home(rt.alloc(), 0, Lodger { name: 3, turns: 0 }, 4) else {
+    let Ok(mut seats) = home(rt.alloc(), 0, CountedBody { name: 3, turns: 0 }, 4) else {
         panic!(rt; "there is memory")
     };
     let fourth = seats.pop().ok_or("no fourth")?;

@@ -17,7 +17,7 @@ use Rattle.script_plan.specs.declared.step.Act.TheVariants.{Command, File, Send,
 use Rattle.script_plan.specs.Monitors.{is_die}
 use Rattle.script_plan.specs.Plan.{IsWithin}
 use Rattle.process_end.specs.Commanded.{signal_of}
-use Rattle.process_job.specs.declared.action.Action.{Action}
+use Rattle.process_job.specs.declared.action.StepAction.{StepAction}
 use Rattle.process_job.specs.Asks.{is_file, asks_of, calls_of, end_reason, reason_of, files_after, made_of, made_of_step, next_content}
 use Rattle.process_job.specs.Mails.{Came, messages_of, bytes_of, is_data_of, size_from}
 use Rattle.process_job.specs.Waits.{FoundClosed, HasWaited, HaveWaited}
@@ -27,7 +27,7 @@ use Rattle.process_job.specs.Steps.{AreMadeOf, HasComeTo, HasMadeSteps, IsLater,
 use Rattle.process_job.proofs.Goings.{goes_none, makes_then}
 
 -- what an action is of its step
-pub record IsActionOf (line : ℕ) (act : Act) (content : List ℕ) (action : Action) : Type 0 where
+pub record IsActionOf (line : ℕ) (act : Act) (content : List ℕ) (action : StepAction) : Type 0 where
   pub asks : asks_by action ≡ asks_of line act content
   pub alive : is_die act ≡ false
   pub waited : (mails : List Mail) (seats : List SendKnown) → EndedWait action mails seats → HasWaited mails seats act
@@ -60,14 +60,14 @@ pub unread_content : (line : ℕ) (act : Act) (x y : List ℕ) → is_file act �
 unread_content line (File port size file force nosuspend) x y e = absurd cc
 unread_content line _ x y e = refl
 
-pub is_action : (line : ℕ) (act : Act) (content : List ℕ) (action : Action) → Ok action ≡ action_of line act content → IsActionOf line act content action
+pub is_action : (line : ℕ) (act : Act) (content : List ℕ) (action : StepAction) → Ok action ≡ action_of line act content → IsActionOf line act content action
 is_action line act content action e = let h = of_action line act content in subst (λ r. IfOk r (IsActionOf line act content)) (sym e) h
 
 -- and the reason for which a step ends the process
-pub ends_with : (line : ℕ) (act : Act) (content reason : List ℕ) (r : Result Action (List ℕ)) → r ≡ Err reason → r ≡ action_of line act content → (is_die act ≡ true) × ((later : List ℕ) → reason_of act later ≡ reason)
+pub ends_with : (line : ℕ) (act : Act) (content reason : List ℕ) (r : Result StepAction (List ℕ)) → r ≡ Err reason → r ≡ action_of line act content → (is_die act ≡ true) × ((later : List ℕ) → reason_of act later ≡ reason)
 ends_with line (Die why) content reason r e f = (refl, λ later. same_error why reason r f e)
   where
-    same_error : (a b : List ℕ) (r : Result Action (List ℕ)) → r ≡ Err a → r ≡ Err b → a ≡ b
+    same_error : (a b : List ℕ) (r : Result StepAction (List ℕ)) → r ≡ Err a → r ≡ Err b → a ≡ b
     same_error a b r e f = cc
 ends_with line _ content reason r e f = absurd cc
 

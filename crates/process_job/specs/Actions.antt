@@ -11,8 +11,8 @@ use Rattle.process_end.specs.declared.answers.Ask.TheVariants as ask
 use Rattle.process_end.specs.Commanded.{signal_of}
 use Rattle.script_plan.specs.declared.step.Act.{Act}
 use Rattle.script_plan.specs.declared.step.Act.TheVariants.{Command, File, Send, Control, Call, Close, Connect, SendClose, SendConnect, Link, Unlink, Monitor, Demonitor, Exit, Expect, Bytes, Die}
-use Rattle.process_job.specs.declared.action.Action.{Action}
-use Rattle.process_job.specs.declared.action.Action.TheVariants as action
+use Rattle.process_job.specs.declared.action.StepAction.{StepAction}
+use Rattle.process_job.specs.declared.action.StepAction.TheVariants as action
 use Rattle.process_job.specs.declared.action.CommandForm.{CommandForm}
 use Rattle.process_job.specs.declared.action.FileCommands.{FileCommands}
 use Rattle.process_job.specs.declared.action.PlainCall.{PlainCall}
@@ -24,11 +24,11 @@ use Rattle.process_job.specs.Waits.{FoundClosed}
 abbrev pub form_of : ℕ → ℕ → How → CommandForm
 form_of line port how = record { line = line; port = port; how = how }
 
-abbrev pub signal_action : ℕ → ℕ → Ask → Action
+abbrev pub signal_action : ℕ → ℕ → Ask → StepAction
 signal_action line port ask = action.Signal (record { line = line; port = port; ask = ask })
 
 -- what a step comes to, or the reason for which it ends the process; `content` is that of its file
-abbrev pub action_of : ℕ → Act → List ℕ → Result Action (List ℕ)
+abbrev pub action_of : ℕ → Act → List ℕ → Result StepAction (List ℕ)
 action_of line (Command port bytes force nosuspend) content = Ok (action.Command (form_of line port (how_of force nosuspend)) bytes)
 action_of line (File port size file force nosuspend) content = Ok (action.File (record { form = form_of line port (how_of force nosuspend); size = size; content = content }))
 action_of line (Send port bytes) content = Ok (action.Command (form_of line port how.Owner) bytes)
@@ -57,18 +57,18 @@ abbrev pub file_asks : FileCommands → List Asked
 file_asks file = map (ask_by file.form) (pieces file.size file.content)
 
 -- the calls of an action, in order
-abbrev pub asks_by : Action → List Asked
+abbrev pub asks_by : StepAction → List Asked
 asks_by (action.Command form bytes) = ask_by form bytes ∷ []
 asks_by (action.File file) = file_asks file
 asks_by (action.Signal call) = ask_of call ∷ []
 asks_by (action.Wait port wanted) = []
 
-abbrev pub EndedWait : Action → List Mail → List SendKnown → Type 0
+abbrev pub EndedWait : StepAction → List Mail → List SendKnown → Type 0
 EndedWait (action.Wait port wanted) mails seats = HasData port wanted mails ⊎ FoundClosed port seats
 EndedWait _ mails seats = Unit {0}
 
 -- what an action names is among so many processes and ports
-abbrev pub ActionWithin : ℕ → ℕ → Action → Type 0
+abbrev pub ActionWithin : ℕ → ℕ → StepAction → Type 0
 ActionWithin processes ports (action.Command form bytes) = form.port < ports
 ActionWithin processes ports (action.File file) = (file.form.port < ports) × (1 ≤ file.size)
 ActionWithin processes ports (action.Signal call) = (call.port < ports) × (names_below processes (signal_of call.ask) ≡ true)

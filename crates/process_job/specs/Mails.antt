@@ -1,6 +1,6 @@
 -- The mail of a process: what the ports sent it, and what it adds of its own.
 use Rattle.std.specs.Prelude.{◌≡◌, ℕ, ◌+◌, ◌==◌, List, [], ◌∷◌, ◌++◌, Bool, true, false, not, ◌&&◌, Option, Some, None, length, map, filter, sum_by, Contains, codes, if◌then◌else◌}
-use Rattle.port_model.specs.port_signal.declared.mail.Answer.{Answer}
+use Rattle.port_model.specs.port_signal.declared.answer.Answer.{Answer}
 use Rattle.port_model.specs.declared.mail.Mail.{Mail}
 use Rattle.port_model.specs.declared.mail.Mail.TheVariants as mail
 use Rattle.port_model.specs.declared.signal.Signal.{Signal}

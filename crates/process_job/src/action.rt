@@ -34,7 +34,7 @@ pub(crate) struct PlainCall {
 
 /// What a process does at a step.
 #[derive(Drop)]
-pub(crate) enum Action {
+pub(crate) enum StepAction {
     /// Sends a command.
     Command { form: CommandForm, bytes: Piece },
     /// Sends a file.
@@ -57,23 +57,23 @@ fn how_of(force: bool, nosuspend: bool) -> How
     }
 }
 
-fn signal(line: u32, port: u32, ask: Ask) -> Result<Action, Reason>
-    ensures { result ≡ Ok (Action.Signal (record { line = line; port = port; ask = ask })) }
+fn signal(line: u32, port: u32, ask: Ask) -> Result<StepAction, Reason>
+    ensures { result ≡ Ok (StepAction.Signal (record { line = line; port = port; ask = ask })) }
 {
-    Ok(Action::Signal(PlainCall { line, port, ask }))
+    Ok(StepAction::Signal(PlainCall { line, port, ask }))
 }
 
-fn command(line: u32, port: u32, how: How, bytes: Piece) -> Result<Action, Reason>
-    ensures { result ≡ Ok (Action.Command (record { line = line; port = port; how = how }) bytes) }
+fn command(line: u32, port: u32, how: How, bytes: Piece) -> Result<StepAction, Reason>
+    ensures { result ≡ Ok (StepAction.Command (record { line = line; port = port; how = how }) bytes) }
 {
     let form = CommandForm { line, port, how };
-    Ok(Action::Command { form, bytes })
+    Ok(StepAction::Command { form, bytes })
 }
 
-fn wait(port: u32, wanted: DataWanted) -> Result<Action, Reason>
-    ensures { result ≡ Ok (Action.Wait port wanted) }
+fn wait(port: u32, wanted: DataWanted) -> Result<StepAction, Reason>
+    ensures { result ≡ Ok (StepAction.Wait port wanted) }
 {
-    Ok(Action::Wait { port, wanted })
+    Ok(StepAction::Wait { port, wanted })
 }
 
 /// The content of the next file. A file that isn't there is empty.
@@ -103,7 +103,7 @@ pub(crate) fn content_for(act: &Act, files: &mut VecDeque<Piece>) -> Piece
 }
 
 /// What a step on this line comes to, or the reason for which it ends the process. `content` is that of the file that it sends.
-pub(crate) fn action_of(line: u32, act: Act, content: Piece) -> Result<Action, Reason>
+pub(crate) fn action_of(line: u32, act: Act, content: Piece) -> Result<StepAction, Reason>
     ensures { result ≡ action_of line act content }
 {
     match act {
@@ -122,7 +122,7 @@ pub(crate) fn action_of(line: u32, act: Act, content: Piece) -> Result<Action, R
         } => {
             let how = how_of(force, nosuspend);
             let form = CommandForm { line, port, how };
-            Ok(Action::File(FileCommands {
+            Ok(StepAction::File(FileCommands {
                 form,
                 size,
                 content,

@@ -9,10 +9,10 @@ ghost use Rattle.process_job.specs.Jobs.{AreAmong, AreWithin, CanMakeSteps, CanR
 use crate::ending::end_process;
 use crate::halt::Halt;
 use crate::log::MailLog;
-use crate::running::{Program, make_steps};
+use crate::running::{StepsToMake, make_steps};
 use crate::seats::ProcessSeats;
 use port_model::{Mail, Piece};
-use port_sched::{Job, PortBody};
+use port_sched::{PortBody, ThreadJob};
 use port_words::over::OverSeat;
 use process_end::{Proc, ProcEnd, ProcParts};
 use script_plan::Step;
@@ -79,7 +79,7 @@ fn run_process<B: PortBody, R: Wait>(
         files,
     } = work;
     let mut log = MailLog::new(alloc, seats.ports.homes.len())?;
-    let program = Program { steps, files };
+    let program = StepsToMake { steps, files };
     let (proc, reason) = make_steps(rt, alloc, seats, &mut log, proc, program)?;
     let proc = end_process(rt, seats, proc, reason)?;
     Ok(EndedProcess {
@@ -161,7 +161,7 @@ impl<B: PortBody> ProcessJob<B> {
     }
 }
 
-impl<B: PortBody> Job for ProcessJob<B> {
+impl<B: PortBody> ThreadJob for ProcessJob<B> {
     ghost use Rattle.process_job.specs.Jobs.{CanRun, HasRun};
 
     ghost can_run = { CanRun };

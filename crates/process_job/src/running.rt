@@ -6,7 +6,7 @@ ghost use Rattle.process_job.specs.Jobs.{AreAmong, AreWithin};
 ghost use Rattle.process_job.specs.Seats.{HasPorts, SeatsAfter};
 ghost use Rattle.process_job.specs.Steps.{HasMadeSteps, MakesCallsOf};
 
-use crate::action::{Action, action_of, content_for};
+use crate::action::{StepAction, action_of, content_for};
 use crate::calling::{payload_of, send_command, send_file, send_signal};
 use crate::halt::Halt;
 use crate::log::MailLog;
@@ -27,7 +27,7 @@ fn act<B: PortBody, R: Wait>(
     seats: &mut ProcessSeats<B>,
     log: &mut MailLog,
     proc: Proc,
-    action: Action,
+    action: StepAction,
 ) -> Result<Proc, Halt>
     requires ports { HasPorts seats.old proc }
     requires within { (processes : ℕ) × AreAmong processes proc.lanes × ActionWithin processes (length proc.lanes) action }
@@ -37,16 +37,16 @@ fn act<B: PortBody, R: Wait>(
 {
     let mut proc = proc;
     match action {
-        Action::Command { form, bytes } => {
+        StepAction::Command { form, bytes } => {
             let payload = payload_of(alloc, bytes);
             Ok(send_command(rt, seats, log, proc, form, payload)?.proc)
         }
-        Action::File(file) => send_file(rt, alloc, seats, log, proc, file),
-        Action::Signal(call) => {
+        StepAction::File(file) => send_file(rt, alloc, seats, log, proc, file),
+        StepAction::Signal(call) => {
             send_signal(rt, seats, log, &mut proc, call)?;
             Ok(proc)
         }
-        Action::Wait { port, wanted } => {
+        StepAction::Wait { port, wanted } => {
             wait_for_data(rt, &mut seats.over, log, &mut proc, port, wanted)?;
             Ok(proc)
         }
@@ -55,7 +55,7 @@ fn act<B: PortBody, R: Wait>(
 
 /// The steps of a process, and the contents of the files that they send.
 #[derive(Drop)]
-pub(crate) struct Program {
+pub(crate) struct StepsToMake {
     pub steps: VecDeque<Step>,
     pub files: VecDeque<Piece>,
 }
@@ -67,14 +67,14 @@ pub(crate) fn make_steps<B: PortBody, R: Wait>(
     seats: &mut ProcessSeats<B>,
     log: &mut MailLog,
     proc: Proc,
-    program: Program,
+    program: StepsToMake,
 ) -> Result<(Proc, Reason), Halt>
     requires ports { HasPorts seats.old proc }
     requires within { (processes : ℕ) × AreAmong processes proc.lanes × AreWithin processes (length proc.lanes) program.steps.items }
     ensures seats { SeatsAfter result seats.old seats.new }
     ensures made { IfOk result (λ r. HasMadeSteps program.steps.items program.files.items (state proc log.old) (state r.0 log.new) r.1) }
 {
-    let Program {
+    let StepsToMake {
         mut steps,
         mut files,
     } = program;

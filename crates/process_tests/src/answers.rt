@@ -1,12 +1,12 @@
 use crate::rig::{
-    PERIOD, Port, accept, begins, drop_sent, no_limits, refuse, sent, set_up, small_limits,
+    PERIOD, WatchedPort, accept, begins, drop_sent, no_limits, refuse, sent, set_up, small_limits,
 };
 use process_end::{How, Outcome, Receipt, SendRefusal, Shown};
 use std::sync::Wait;
 use std::test::Fail;
 
 /// The MSGQ word that the next task of the port leaves, where that is a command.
-fn take<R: Wait>(rt: &R, port: &mut Port) -> Option<u64> {
+fn take<R: Wait>(rt: &R, port: &mut WatchedPort) -> Option<u64> {
     match port.take(rt) {
         Some(taken) => taken.msgq,
         None => None,

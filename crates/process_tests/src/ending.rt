@@ -1,4 +1,4 @@
-use crate::rig::{Port, end, mailbox, no_limits, one_port, process_of_three};
+use crate::rig::{WatchedPort, end, mailbox, no_limits, one_port, process_of_three};
 use port_model::Signal;
 use process_end::{Outcome, Receipt};
 use std::sync::Wait;
@@ -17,7 +17,7 @@ fn told(port: u32, seq: Option<u64>, stat: u64, outcome: Outcome) -> Receipt {
 }
 
 /// Whether the next task of a port is the end of process 0, for the reason normal.
-fn is_told<R: Wait>(rt: &R, port: &mut Port) -> bool {
+fn is_told<R: Wait>(rt: &R, port: &mut WatchedPort) -> bool {
     let Some(taken) = port.take(rt) else {
         return false;
     };

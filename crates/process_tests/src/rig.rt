@@ -49,7 +49,7 @@ pub(crate) struct Side {
 
 /// The port's side: its seat of the words, and the end of its lane that takes.
 #[derive(Drop)]
-pub(crate) struct Port {
+pub(crate) struct WatchedPort {
     pub(crate) seat: PortSeat,
     lane: TakeEnd<Parcel>,
     ghost tables: { lane.key.table ≡ seat.table },
@@ -57,15 +57,15 @@ pub(crate) struct Port {
 
 /// A task that a port took, its number, and the MSGQ word that was left where it was a command.
 #[derive(Drop)]
-pub(crate) struct Taken {
+pub(crate) struct TakenTask {
     pub(crate) seq: u64,
     pub(crate) task: Task,
     pub(crate) msgq: Option<u64>,
 }
 
-impl Port {
+impl WatchedPort {
     /// Takes the next task, and the bytes of a command away.
-    pub(crate) fn take<R: Wait>(&mut self, rt: &R) -> Option<Taken>
+    pub(crate) fn take<R: Wait>(&mut self, rt: &R) -> Option<TakenTask>
         ensures { self.new.seat.known.marks ≡ self.old.seat.known.marks }
     {
         let Item { seq, value, .. } = self.lane.take(rt)?;
@@ -74,7 +74,7 @@ impl Port {
             Some(weight) => Some(self.seat.removed(rt, weight)),
             None => None,
         };
-        Some(Taken { seq, task, msgq })
+        Some(TakenTask { seq, task, msgq })
     }
 }
 
@@ -94,7 +94,11 @@ fn table(
 }
 
 /// A port with one sender, process 0.
-pub(crate) fn one_port(alloc: Global, limits: QueueLimits, soft: bool) -> Result<(Side, Port), Fail>
+pub(crate) fn one_port(
+    alloc: Global,
+    limits: QueueLimits,
+    soft: bool,
+) -> Result<(Side, WatchedPort), Fail>
     requires { InRange limits.on limits.low limits.high }
     ensures number { IfOk result (λ r. r.0.lane.number ≡ 0) }
     ensures marks { IfOk result (λ r. r.1.seat.known.marks ≡ []) }
@@ -110,7 +114,7 @@ pub(crate) fn one_port(alloc: Global, limits: QueueLimits, soft: bool) -> Result
         seat: sender,
         soft,
     };
-    Ok((side, Port { seat, lane: take }))
+    Ok((side, WatchedPort { seat, lane: take }))
 }
 
 /// The mailbox of a process, of which nothing was taken, and the end that puts mail there.
@@ -186,7 +190,7 @@ pub(crate) fn process_of_three(
 #[derive(Drop)]
 pub(crate) struct Rig {
     pub(crate) proc: Proc,
-    pub(crate) port: Port,
+    pub(crate) port: WatchedPort,
     pub(crate) mail: SendEnd<Mail>,
 }
 

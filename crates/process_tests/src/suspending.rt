@@ -1,5 +1,6 @@
 use crate::rig::{
-    PERIOD, Port, begins, no_limits, resume, sent, set_up, small_limits, suspend, wait_on, wake,
+    PERIOD, WatchedPort, begins, no_limits, resume, sent, set_up, small_limits, suspend, wait_on,
+    wake,
 };
 use port_model::Mail;
 use process_end::{How, NotYet, Outcome, Receipt};
@@ -8,7 +9,7 @@ use std::test::Fail;
 use suspend_list::StopNote;
 
 /// Whether the next task of the port suspends its sender, has the number 0 and leaves this MSGQ word.
-fn suspends<R: Wait>(rt: &R, port: &mut Port, msgq: u64) -> bool {
+fn suspends<R: Wait>(rt: &R, port: &mut WatchedPort, msgq: u64) -> bool {
     match port.take(rt) {
         Some(taken) => taken.seq == 0 && taken.task.suspends() && taken.msgq == Some(msgq),
         None => false,

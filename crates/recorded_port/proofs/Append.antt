@@ -5,8 +5,8 @@ use Rattle.std.proofs.lemmas.List.{append-nil, reverse-append}
 use Rattle.std.proofs.lemmas.List.Elements.{All-cons, All-weaker, Contains-append_left}
 use Rattle.port_words.specs.busy.Known.{PortKnown}
 use Rattle.port_words.specs.declared.busy.view.AddName.{AddName}
-use Rattle.port_model.specs.port_signal.declared.row.MarkKind.{MarkKind}
-use Rattle.port_model.specs.port_signal.declared.row.MarkKind.TheVariants.{Busy, Free, Closed}
+use Rattle.port_model.specs.port_signal.declared.mark.MarkKind.{MarkKind}
+use Rattle.port_model.specs.port_signal.declared.mark.MarkKind.TheVariants.{Busy, Free, Closed}
 use Rattle.port_model.specs.declared.row.Row.{Row}
 use Rattle.port_model.specs.declared.row.Row.TheVariants.{Handled, Late, Listed, Resumed, Mark}
 use Rattle.port_model.specs.declared.signal.Sender.{Sender}

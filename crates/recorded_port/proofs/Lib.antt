@@ -3,3 +3,4 @@ pub mod RowParts
 pub mod Same
 pub mod Settled
 pub mod TaskRows
+pub mod Grown

@@ -7,8 +7,8 @@ use Rattle.served_port.specs.async_jobs.declared.job.Job.{Job}
 use Rattle.served_port.specs.async_jobs.Pool.{Lanes}
 use Rattle.served_port.specs.async_jobs.Order.{AllSubmitted}
 use Rattle.port_model.specs.port_signal.Links.{has}
-use Rattle.port_model.specs.port_signal.declared.row.MarkKind.{MarkKind}
-use Rattle.port_model.specs.port_signal.declared.row.MarkKind.TheVariants.{Busy, Free, Closed}
+use Rattle.port_model.specs.port_signal.declared.mark.MarkKind.{MarkKind}
+use Rattle.port_model.specs.port_signal.declared.mark.MarkKind.TheVariants.{Busy, Free, Closed}
 use Rattle.port_words.specs.busy.Stat.{marked_busy, busy_after}
 use Rattle.port_words.specs.declared.busy.view.StatMark.{StatMark}
 use Rattle.port_words.specs.declared.busy.view.StatMark.TheVariants as stat

@@ -1,8 +1,10 @@
 -- What stays the same of a port.
-use Rattle.std.proofs.Common.{◌≡◌, ℕ, Bool, true, false, List, [], ◌∷◌, ◌++◌, ◌+◌, length, length-append, Some, None, refl, sym, ap, ◌∙◌, subst, arith}
+use Rattle.std.proofs.Common.{◌≡◌, ◌≤◌, ◌^◌, ◌-◌, min, ℕ, Bool, true, false, List, [], ◌∷◌, ◌++◌, ◌+◌, length, length-append, Some, None, refl, sym, ap, ◌∙◌, subst, arith}
 use Rattle.std.specs.Prelude.{Result, Ok, Err, OnOk, not, if◌then◌else◌}
 use Rattle.std.proofs.lemmas.List.{append-nil, append_assoc}
 use Rattle.port_driver.specs.driver_model.Calls.{Kind}
+use Rattle.port_driver.specs.Faults.{failures_in, RisenBy}
+use Rattle.port_driver.proofs.Faults.{failures_in-append}
 use Rattle.port_model.specs.declared.row.Row.{Row}
 use Rattle.port_words.specs.busy.Known.{PortKnown}
 use Rattle.served_port.specs.port_events.Table.{EventTable}
@@ -52,7 +54,7 @@ seat-trans : (a b c : PortKnown) → IsSameSeat a b → IsSameSeat b c → IsSam
 seat-trans a b c p q = record { table = q.table ∙ p.table; setup = q.setup ∙ p.setup; joined = q.joined ∙ p.joined }
 
 pub same-refl : (v : RecordedView) → IsSameRecorded v v
-same-refl v = record { opening = refl; rows = grew-none v.rows; port = served-refl v.port; ends = refl; seat = seat-refl v.seat; places = refl }
+same-refl v = record { opening = refl; rows = grew-none v.rows; port = served-refl v.port; ends = refl; seat = seat-refl v.seat; places = refl; failed = λ first risen. risen }
 
 pub same-trans : (a b c : RecordedView) → IsSameRecorded a b → IsSameRecorded b c → IsSameRecorded a c
 same-trans a b c p q = record {
@@ -62,14 +64,28 @@ same-trans a b c p q = record {
   ends = q.ends ∙ p.ends;
   seat = seat-trans a.seat b.seat c.seat p.seat q.seat;
   places = q.places ∙ p.places;
+  failed = λ first risen. q.failed first (p.failed first risen);
 }
 
--- rows and mail alone came to it
+-- a row that tells no failure
+pub risen-row : (rows : List Row) (row : Row) (first after : ℕ) → failures_in (row ∷ []) ≡ 0 → RisenBy (failures_in rows) first after
+    → RisenBy (failures_in (rows ++ row ∷ [])) first after
+risen-row rows row first after none risen = let e = failures_in-append rows (row ∷ []) in omega (arith, e, none, risen)
+
+-- a row that tells no failure and its mail alone came to it
 pub same-written : (old new : RecordedView) (row : Row) (room : ℕ) (ends : List MailEnd) → new ≡ record old { rows = old.rows ++ row ∷ []; room = room; ends = ends }
-    → end_names ends ≡ end_names old.ends → IsSameRecorded old new
-same-written old new row room ends e names =
+    → failures_in (row ∷ []) ≡ 0 → end_names ends ≡ end_names old.ends → IsSameRecorded old new
+same-written old new row room ends e none names =
     subst (λ x. IsSameRecorded old x) (sym e)
-    (record { opening = refl; rows = grew-one old.rows row; port = served-refl old.port; ends = names; seat = seat-refl old.seat; places = refl })
+    (record {
+      opening = refl;
+      rows = grew-one old.rows row;
+      port = served-refl old.port;
+      ends = names;
+      seat = seat-refl old.seat;
+      places = refl;
+      failed = λ first risen. risen-row old.rows row first old.port.state.service.faults none risen;
+    })
 
 posted-names : (ended : List ℕ) (old new : List MailEnd) (sent : List Sent) → Posts ended old new sent → end_names new ≡ end_names old
 posted-names ended old new sent p = names_by_place old new p.processes (λ n e less. ap end_name (p.ends n e less))

@@ -10,7 +10,7 @@ use Rattle.port_driver.specs.Context.{Context}
 use Rattle.port_driver.specs.Driven.{Stands}
 use Rattle.port_words.specs.busy.Stat.{marked_busy}
 use Rattle.port_words.specs.busy.Known.{PortKnown}
-use Rattle.port_model.specs.port_signal.declared.row.MarkKind.{MarkKind}
+use Rattle.port_model.specs.port_signal.declared.mark.MarkKind.{MarkKind}
 use Rattle.port_model.specs.declared.row.Row.{Row}
 use Rattle.port_mail.specs.Ends.{MailEnd}
 use Rattle.port_lanes.specs.port_history.Marks.{is_busy, is_due}

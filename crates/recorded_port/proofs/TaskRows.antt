@@ -2,7 +2,7 @@
 use Rattle.std.proofs.Common.{◌≡◌, ℕ, Bool, true, false, List, [], ◌∷◌, ◌++◌, drop, length, true≢false, refl, sym, ap, ◌∙◌, subst, inl, inr}
 use Rattle.std.specs.Prelude.{All, Contains, Option, Some, None, reverse, if◌then◌else◌}
 use Rattle.std.proofs.lemmas.List.{append-nil, append_assoc}
-use Rattle.port_model.specs.port_signal.declared.row.MarkKind.{MarkKind}
+use Rattle.port_model.specs.port_signal.declared.mark.MarkKind.{MarkKind}
 use Rattle.port_lanes.specs.Parcels.{IsParcel}
 use Rattle.port_words.specs.busy.Known.{PortKnown, WeightKnown, port_known}
 use Rattle.port_words.specs.busy.Steps.{marked, port_heard}

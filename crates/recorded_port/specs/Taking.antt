@@ -1,10 +1,11 @@
 -- What has to hold of a task that a port takes in, and what that adds to its rows.
 use Rattle.std.specs.Prelude.{◌≡◌, ◌⊎◌, ◌+◌, ◌≤◌, ℕ, List, [], ◌∷◌, ◌++◌, length, map, Bool, true, false, ◌&&◌, IfSome, Option, Some, None}
+use Rattle.port_driver.specs.Faults.{failures_in, RisenBy}
 use Rattle.port_words.specs.busy.Known.{PortKnown, WeightKnown}
 use Rattle.port_lanes.specs.Parcels.{ParcelView}
 use Rattle.port_mail.specs.port_links.Table.{IsAmong}
-use Rattle.port_model.specs.port_signal.declared.row.MarkKind.{MarkKind}
-use Rattle.port_model.specs.port_signal.declared.row.Outside.{Outside}
+use Rattle.port_model.specs.port_signal.declared.mark.MarkKind.{MarkKind}
+use Rattle.port_model.specs.port_signal.declared.outside.Outside.{Outside}
 use Rattle.port_model.specs.declared.effect.Effect.{Effect}
 use Rattle.port_model.specs.declared.row.Row.{Row}
 use Rattle.port_model.specs.declared.row.Row.TheVariants.{Handled, Late, Mark}
@@ -60,6 +61,10 @@ pub record FoundMore (old new : PortKnown) : Type 0 where
   pub more : List ℕ
   pub words : new.known.words ≡ old.known.words ++ more
 
+-- where the driver's count of faults had risen by the failures that the rows told, it has by those that they tell now
+abbrev pub CountsOn : RecordedView → RecordedView → Type 0
+CountsOn old new = (first : ℕ) → RisenBy (failures_in old.rows) first old.port.state.service.faults → RisenBy (failures_in new.rows) first new.port.state.service.faults
+
 -- the same port, with the same ends and words, of which the rows grew, and what its ends sent
 pub record IsSameRecorded (old new : RecordedView) : Type 0 where
   pub opening : new.opening ≡ old.opening
@@ -68,6 +73,7 @@ pub record IsSameRecorded (old new : RecordedView) : Type 0 where
   pub ends : end_names new.ends ≡ end_names old.ends
   pub seat : IsSameSeat old.seat new.seat
   pub places : new.suspended.places ≡ old.suspended.places
+  pub failed : CountsOn old new
 
 -- the rows that came took places for which there was room
 abbrev pub UsesRoom : RecordedView → RecordedView → Type 0

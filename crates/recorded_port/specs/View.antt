@@ -6,8 +6,8 @@ use Rattle.port_words.specs.busy.Known.{PortKnown}
 use Rattle.port_words.specs.declared.busy.view.AddName.{AddName}
 use Rattle.port_words.specs.declared.busy.view.StatMark.{StatMark}
 use Rattle.port_words.specs.declared.busy.view.StatMark.TheVariants as stat
-use Rattle.port_model.specs.port_signal.declared.row.MarkKind.{MarkKind}
-use Rattle.port_model.specs.port_signal.declared.row.MarkKind.TheVariants.{Busy, Free, Closed}
+use Rattle.port_model.specs.port_signal.declared.mark.MarkKind.{MarkKind}
+use Rattle.port_model.specs.port_signal.declared.mark.MarkKind.TheVariants.{Busy, Free, Closed}
 use Rattle.port_model.specs.declared.row.Row.{Row}
 use Rattle.port_mail.specs.Ends.{MailEnd}
 use Rattle.port_lanes.specs.port_history.Mail.{mails}

@@ -7,12 +7,13 @@ ghost use Rattle.port_lanes.specs.port_history.Opening.{taken_of};
 ghost use Rattle.port_lanes.specs.port_history.State.{State};
 ghost use Rattle.port_mail.specs.Ends.{Posts};
 ghost use Rattle.port_mail.specs.Rows.{IsRowOf};
+ghost use Rattle.served_port.specs.View.{end_names};
 ghost use Rattle.recorded_port.specs.View.{IsRecorded, IsSettled, removed_sizes};
 ghost use Rattle.recorded_port.specs.Taking.{FoundMore, IsSameRecorded, IsSameSeat, MayTake, MayWrite, Takes, UsesRoom, WritesMarks, WritesNext, WritesTask, sizes_of};
 
 use crate::{Driver, NoMemory, Parcel, RecordedPort, Row, Sender, Served, Task};
 use port_words::busy::Weight;
-use served_port::Outcome;
+use served_port::HandledOrLate;
 use std::alloc::Global;
 use std::sync::Wait;
 
@@ -61,8 +62,8 @@ impl<D: Driver> RecordedPort<D> {
         ensures writes { OnOk result (WritesTask self.old self.new from seq task) }
     {
         match self.port.take(rt, alloc, from, seq, task.signal())? {
-            Outcome::Handled(served) => self.write_handled(rt, from, seq, task, served),
-            Outcome::Late => self.write_late(rt, from, seq, task),
+            HandledOrLate::Handled(served) => self.write_handled(rt, from, seq, task, served),
+            HandledOrLate::Late => self.write_late(rt, from, seq, task),
         }
     }
 
@@ -77,7 +78,7 @@ impl<D: Driver> RecordedPort<D> {
     ) -> Result<(), NoMemory>
         requires served { (s : State) × IsRowOf served.handling served.effects task.signal served.closing self.old.opening s (taken_of from seq task served.outside served.effects) }
         requires room { 0 < self.old.room }
-        ensures same { IsSameRecorded self.old self.new }
+        ensures ends { end_names self.new.ends ≡ end_names self.old.ends }
         ensures room { UsesRoom self.old self.new }
         ensures rows { self.new ≡ record self.old { rows = self.old.rows ++ Handled from seq task served.outside served.effects ∷ []; room = self.new.room; ends = self.new.ends } }
         ensures mail { OnOk result ((s : State) → IsRowOf served.handling served.effects task.signal served.closing self.old.opening s (taken_of from seq task served.outside served.effects)

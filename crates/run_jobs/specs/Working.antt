@@ -16,8 +16,8 @@ use Rattle.port_sched.specs.declared.body.PortBody.{Ghosts}
 use Rattle.port_sched.specs.Homes.{AreHomes}
 use Rattle.port_sched.specs.Running.{Looked, Stopped}
 use Rattle.port_sched.specs.Waking.{Woke}
-use Rattle.run_jobs.specs.declared.worker.Step.{Step}
-use Rattle.run_jobs.specs.declared.worker.Step.TheVariants as step
+use Rattle.run_jobs.specs.declared.worker.WorkerTurn.{WorkerTurn}
+use Rattle.run_jobs.specs.declared.worker.WorkerTurn.TheVariants as step
 use Rattle.run_jobs.specs.declared.worker.WorkerEnd.{WorkerEnd}
 use Rattle.run_jobs.specs.declared.worker.WorkerEnd.TheVariants as end
 use Rattle.run_jobs.specs.declared.worker.WorkerJob.{WorkerJob}
@@ -36,7 +36,7 @@ abbrev pub values : List (Item WorkItem) → List WorkItem
 values items = map (λ (x : Item WorkItem). x.value) items
 
 -- one turn: a job was taken and answered, the lane was empty, a `Finish` was taken, or a job was taken and memory was wanting
-abbrev pub HasStepped : Step → Worker → Worker → List LaneEnd → List LaneEnd → Type 0
+abbrev pub HasStepped : WorkerTurn → Worker → Worker → List LaneEnd → List LaneEnd → Type 0
 HasStepped step.Answered old new lanes lanes' = (job : Job) × Took old (Work job) new × Sends (answer_to job ∷ []) lanes lanes'
 HasStepped step.Empty old new lanes lanes' = (new ≡ old) × (lanes' ≡ lanes)
 HasStepped step.Finished old new lanes lanes' = Took old Finish new × (lanes' ≡ lanes)
@@ -44,7 +44,7 @@ HasStepped step.NoMemory old new lanes lanes' =
     (job : Job) × Took old (Work job) new × ((told : List PortTask) × (left : List PortTask) × (answer_to job ∷ [] ≡ told ++ left) × Sends told lanes lanes')
 
 -- the tickets that a turn keeps, and those that a worker keeps: one at most, for want of memory
-abbrev pub KeptIn : Step → List Ticket → Type 0
+abbrev pub KeptIn : WorkerTurn → List Ticket → Type 0
 KeptIn step.NoMemory kept = length kept ≤ 1
 KeptIn step kept = kept ≡ []
 

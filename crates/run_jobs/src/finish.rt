@@ -6,7 +6,7 @@ ghost use Rattle.run_jobs.specs.Finishing.{SendsOne, SendsFinishAt, TellsBy, Tel
 use crate::stopping::is_over;
 use async_jobs::WorkItem;
 use no_memory::NoMemory;
-use port_sched::{Idle, Job};
+use port_sched::{Idle, ThreadJob};
 use port_words::over::OverSeat;
 use ready_select::PollAsk;
 use std::sync::Wait;
@@ -92,7 +92,7 @@ fn tell_end<R: Wait>(
     FinishEnd::Told
 }
 
-impl Job for FinishJob {
+impl ThreadJob for FinishJob {
     ghost use Rattle.run_jobs.specs.Finishing.{CanTellEnd, HasToldEnd};
 
     ghost can_run = { CanTellEnd };

@@ -14,7 +14,7 @@ use no_memory::NoMemory;
 use outside::PollSet;
 use port_lanes::Parcel;
 use port_model::{Signal, Task};
-use port_sched::{Idle, Job, JobSeats, PortBody};
+use port_sched::{Idle, JobSeats, PortBody, ThreadJob};
 use port_words::over::OverSeat;
 use ready_select::{PollAsk, Polled, poll_round};
 use std::alloc::Global;
@@ -191,7 +191,7 @@ fn poll<B: PortBody, S: PollSet, R: Wait>(
     unreachable!()
 }
 
-impl<B: PortBody, S: PollSet> Job for PollerJob<B, S> {
+impl<B: PortBody, S: PollSet> ThreadJob for PollerJob<B, S> {
     ghost use Rattle.run_jobs.specs.Rounds.{CanPoll, HasPolled};
 
     ghost can_run = { CanPoll };

@@ -13,7 +13,7 @@ use async_jobs::{Done, Pool, WorkItem, Worked};
 use no_memory::NoMemory;
 use port_lanes::Parcel;
 use port_model::{Signal, Task};
-use port_sched::{Idle, Job, JobSeats, PortBody};
+use port_sched::{Idle, JobSeats, PortBody, ThreadJob};
 use port_words::over::OverSeat;
 use std::alloc::Global;
 use std::sync::Wait;
@@ -45,7 +45,7 @@ pub struct WorkerJob<B: PortBody> {
 }
 
 // What one turn of a worker did.
-enum Step {
+enum WorkerTurn {
     Answered,
     Empty,
     Finished,
@@ -84,7 +84,7 @@ fn turn<B: PortBody, R: Wait>(
     jobs: &mut TakeEnd<WorkItem>,
     lanes: &mut Vec<SendEnd<Parcel>>,
     seats: &mut JobSeats<B>,
-) -> Step
+) -> WorkerTurn
     requires homes { AreHomes seats.old.homes.items }
     requires ports { length seats.old.homes.items ≡ length lanes.old.items }
     requires ends { (worker : ℕ) × AreEndsOf (Worker worker) lanes.old.items }
@@ -93,12 +93,12 @@ fn turn<B: PortBody, R: Wait>(
 {
     match Pool::worker_turn(rt, alloc, jobs) {
         Worked::Did(done) => match answer(rt, lanes, seats, done) {
-            Ok(()) => Step::Answered,
-            Err(NoMemory) => Step::NoMemory,
+            Ok(()) => WorkerTurn::Answered,
+            Err(NoMemory) => WorkerTurn::NoMemory,
         },
-        Worked::Empty => Step::Empty,
-        Worked::Finished => Step::Finished,
-        Worked::NoMemory(_) => Step::NoMemory,
+        Worked::Empty => WorkerTurn::Empty,
+        Worked::Finished => WorkerTurn::Finished,
+        Worked::NoMemory(_) => WorkerTurn::NoMemory,
     }
 }
 
@@ -121,21 +121,21 @@ fn work<B: PortBody, R: Wait>(
     let idle = Idle::new();
     'turns: for _ in rt.forever() {
         match turn(rt, alloc, jobs, lanes, seats) {
-            Step::Answered => idle.reset(),
-            Step::Empty => {
+            WorkerTurn::Answered => idle.reset(),
+            WorkerTurn::Empty => {
                 if is_stopped(over) {
                     return WorkerEnd::Stopped;
                 }
                 idle.wait(rt);
             }
-            Step::Finished => return WorkerEnd::Finished,
-            Step::NoMemory => return WorkerEnd::NoMemory,
+            WorkerTurn::Finished => return WorkerEnd::Finished,
+            WorkerTurn::NoMemory => return WorkerEnd::NoMemory,
         }
     }
     unreachable!()
 }
 
-impl<B: PortBody> Job for WorkerJob<B> {
+impl<B: PortBody> ThreadJob for WorkerJob<B> {
     ghost use Rattle.run_jobs.specs.Working.{CanWork, HasWorked};
 
     ghost can_run = { CanWork };

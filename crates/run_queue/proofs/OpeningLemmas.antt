@@ -10,7 +10,7 @@ use Rattle.crossbeam_deque.specs.declared.handles.Worker.{Worker}
 use Rattle.crossbeam_deque.specs.Handles.{worker_deque}
 use Rattle.port_words.proofs.lemmas.sums.Counting.{once_below-yes, once_below-not, once_below-step, other_number}
 use Rattle.port_words.specs.declared.home.homes.Ticket.{Ticket}
-use Rattle.run_queue.specs.declared.account.Hand.{Hand}
+use Rattle.run_queue.specs.declared.account.QueueHand.{QueueHand}
 use Rattle.run_queue.specs.Account.{hand, all_parts}
 use Rattle.run_queue.specs.Ends.{owner_ids, parts_given, parts_left, AreGiven, IsFreshOwner}
 use Rattle.run_queue.specs.Seats.{DequeKnown, guest_end, with_own, changed_at, IsDequeEnd, OwnsItsDeque, RunKnown, EntryKnown, AreFresh, fresh_seat, entry_known, joined_entry, entry_parts}
@@ -18,13 +18,13 @@ use Rattle.run_queue.proofs.SeatLemmas.{get_other, get_written, all_from_get, al
 
 module _ {P : Type 0} where
   -- the parts differ in their number alone
-  pub same_parts : (m n : ℕ) (w : Worker Ticket Global Hand P) → m ≡ n → IsFreshOwner m w → IsFreshOwner n w
+  pub same_parts : (m n : ℕ) (w : Worker Ticket Global QueueHand P) → m ≡ n → IsFreshOwner m w → IsFreshOwner n w
   same_parts m n w same fresh = subst (λ k. IsFreshOwner k w) same fresh
 
-  pub given_first : (owners : List (Worker Ticket Global Hand P)) → All (IsFreshOwner all_parts) owners → AreGiven 0 0 owners
+  pub given_first : (owners : List (Worker Ticket Global QueueHand P)) → All (IsFreshOwner all_parts) owners → AreGiven 0 0 owners
   given_first owners all n w e = same_parts all_parts (parts_given 0 0 n) w (let no = once_below-not 0 n (omega arith) in omega arith) (all_to_get (IsFreshOwner all_parts) owners n w all e)
 
-  pub given_more : (seat at : ℕ) (owners : List (Worker Ticket Global Hand P)) (w w' : Worker Ticket Global Hand P) → at < length owners → w ≡ get_or owners at w
+  pub given_more : (seat at : ℕ) (owners : List (Worker Ticket Global QueueHand P)) (w w' : Worker Ticket Global QueueHand P) → at < length owners → w ≡ get_or owners at w
       → AreGiven seat at owners → IsFreshOwner (parts_left w) w' → AreGiven seat (at + 1) (set owners at w')
   given_more seat at owners w w' lt is given fresh n v e = dite (ℕ_discrete n at)
       (λ same.
@@ -32,39 +32,39 @@ module _ {P : Type 0} where
       let before = given at w (slice_get_read owners (length owners) at w refl lt is) in
       let no = once_below-not at at (omega arith) in
       let yes = once_below-yes (at + 1) at (omega arith) in
-      let parts : parts_left w ≡ all_parts - seat - 1 = (let p = ap (λ (h : Hand). h.parts) before.0 in omega arith) in
+      let parts : parts_left w ≡ all_parts - seat - 1 = (let p = ap (λ (h : QueueHand). h.parts) before.0 in omega arith) in
       subst (λ m. IsFreshOwner (parts_given seat (at + 1) m) v) (sym same) (subst (IsFreshOwner (parts_given seat (at + 1) at)) (sym v_is) (same_parts (parts_left w) (parts_given seat (at + 1) at) w' (omega arith) fresh)))
       (λ differ.
       let step = once_below-step at n in
       let no = other_number at n (λ s. differ (sym s)) in
       same_parts (parts_given seat at n) (parts_given seat (at + 1) n) v (omega arith) (given n v (get_other owners at n w' v differ e)))
 
-  pub given_next : (seat : ℕ) (owners : List (Worker Ticket Global Hand P)) → AreGiven seat (length owners) owners → AreGiven (seat + 1) 0 owners
+  pub given_next : (seat : ℕ) (owners : List (Worker Ticket Global QueueHand P)) → AreGiven seat (length owners) owners → AreGiven (seat + 1) 0 owners
   given_next seat owners given n w e =
       let yes = once_below-yes (length owners) n (slice_get_within owners n w e) in
       let no = once_below-not 0 n (omega arith) in
       same_parts (parts_given seat (length owners) n) (parts_given (seat + 1) 0 n) w (omega arith) (given n w e)
 
-  pub ids_set : (owners : List (Worker Ticket Global Hand P)) (at : ℕ) (w w' : Worker Ticket Global Hand P) → w ≡ get_or owners at w → worker_deque w' ≡ worker_deque w → owner_ids (set owners at w') ≡ owner_ids owners
+  pub ids_set : (owners : List (Worker Ticket Global QueueHand P)) (at : ℕ) (w w' : Worker Ticket Global QueueHand P) → w ≡ get_or owners at w → worker_deque w' ≡ worker_deque w → owner_ids (set owners at w') ≡ owner_ids owners
   ids_set [] at w w' is same = refl
   ids_set (x ∷ xs) zero w w' is same = ap (λ (d : RowsId × Global). d.0 ∷ owner_ids xs) (same ∙ ap (λ v. worker_deque v) is)
   ids_set (x ∷ xs) (suc n) w w' is same = ap (λ ids. (worker_deque x).0 ∷ ids) (ids_set xs n w w' is same)
 
-  pub end_at : (most : ℕ) (owners : List (Worker Ticket Global Hand P)) (at : ℕ) (w : Worker Ticket Global Hand P) → at < length owners → w ≡ get_or owners at w
+  pub end_at : (most : ℕ) (owners : List (Worker Ticket Global QueueHand P)) (at : ℕ) (w : Worker Ticket Global QueueHand P) → at < length owners → w ≡ get_or owners at w
       → slice_get (map (guest_end most) (owner_ids owners)) at ≡ Some (guest_end most (worker_deque w).0)
   end_at most [] at w lt is = absurd (omega arith)
   end_at most (x ∷ xs) zero w lt is = ap (λ v. Some (guest_end most (worker_deque v).0)) (sym is)
   end_at most (x ∷ xs) (suc n) w lt is = end_at most xs n w (omega arith) is
 
-  pub ends_count : (most : ℕ) (owners : List (Worker Ticket Global Hand P)) → length (map (guest_end most) (owner_ids owners)) ≡ length owners
+  pub ends_count : (most : ℕ) (owners : List (Worker Ticket Global QueueHand P)) → length (map (guest_end most) (owner_ids owners)) ≡ length owners
   ends_count most [] = refl
   ends_count most (x ∷ xs) = ap suc (ends_count most xs)
 
-  pub ids_count : (owners : List (Worker Ticket Global Hand P)) → length (owner_ids owners) ≡ length owners
+  pub ids_count : (owners : List (Worker Ticket Global QueueHand P)) → length (owner_ids owners) ≡ length owners
   ids_count [] = refl
   ids_count (x ∷ xs) = ap suc (ids_count xs)
 
-  pub id_at : (owners : List (Worker Ticket Global Hand P)) (n : ℕ) (w : Worker Ticket Global Hand P) → slice_get owners n ≡ Some w → slice_get (owner_ids owners) n ≡ Some (worker_deque w).0
+  pub id_at : (owners : List (Worker Ticket Global QueueHand P)) (n : ℕ) (w : Worker Ticket Global QueueHand P) → slice_get owners n ≡ Some w → slice_get (owner_ids owners) n ≡ Some (worker_deque w).0
   id_at [] n w e = absurd (none-some w e)
   id_at (x ∷ xs) zero w e = ap (λ v. Some (worker_deque v).0) (same_Some x w e)
   id_at (x ∷ xs) (suc n) w e = id_at xs n w e
@@ -116,7 +116,7 @@ end_is most [] n id k e e' = absurd (none-some id e)
 end_is most (x ∷ xs) zero id k e e' = sym (same_Some x id e) ∙ ap (λ (d : DequeKnown). d.deque) (same_Some (guest_end most x) k e')
 end_is most (x ∷ xs) (suc n) id k e e' = end_is most xs n id k e e'
 
-fresh_ends : (count most number : ℕ) (v : Hand) (ids : List RowsId) → count ≤ most → All (IsDequeEnd count 1) (changed_at (with_own v) number (map (guest_end most) ids))
+fresh_ends : (count most number : ℕ) (v : QueueHand) (ids : List RowsId) → count ≤ most → All (IsDequeEnd count 1) (changed_at (with_own v) number (map (guest_end most) ids))
 fresh_ends count most number v ids room = all_from_get (IsDequeEnd count 1) (changed_at (with_own v) number (map (guest_end most) ids)) (λ n k e. one n number ids k e)
   where
     fresh : (id : RowsId) → IsDequeEnd count 1 (guest_end most id)
@@ -138,7 +138,7 @@ fresh_ends count most number v ids room = all_from_get (IsDequeEnd count 1) (cha
     one (suc n) (suc m) (x ∷ xs) k e = one n m xs k e
 
 -- a seat's ends that were just made hold what each seat's ends hold
-pub fresh_row : (most number : ℕ) (v : Hand) (ids : List RowsId) (row : List DequeKnown) → row ≡ changed_at (with_own v) number (map (guest_end most) ids) → length ids ≡ most → number < most
+pub fresh_row : (most number : ℕ) (v : QueueHand) (ids : List RowsId) (row : List DequeKnown) → row ≡ changed_at (with_own v) number (map (guest_end most) ids) → length ids ≡ most → number < most
     → OwnsItsDeque number row × All (IsDequeEnd (length row) 1) row
 fresh_row most number v ids row is count lt =
     let size : length row ≡ most = ap length is ∙ length_changed (with_own v) (map (guest_end most) ids) number ∙ length_ends most ids ∙ count in (

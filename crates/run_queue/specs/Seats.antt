@@ -4,21 +4,21 @@ use Rattle.std.proofs.Common.{zero, suc}
 use Rattle.atomic_blocks.specs.Laid.{WebId}
 use Rattle.atomic_blocks.specs.Lent.{RowsId}
 use Rattle.port_words.specs.declared.home.homes.Ticket.{Ticket}
-use Rattle.run_queue.specs.declared.account.Hand.{Hand}
+use Rattle.run_queue.specs.declared.account.QueueHand.{QueueHand}
 use Rattle.run_queue.specs.Account.{hand, all_parts, after_put, after_take, together, put_weight, taken_weight, parts_of, WasEmpty}
 
 -- The ends of one deque that one seat has: which deque it is, what the seat knows as its owner, where it is the owner, and by each of its passes, and how many
 -- passes it has room for
 pub record DequeKnown : Type 0 where
   pub deque : RowsId
-  pub own : Option Hand
-  pub guests : List Hand
+  pub own : Option QueueHand
+  pub guests : List QueueHand
   pub most : ℕ
 
 -- an end of the injector: which injector it is, and what it knows
 pub record EntryKnown : Type 0 where
   pub injector : WebId
-  pub hand : Hand
+  pub hand : QueueHand
 
 -- A scheduler's seat: the number of its own deque, how many seats it was joined of, its ends of each deque, by number, and its end of the injector
 pub record RunKnown : Type 0 where
@@ -27,10 +27,10 @@ pub record RunKnown : Type 0 where
   pub deques : List DequeKnown
   pub entry : EntryKnown
 
-abbrev pub deque_known : RowsId → Option Hand → List Hand → ℕ → DequeKnown
+abbrev pub deque_known : RowsId → Option QueueHand → List QueueHand → ℕ → DequeKnown
 deque_known deque own guests most = record { deque = deque; own = own; guests = guests; most = most }
 
-abbrev pub entry_known : WebId → Hand → EntryKnown
+abbrev pub entry_known : WebId → QueueHand → EntryKnown
 entry_known injector h = record { injector = injector; hand = h }
 
 abbrev pub changed_first : {A : Type 0} → (A → A) → List A → List A
@@ -56,7 +56,7 @@ stole tickets k = record k { guests = changed_first (after_take tickets) k.guest
 abbrev pub OwnerSawEmpty : DequeKnown → Type 0
 OwnerSawEmpty k = MatchOption k.own ⊥ WasEmpty
 
-abbrev pub first_saw_empty : List Hand → Type 0
+abbrev pub first_saw_empty : List QueueHand → Type 0
 first_saw_empty [] = ⊥
 first_saw_empty (v ∷ vs) = WasEmpty v
 
@@ -67,7 +67,7 @@ abbrev pub EntrySawEmpty : EntryKnown → Type 0
 EntrySawEmpty k = WasEmpty k.hand
 
 -- one owner there is, and it is in either
-abbrev pub the_own : Option Hand → Option Hand → Option Hand
+abbrev pub the_own : Option QueueHand → Option QueueHand → Option QueueHand
 the_own None other = other
 the_own (Some v) other = Some v
 
@@ -85,7 +85,7 @@ abbrev pub joined_entry : EntryKnown → EntryKnown → EntryKnown
 joined_entry v w = record v { hand = together v.hand w.hand }
 
 -- all that the ends of a deque know
-abbrev pub hands_of : DequeKnown → List Hand
+abbrev pub hands_of : DequeKnown → List QueueHand
 hands_of k = option_to_list k.own ++ k.guests
 
 -- these ends are all that a deque has, and the owner's is among them
@@ -94,11 +94,11 @@ pub record HasAll (k : DequeKnown) : Type 0 where
   pub parts : sum_by parts_of (hands_of k) ≡ all_parts
 
 -- of the tickets that these threads put and took, these are left
-abbrev pub IsRest : List Hand → List Ticket → Type 0
+abbrev pub IsRest : List QueueHand → List Ticket → Type 0
 IsRest hands tickets = (weight : Ticket → ℕ) → sum_by (put_weight weight) hands ≡ sum_by (taken_weight weight) hands + sum_by weight tickets
 
 -- two threads' accounts that are one
-pub record IsSameAccount (hands hands' : List Hand) : Type 0 where
+pub record IsSameAccount (hands hands' : List QueueHand) : Type 0 where
   pub parts : sum_by parts_of hands ≡ sum_by parts_of hands'
   pub put : (weight : Ticket → ℕ) → sum_by (put_weight weight) hands ≡ sum_by (put_weight weight) hands'
   pub taken : (weight : Ticket → ℕ) → sum_by (taken_weight weight) hands ≡ sum_by (taken_weight weight) hands'
@@ -110,7 +110,7 @@ run_known number seats deques entry = record { number = number; seats = seats; d
 abbrev pub guest_end : ℕ → RowsId → DequeKnown
 guest_end most deque = deque_known deque None (hand 1 [] [] ∷ []) most
 
-abbrev pub with_own : Hand → DequeKnown → DequeKnown
+abbrev pub with_own : QueueHand → DequeKnown → DequeKnown
 with_own v k = record k { own = Some v }
 
 -- What the seats of one run queue are, before the first ticket. Each scheduler has a pass of each deque and a part of the injector, and the owner of each deque
@@ -240,7 +240,7 @@ abbrev pub counted : ℕ → ℕ
 counted n = min n (2 ^ 64 - 1)
 
 -- how many tickets the passes of a deque took, which its owner put there
-abbrev pub stolen_in : List Hand → ℕ
+abbrev pub stolen_in : List QueueHand → ℕ
 stolen_in guests = sum_by (λ v. length v.taken) guests
 
 abbrev pub stolen_of : DequeKnown → ℕ

@@ -4,7 +4,7 @@ use port_words::home::Ticket;
 use std::collections::LinkedList;
 
 /// What one thread knows of one queue: its parts of the right to know all of it, and the tickets that it put and took. No value of it is made.
-pub struct Hand {
+pub struct QueueHand {
     pub parts: u64,
     pub put: LinkedList<Ticket>,
     pub taken: LinkedList<Ticket>,
@@ -13,7 +13,7 @@ pub struct Hand {
 /// The rule of a queue, which holds between any two steps. `specs/Account.antt` has it.
 pub struct EachOnce;
 
-impl Protocol<Ticket, Hand> for EachOnce {
+impl Protocol<Ticket, QueueHand> for EachOnce {
     ghost use Rattle.run_queue.specs.Account.{IsQueue, first_hand};
 
     ghost holds = { IsQueue };
@@ -24,9 +24,9 @@ impl Protocol<Ticket, Hand> for EachOnce {
 }
 
 /// A thread puts a ticket.
-pub struct Puts;
+pub struct PutsTicket;
 
-impl Outcome<Ticket, Hand> for Puts {
+impl Outcome<Ticket, QueueHand> for PutsTicket {
     ghost use Rattle.std.specs.Prelude.{◌≡◌};
     ghost use Rattle.run_queue.specs.Account.{after_put};
 
@@ -34,9 +34,9 @@ impl Outcome<Ticket, Hand> for Puts {
 }
 
 /// A thread takes a ticket, or finds the queue empty.
-pub struct Takes;
+pub struct TakesTicket;
 
-impl Outcome<Ticket, Hand> for Takes {
+impl Outcome<Ticket, QueueHand> for TakesTicket {
     ghost use Rattle.std.specs.Prelude.{◌≡◌};
     ghost use Rattle.run_queue.specs.Account.{after_take, WasEmpty};
 
@@ -48,7 +48,7 @@ impl Outcome<Ticket, Hand> for Takes {
 /// One part is split off.
 pub struct OnePart;
 
-impl Split<Hand> for OnePart {
+impl Split<QueueHand> for OnePart {
     ghost use Rattle.run_queue.specs.Account.{other_parts, one_part};
 
     ghost left = { other_parts };
@@ -59,7 +59,7 @@ impl Split<Hand> for OnePart {
 /// What two threads know is put together.
 pub struct Together;
 
-impl Join<Hand> for Together {
+impl Join<QueueHand> for Together {
     ghost use Rattle.run_queue.specs.Account.{together, spent_hand};
 
     ghost both = { together };
@@ -70,7 +70,7 @@ impl Join<Hand> for Together {
 /// The thread that has all parts learns what is left in the queue.
 pub struct Left;
 
-impl Lesson<Ticket, Hand> for Left {
+impl Lesson<Ticket, QueueHand> for Left {
     ghost use Rattle.run_queue.specs.Account.{IsLeft};
 
     ghost fact = { IsLeft };

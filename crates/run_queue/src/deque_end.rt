@@ -6,7 +6,7 @@ ghost use Rattle.port_words.specs.declared.home.homes.Ticket.{Ticket};
 ghost use Rattle.run_queue.specs.Ends.{IsOwnerOf, IsGuestOf, owner_view, guest_view, IsFreshOwner, parts_left};
 ghost use Rattle.run_queue.specs.Seats.{counted, stolen_of, deque_known, put_own, took_own, stole, OwnerSawEmpty, GuestSawEmpty, the_own, joined_deque, guest_end, with_own, HasAll, IsRest, hands_of, IsSameAccount, KeepsShape};
 
-use crate::account::{EachOnce, Hand, Left, OnePart, Puts, Takes, Together};
+use crate::account::{EachOnce, Left, OnePart, PutsTicket, QueueHand, TakesTicket, Together};
 use crossbeam_deque::{Pass, Steal, Stealer, Worker};
 use no_memory::NoMemory;
 use port_words::home::Ticket;
@@ -14,11 +14,11 @@ use std::alloc::Global;
 use std::marker::Model;
 use std::sync::Wait;
 
-pub(crate) type Owner = Worker<Ticket, Global, Hand, EachOnce>;
+pub(crate) type Owner = Worker<Ticket, Global, QueueHand, EachOnce>;
 
-pub(crate) type Thief = Stealer<Ticket, Global, Hand, EachOnce>;
+pub(crate) type Thief = Stealer<Ticket, Global, QueueHand, EachOnce>;
 
-pub(crate) type Guest = Pass<Ticket, Hand>;
+pub(crate) type Guest = Pass<Ticket, QueueHand>;
 
 /// The deque's owner, where this seat has it, a stealer, passes of the deque, for `most` of which there is memory, and how many tickets they took.
 #[derive(Drop)]
@@ -53,7 +53,7 @@ fn put_by(owner: &mut Owner, ticket: Ticket) -> Result<(), Ticket>
     ensures ok { OnOk result (worker_view owner.new ≡ after_put (ticket ∷ []) (worker_view owner.old)) }
     ensures refused { IfErr result (λ t. (t ≡ ticket) × (worker_view owner.new ≡ worker_view owner.old)) }
 {
-    owner.push_as::<Puts>(ticket)
+    owner.push_as::<PutsTicket>(ticket)
 }
 
 fn take_by(owner: &mut Owner) -> Option<Ticket>
@@ -62,7 +62,7 @@ fn take_by(owner: &mut Owner) -> Option<Ticket>
     ensures some { IfSome result (λ t. worker_view owner.new ≡ after_take (t ∷ []) (worker_view owner.old)) }
     ensures none { IfNone result ((worker_view owner.new ≡ worker_view owner.old) × WasEmpty (worker_view owner.old)) }
 {
-    owner.pop_as::<Takes>()
+    owner.pop_as::<TakesTicket>()
 }
 
 // Takes the first ticket, or finds the deque empty. It tries again where another thread was before it.
@@ -73,7 +73,7 @@ fn steal_by<R: Wait>(rt: &R, thief: &Thief, guest: &mut Guest) -> Option<Ticket>
     ensures none { IfNone result ((view guest.new ≡ view guest.old) × WasEmpty (view guest.old)) }
 {
     'tries: for _ in rt.forever() {
-        match thief.steal_as::<Takes>(guest) {
+        match thief.steal_as::<TakesTicket>(guest) {
             Steal::Success(ticket) => return Some(ticket),
             Steal::Empty => return None,
             Steal::Retry => {}

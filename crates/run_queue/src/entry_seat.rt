@@ -5,7 +5,7 @@ ghost use Rattle.run_queue.specs.Account.{all_parts, first_hand, after_put, afte
 ghost use Rattle.port_words.specs.declared.home.homes.Ticket.{Ticket};
 ghost use Rattle.run_queue.specs.Seats.{EntryKnown, entry_known, put_entry, took_entry, joined_entry, EntrySawEmpty};
 
-use crate::account::{EachOnce, Hand, OnePart, Puts, Takes, Together};
+use crate::account::{EachOnce, OnePart, PutsTicket, QueueHand, TakesTicket, Together};
 use crossbeam_deque::{Injector, InjectorPass, Steal};
 use no_memory::NoMemory;
 use port_words::home::Ticket;
@@ -13,9 +13,9 @@ use std::alloc::Global;
 use std::marker::Model;
 use std::sync::{Arc, Wait};
 
-pub(crate) type Inlet = Injector<Ticket, Global, Hand, EachOnce>;
+pub(crate) type Inlet = Injector<Ticket, Global, QueueHand, EachOnce>;
 
-pub(crate) type Pass = InjectorPass<Ticket, Hand>;
+pub(crate) type Pass = InjectorPass<Ticket, QueueHand>;
 
 /// An end of the injector, for a job beside the schedulers. A clause sees which injector it is, and what this end knows of it.
 #[derive(Drop)]
@@ -63,7 +63,10 @@ impl EntrySeat {
         ensures ok { OnOk result (self.new ≡ put_entry (ticket ∷ []) self.old) }
         ensures refused { IfErr result (λ e. (e.0 ≡ ticket) × (self.new ≡ self.old)) }
     {
-        match self.injector.push_as::<Puts, R>(rt, &mut self.pass, ticket) {
+        match self
+            .injector
+            .push_as::<PutsTicket, R>(rt, &mut self.pass, ticket)
+        {
             Ok(()) => Ok(()),
             Err(ticket) => Err((ticket, NoMemory)),
         }
@@ -108,7 +111,7 @@ fn take_by<R: Wait>(rt: &R, injector: &Inlet, pass: &mut Pass) -> Option<Ticket>
     ensures none { IfNone result ((injector_view pass.new ≡ injector_view pass.old) × WasEmpty (injector_view pass.old)) }
 {
     'tries: for _ in rt.forever() {
-        match injector.steal_as::<Takes, R>(rt, pass) {
+        match injector.steal_as::<TakesTicket, R>(rt, pass) {
             Steal::Success(ticket) => return Some(ticket),
             Steal::Empty => return None,
             Steal::Retry => {}

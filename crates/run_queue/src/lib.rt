@@ -13,7 +13,7 @@ mod laws;
 mod opening;
 mod run_seat;
 
-pub use account::{EachOnce, Hand};
+pub use account::{EachOnce, QueueHand};
 pub use entry_seat::EntrySeat;
 pub use laws::{each_once_at_every_moment, kept_by_each_step};
 pub use no_memory::NoMemory;

@@ -5,8 +5,8 @@ use Rattle.std.specs.List.{sum_by}
 use Rattle.std.proofs.lemmas.List.{reverse-append}
 use Rattle.std.proofs.lemmas.List.Sums.{sum_by-cons, sum_by_push}
 use Rattle.port_signal.specs.Reasons.{told_reason}
-use Rattle.port_signal.specs.declared.row.Outside.{Outside}
-use Rattle.port_signal.specs.declared.row.MarkKind.{MarkKind}
+use Rattle.port_signal.specs.declared.outside.Outside.{Outside}
+use Rattle.port_signal.specs.declared.mark.MarkKind.{MarkKind}
 use Rattle.port_model.specs.declared.effect.Effect.{Effect}
 use Rattle.port_model.specs.declared.signal.Sender.{Sender}
 use Rattle.port_model.specs.declared.signal.Signal.{Signal}

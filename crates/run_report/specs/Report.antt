@@ -6,7 +6,7 @@ use Rattle.hex.specs.Hex.{encode_lower}
 use Rattle.sha2.specs.Sha256.{sha256}
 use Rattle.port_history.specs.Counts.{data_messages, saved_data}
 use Rattle.journal_text.specs.declared.book.PortReport.{PortReport}
-use Rattle.run_report.specs.declared.report.ProcReport.{ProcReport}
+use Rattle.run_report.specs.declared.report.ProcessRecord.{ProcessRecord}
 use Rattle.run_report.specs.declared.report.Report.{Report}
 use Rattle.run_report.specs.declared.counts.PortCounts.{PortCounts}
 use Rattle.run_report.specs.declared.summary.Totals.{Totals}
@@ -28,7 +28,7 @@ port_line port counts =
     ++ codes " end=" ++ unwrap_or counts.end [] ++ 10 ∷ []
 
 -- the line of the process at this place
-unfoldable pub process_line : List PortReport → ℕ → ProcReport → List ℕ
+unfoldable pub process_line : List PortReport → ℕ → ProcessRecord → List ℕ
 process_line ports place process =
     codes "process " ++ process.name
     ++ codes " commands=" ++ decimal (commands_of place ports)

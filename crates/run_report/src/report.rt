@@ -7,7 +7,7 @@ pub type Mails = Log<Mail>;
 
 /// A process as it is reported.
 #[derive(Drop)]
-pub struct ProcReport {
+pub struct ProcessRecord {
     pub name: Reason,
     /// What its calls answered, in their order.
     pub receipts: Receipts,
@@ -18,5 +18,5 @@ pub struct ProcReport {
 #[derive(Drop)]
 pub struct Report {
     pub ports: Items<PortReport>,
-    pub processes: Items<ProcReport>,
+    pub processes: Items<ProcessRecord>,
 }

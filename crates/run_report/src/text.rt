@@ -9,7 +9,7 @@ use crate::counting::count_ports;
 use crate::counts::PortCounts;
 use crate::data::data_digest;
 use crate::receipts::{data_messages, dropped_receipts, suspended_receipts};
-use crate::report::{ProcReport, Report};
+use crate::report::{ProcessRecord, Report};
 use journal_text::PortReport;
 use no_memory::NoMemory;
 use std::alloc::Global;
@@ -89,7 +89,7 @@ fn write_processes(
     text: &mut String,
     ports: u32,
     commands: &[u64],
-    processes: &[ProcReport],
+    processes: &[ProcessRecord],
 ) -> Result<(), NoMemory>
     requires { length commands.now ≡ length processes.now }
     ensures { OnOk result ((reports : List PortValue) → ports ≡ length reports → ((place : ℕ) → place < length processes.now → get_or commands.now place 0 ≡ commands_of place reports)
@@ -107,7 +107,7 @@ fn write_process(
     text: &mut String,
     ports: u32,
     commands: u64,
-    process: &ProcReport,
+    process: &ProcessRecord,
 ) -> Result<(), NoMemory>
     ensures { OnOk result ((reports : List PortValue) (place : ℕ) → ports ≡ length reports → commands ≡ commands_of place reports → string_bytes text.new ≡ string_bytes text.old ++ process_line reports place process.now) }
 {

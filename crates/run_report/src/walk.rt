@@ -1,6 +1,6 @@
 //! The rows of a port, gone through one by one.
 ghost use Rattle.std.specs.Prelude.{◌≡◌, ◌<◌, ◌∷◌, [], ℕ, List, IfOk, OnOk, length, option_map, None, if◌then◌else◌};
-ghost use Rattle.port_signal.specs.declared.row.Outside.{Outside as OutsideValue};
+ghost use Rattle.port_signal.specs.declared.outside.Outside.{Outside as OutsideValue};
 ghost use Rattle.port_model.specs.declared.row.Row.{Row as RowValue};
 ghost use Rattle.port_model.specs.declared.row.Row.TheVariants.{Handled, Late};
 ghost use Rattle.port_model.specs.Tasks.{TaskView};

@@ -2,8 +2,8 @@
 use Rattle.std.specs.Prelude.{ℕ, List, [], ◌∷◌, ◌++◌, false, Option, None, Some, codes}
 use Rattle.io_vector.specs.declared.flag.Flag.TheVariants.{Plain, Eol}
 use Rattle.port_config.specs.Config.{plain}
-use Rattle.port_signal.specs.declared.mail.Answer.TheVariants.{True}
-use Rattle.port_signal.specs.declared.row.MarkKind.TheVariants.{Closed}
+use Rattle.port_signal.specs.declared.answer.Answer.TheVariants.{True}
+use Rattle.port_signal.specs.declared.mark.MarkKind.TheVariants.{Closed}
 use Rattle.port_model.specs.declared.signal.Sender.TheVariants.{Process}
 use Rattle.port_model.specs.declared.signal.Signal.{Signal}
 use Rattle.port_model.specs.declared.signal.Signal.TheVariants.{Command, OwnerCommand, Close, Connect, Exit, Gone}
@@ -17,7 +17,7 @@ use Rattle.process_receipts.specs.declared.receipt.Outcome.{Outcome}
 use Rattle.process_receipts.specs.declared.receipt.Outcome.TheVariants.{Accepted, Suspended, Dropped, Closed as ClosedPort}
 use Rattle.process_receipts.specs.declared.receipt.Receipt.{Receipt}
 use Rattle.journal_text.specs.declared.book.PortReport.{PortReport}
-use Rattle.run_report.specs.declared.report.ProcReport.{ProcReport}
+use Rattle.run_report.specs.declared.report.ProcessRecord.{ProcessRecord}
 use Rattle.run_report.specs.declared.report.Report.{Report}
 
 abbrev pub handled : ℕ → ℕ → Signal → List Effect → Row
@@ -35,7 +35,7 @@ worked_port = record {
 }
 
 -- the receipts of both, and what came: the data, the reply, and the exit signal of the port
-abbrev pub worked_process : ProcReport
+abbrev pub worked_process : ProcessRecord
 worked_process = record {
   name = codes "a";
   receipts =
@@ -80,7 +80,7 @@ shared_port =
     ∷ handled 1 1 (command (codes "ab")) [] ∷ handled 1 2 (command (codes "ab")) [] ∷ handled 0 2 (command (codes "ab")) []
     ∷ handled 0 3 (Gone (codes "normal")) [] ∷ Mark Closed ∷ late 1 3 (Gone (codes "normal")) ∷ [])
 
-abbrev pub process : List ℕ → List Receipt → List Mail → ProcReport
+abbrev pub process : List ℕ → List Receipt → List Mail → ProcessRecord
 process name receipts mails = record { name = name; receipts = receipts; mails = mails }
 
 abbrev pub ab : Mail

@@ -10,5 +10,5 @@ mod till;
 
 pub use loading::{LoadSize, load, putters};
 pub use putter::Putter;
-pub use running::{Outcome, Turns, run_load};
+pub use running::{LoadEnd, Turns, run_load};
 pub use till::{Number, Till};

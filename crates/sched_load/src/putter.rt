@@ -4,7 +4,7 @@ ghost use Rattle.port_sched.specs.Homes.{AreHomes};
 ghost use Rattle.sched_load.specs.Putting.{CanPut, HasPut};
 
 use crate::till::{Number, Till};
-use port_sched::{Job, JobSeats, NoMemory};
+use port_sched::{JobSeats, NoMemory, ThreadJob};
 use port_words::over::OverSeat;
 use std::sync::Wait;
 use std::thread::Parker;
@@ -82,7 +82,7 @@ fn put_all<R: Wait>(
     Ok(())
 }
 
-impl Job for Putter {
+impl ThreadJob for Putter {
     ghost use Rattle.sched_load.specs.Putting.{CanPut, HasGoneOn};
 
     ghost can_run = { CanPut };

@@ -10,7 +10,7 @@ use crate::putter::Putter;
 use crate::till::Till;
 use outside::Gate;
 use port_sched::{
-    Job, JobSeats, Lodger, NoMemory, PortBody, SchedEnd, Scheduler, close_homes, run,
+    JobSeats, Lodger, NoMemory, PortBody, SchedEnd, Scheduler, ThreadJob, close_homes, run,
 };
 use port_words::home::HomeSeat;
 use std::alloc::Global;
@@ -20,7 +20,7 @@ use ticket_account::{RunSize, gather, open_run};
 
 /// How a run ended: whether each scheduler saw its end, the ports that came back, and how many turns were made.
 #[derive(Drop)]
-pub struct Outcome {
+pub struct LoadEnd {
     pub all_done: bool,
     pub tills: Vec<Lodger<Till>>,
     pub turns: Turns,
@@ -38,7 +38,7 @@ pub struct Turns {
 }
 
 // Runs schedulers beside jobs, and gives them back.
-fn run_owned<B: PortBody + Send, G: Gate + Sync, K: Job + Send, R: Threads + Wait + Sync>(
+fn run_owned<B: PortBody + Send, G: Gate + Sync, K: ThreadJob + Send, R: Threads + Wait + Sync>(
     rt: &R,
     gate: &G,
     mut schedulers: Vec<Scheduler<B>>,
@@ -107,7 +107,7 @@ pub fn run_load<G: Gate + Sync, R: Threads + Wait + Sync>(
     alloc: Global,
     gate: &G,
     size: LoadSize,
-) -> Result<Outcome, NoMemory>
+) -> Result<LoadEnd, NoMemory>
     requires schedulers { (0 < size.schedulers) × (size.schedulers ≤ 16) }
     requires few { size.ports + size.schedulers + size.jobs ≤ 1024 }
 {
@@ -126,7 +126,7 @@ pub fn run_load<G: Gate + Sync, R: Threads + Wait + Sync>(
     let turns = turns_of(&schedulers);
     let jobs = seats_of(alloc, jobs)?;
     let tills = come_out(alloc, gather(rt, schedulers, jobs))?;
-    Ok(Outcome {
+    Ok(LoadEnd {
         all_done,
         tills,
         turns,

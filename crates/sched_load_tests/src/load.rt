@@ -1,5 +1,5 @@
 use outside::{Gate, OpenGate};
-use sched_load::{LoadSize, Outcome, run_load};
+use sched_load::{LoadEnd, LoadSize, run_load};
 use std::sync::atomic::{AtomicU64, Ordering};
 use std::test::Fail;
 use std::thread;
@@ -44,7 +44,7 @@ impl Gate for Held {
 }
 
 // Whether so many ports came back, and each took each number of each sender once.
-fn is_whole(outcome: &Outcome, size: LoadSize) -> bool {
+fn is_whole(outcome: &LoadEnd, size: LoadSize) -> bool {
     outcome.all_done
         && outcome.tills.len() == size.ports as usize
         && outcome

@@ -5,7 +5,7 @@ ghost use Rattle.port_sched.specs.Homes.{AreHomes};
 ghost use Rattle.port_sched.specs.Lodging.{is_counted, has_finished};
 ghost use Rattle.sched_tests.specs.Seats.{IsSeatOfTwo, IsSeatBack};
 
-use port_sched::{Job, Lodger, NoMemory, PortBody, Turn};
+use port_sched::{Lodger, NoMemory, PortBody, ThreadJob, Turn};
 use port_words::home::{HomeSeat, home};
 use port_words::over::{OverSeat, over_word};
 use run_queue::{RunSeat, run_queue};
@@ -51,7 +51,7 @@ impl PortBody for Errand {
 #[derive(Drop)]
 pub struct Nothing;
 
-impl Job for Nothing {
+impl ThreadJob for Nothing {
     ghost can_run = { λ _. Unit {0} };
 
     ghost went = { λ _ _. Unit {0} };

@@ -14,7 +14,7 @@ use std::thread::Threads;
 
 // Whose deque the first ticket of the port lies in.
 #[derive(Clone, Copy)]
-enum Ticket {
+enum FirstTicket {
     Own,
     Other,
     Nowhere,
@@ -59,37 +59,40 @@ fn run_one<R: Threads + Wait + Sync>(
 }
 
 // One scheduler makes the three turns of a port.
-fn serve<R: Threads + Wait + Sync>(rt: &R, alloc: Global, first: Ticket) -> Option<Told> {
+fn serve<R: Threads + Wait + Sync>(rt: &R, alloc: Global, first: FirstTicket) -> Option<Told> {
     let (counted, over, _) = places(alloc)?;
     let (mine, theirs) = two_seats(alloc, three_turns(0, true), 0, counted)?;
     let (own, other) = two_queues(alloc)?;
     match first {
-        Ticket::Own => {
+        FirstTicket::Own => {
             let (_theirs, own) = queue(theirs, own)?;
             run_one(rt, alloc, mine, own, over)
         }
-        Ticket::Other => {
+        FirstTicket::Other => {
             let (_theirs, _other) = queue(theirs, other)?;
             run_one(rt, alloc, mine, own, over)
         }
-        Ticket::Nowhere => run_one(rt, alloc, mine, own, over),
+        FirstTicket::Nowhere => run_one(rt, alloc, mine, own, over),
     }
 }
 
 #[test]
 fn each_turn_that_began_with_a_ticket_is_counted(rt: HostRuntime) -> Result<(), Fail> {
-    assert_eq!(rt; serve(&rt, rt.alloc(), Ticket::Own), wanted(3, 0, 0));
+    assert_eq!(rt; serve(&rt, rt.alloc(), FirstTicket::Own), wanted(3, 0, 0));
     Ok(())
 }
 
 #[test]
 fn a_stolen_ticket_counts_as_a_ticket_and_as_stolen(rt: HostRuntime) -> Result<(), Fail> {
-    assert_eq!(rt; serve(&rt, rt.alloc(), Ticket::Other), wanted(3, 0, 1));
+    assert_eq!(rt; serve(&rt, rt.alloc(), FirstTicket::Other), wanted(3, 0, 1));
     Ok(())
 }
 
 #[test]
 fn a_turn_of_a_port_that_was_found_idle_is_counted_apart(rt: HostRuntime) -> Result<(), Fail> {
-    assert_eq!(rt; serve(&rt, rt.alloc(), Ticket::Nowhere), wanted(2, 1, 0));
+    assert_eq!(rt;
+        serve(&rt, rt.alloc(), FirstTicket::Nowhere),
+        wanted(2, 1, 0)
+    );
     Ok(())
 }

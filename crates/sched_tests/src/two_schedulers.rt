@@ -21,15 +21,15 @@ const LOOKS: u64 = 10_000_000;
 
 // Holds the first turn of each of two ports until a turn of the other has begun.
 #[derive(Drop)]
-struct Meeting {
+struct MeetingPoint {
     zero: AtomicU64,
     one: AtomicU64,
     missed: AtomicU64,
 }
 
-impl Meeting {
-    fn new() -> Meeting {
-        Meeting {
+impl MeetingPoint {
+    fn new() -> MeetingPoint {
+        MeetingPoint {
             zero: AtomicU64::new(0),
             one: AtomicU64::new(0),
             missed: AtomicU64::new(0),
@@ -48,7 +48,7 @@ impl Meeting {
     }
 }
 
-impl Gate for Meeting {
+impl Gate for MeetingPoint {
     fn enter(&self, port: u32) {
         if port == 0 {
             self.meet(&self.zero, &self.one);
@@ -109,7 +109,7 @@ fn two_schedulers(
 // Whether both end as done.
 fn both_end<R: Threads + Wait + Sync>(
     rt: &R,
-    gate: &Meeting,
+    gate: &MeetingPoint,
     zero: Scheduler<Errand>,
     one: Scheduler<Errand>,
 ) -> bool
@@ -136,7 +136,7 @@ fn four_places(alloc: Global) -> Option<(OverSeat, OverSeat, OverSeat, OverSeat)
 }
 
 // Two schedulers serve two ports, of which each waits for the other. Whether both end as done.
-fn meet<R: Threads + Wait + Sync>(rt: &R, alloc: Global, gate: &Meeting) -> Option<bool> {
+fn meet<R: Threads + Wait + Sync>(rt: &R, alloc: Global, gate: &MeetingPoint) -> Option<bool> {
     let (first, second, over_zero, over_one) = four_places(alloc)?;
     let (zero, one) = two_schedulers(alloc, first, second, over_zero, over_one)?;
     Some(both_end(rt, gate, zero, one))
@@ -144,7 +144,7 @@ fn meet<R: Threads + Wait + Sync>(rt: &R, alloc: Global, gate: &Meeting) -> Opti
 
 #[test]
 fn two_schedulers_make_turns_at_the_same_time(rt: HostRuntime) -> Result<(), Fail> {
-    let gate = Meeting::new();
+    let gate = MeetingPoint::new();
     assert_eq!(rt; meet(&rt, rt.alloc(), &gate), Some(true));
     assert_eq!(rt; gate.missed.load(Ordering::SeqCst), 0);
     Ok(())

@@ -79,9 +79,9 @@ unsent s port d is below =
     let lane : port < length s.lanes.ports.items = omega (arith, many, below) in
     ap (λ (e : LaneEnd). e.sent) ((has.each (some s.lanes.ports.items port lane)).each port d lane)
 
-module _ {D S : Type 0} (kind : D → Kind) (own : D → Own) (program : D → Option ToldProgram) (faults : S → ℕ) (answered : S → List ℕ) where
+module _ {D S : Type 0} (kind : D → Kind) (driver_faults : D → ℕ) (own : D → Own) (program : D → Option ToldProgram) (faults : S → ℕ) (answered : S → List ℕ) where
   pub ready-rows : (s : Setting) (plans : List ProcessPlan) (poll : S) (names : List BodyName) (jobs : EndedJobs S) (ran : List RanProcess) (places : List ℕ) (hosts : List (Hosted D)) (left : ScriptRan)
-      → HasEndedIn faults answered s plans poll names jobs → IsLeft kind own program s ran jobs.poller.lanes.items names places hosts left
+      → HasEndedIn faults answered s plans poll names jobs → IsLeft kind driver_faults own program s ran jobs.poller.lanes.items names places hosts left
       → ReadyRowsAreAnswered (answered poll) (Some (answered jobs.poller.watch.poll)) left
   ready-rows s plans poll names jobs ran places hosts left has whole =
       let lanes = has.others.poller in

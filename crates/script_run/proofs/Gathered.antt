@@ -13,15 +13,15 @@ use Rattle.run_setting.specs.Setting.{Setting}
 use Rattle.closed_lanes.specs.declared.closing.ClosedPort.{ClosedPort}
 use Rattle.closed_mail.specs.declared.joining.ProcessPeers.{ProcessPeers}
 use Rattle.closed_mail.specs.Joined.{AreJoined, ArePortsNamed, rows_of}
-use Rattle.script_run.specs.declared.parting.PortParts.{PortParts}
+use Rattle.script_run.specs.declared.parting.PartedPorts.{PartedPorts}
 use Rattle.script_run.specs.declared.running.ProcessLeft.{ProcessLeft}
 use Rattle.script_run.specs.declared.running.ScriptRan.{ScriptRan}
 use Rattle.script_run.specs.Left.{CanGather, IsGathered}
-use Rattle.script_run.specs.Parted.{AreLeftOf, ArePortParts}
+use Rattle.script_run.specs.Parted.{AreLeftOf, ArePartedPorts}
 use Rattle.script_run.proofs.Parts.{some}
 
-module _ (s : Setting) (names : List BodyName) (ran : List RanProcess) (closed : List ClosedPort) (receipts : List (List Receipt)) (peers : ProcessPeers) (can : CanGather s names ran closed receipts peers) (parts : PortParts)
-    (are : ArePortParts closed parts) where
+module _ (s : Setting) (names : List BodyName) (ran : List RanProcess) (closed : List ClosedPort) (receipts : List (List Receipt)) (peers : ProcessPeers) (can : CanGather s names ran closed receipts peers) (parts : PartedPorts)
+    (are : ArePartedPorts closed parts) where
   seat-at : (k : ℕ) (c : ClosedPort) (x : PortKnown) → k < length closed → get_or parts.peers.seats.items k x ≡ (get_or closed k c).seat
   seat-at k c x below = ap (λ (l : List PortKnown). get_or l k x) are.seats_are ∙ get_or-map (λ (y : ClosedPort). y.seat) closed k c x below
 

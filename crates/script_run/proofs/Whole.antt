@@ -9,6 +9,7 @@ use Rattle.driver_model.specs.Calls.{Kind, Own}
 use Rattle.driver_model.specs.Drivers.{kind_name, refusal_of}
 use Rattle.driver_model.specs.Programs.{ToldProgram}
 use Rattle.port_config.specs.declared.config.Config.{Config}
+use Rattle.port_driver.specs.Faults.{failures_in, RisenBy}
 use Rattle.port_driver.specs.declared.life.Life.{Life}
 use Rattle.port_history.specs.Opening.{Opening}
 use Rattle.port_history.specs.Lawful.{Lawful, IsFinished}
@@ -52,7 +53,7 @@ use Rattle.run_setting.specs.Jobs.{HaveRunIn}
 use Rattle.script_run.specs.declared.running.PortLeft.{PortLeft}
 use Rattle.script_run.specs.declared.running.ProcessLeft.{ProcessLeft}
 use Rattle.script_run.specs.declared.running.ScriptRan.{ScriptRan}
-use Rattle.script_run.specs.Ran.{HasRun, IsAmong, IsFrom, PairHolds, PortHolds, PortServed, PortWordsHold, ProcessHolds, all_calls, calls_of, opening_of}
+use Rattle.script_run.specs.Ran.{HasCounted, HasRun, IsAmong, IsFrom, PairHolds, PortHolds, PortServed, PortWordsHold, ProcessHolds, all_calls, calls_of, opening_of}
 use Rattle.script_run.specs.Readiness.{ReadyRowsAreAnswered}
 use Rattle.script_run.specs.Left.{AreProcessesLeft, IsGathered, IsLeft}
 use Rattle.closed_mail.specs.Joined.{rows_of, PortWordsHold as WordsOfPort}
@@ -386,7 +387,7 @@ module _ {D S : Type 0} {gh : Ghosts BodyView} (kind : D → Kind) (stage : D �
   -- the port of this number, by what its parts left
   port-served : RunLaws → (script : RunScript) (poll : S) (old mid new : List (Hosted D)) (seated : SeatedScript BodyView S gh) (ended : List BodyView) (ran : List RanProcess) (left : ScriptRan)
       → (is : IsSeatedScript kind faults script poll old mid seated) → map name_of ended ≡ map name_of is.bodies → HaveServed kind stage faults seated.places.items old new
-      → (poller : List LaneEnd) (whole : IsLeft kind own program is.setting ran poller (map name_of ended) seated.places.items new left) → (k : ℕ) (decl : PortDecl) (p : PortLeft) (h : Hosted D) → k < length script.ports.items
+      → (poller : List LaneEnd) (whole : IsLeft kind faults own program is.setting ran poller (map name_of ended) seated.places.items new left) → (k : ℕ) (decl : PortDecl) (p : PortLeft) (h : Hosted D) → k < length script.ports.items
       → PortServed kind own program script left (λ n. came-of is.setting ran whole.closed left whole.gathered n (cases_lt n (length ran))) k (get_or script.ports.items k decl) (get_or left.ports.items k p)
       (get_or new (slice_index seated.places.items k) h)
   port-served laws script poll old mid new seated ended ran left is same served poller whole k decl p h below =
@@ -467,9 +468,48 @@ module _ {D S : Type 0} {gh : Ghosts BodyView} (kind : D → Kind) (stage : D �
             (subst (λ (z : PortDecl). WordsOfPort k (limits_of z.config) (get_or g.parts.peers.seats.items k port.seat) (map calls_made ran)) decl-is (g.joined.words k decl port.seat inside)))));
       })
 
+  -- what the driver of this port counted
+  port-counted : (script : RunScript) (poll : S) (old mid new : List (Hosted D)) (seated : SeatedScript BodyView S gh) (ended : List BodyView) (ran : List RanProcess) (left : ScriptRan)
+      → (is : IsSeatedScript kind faults script poll old mid seated) → map name_of ended ≡ map name_of is.bodies
+      → (poller : List LaneEnd) → IsLeft kind faults own program is.setting ran poller (map name_of ended) seated.places.items new left → (k : ℕ) (p : PortLeft) (h : Hosted D) → k < length script.ports.items
+      → HasCounted faults (get_or left.ports.items k p) (get_or old (slice_index seated.places.items k) h) (get_or new (slice_index seated.places.items k) h)
+  port-counted script poll old mid new seated ended ran left is same poller whole k p h below =
+      let s = is.setting in
+      let closed = whole.are_closed in
+      let g = whole.gathered in
+      let place = slice_index seated.places.items k in
+      let ports_many : length s.ports ≡ length script.ports.items = ap length is.is.ports_are in
+      let inside : k < length s.ports = omega (arith, ports_many, below) in
+      let closed_many = closed.many in
+      let here : k < length whole.closed = omega (arith, closed_many, inside) in
+      let names_many = is.named.many in
+      let bodies_many : length (map name_of is.bodies) ≡ length is.bodies = length-map is.bodies name_of in
+      let body : k < length is.bodies = omega (arith, names_many, bodies_many, inside) in
+      let v = some is.bodies k body in
+      let n = name_of v in
+      let c = some whole.closed k here in
+      let lanes_many = is.is.is.lanes_are.counts.ports_many in
+      let limits_many : length (all_limits s.ports) ≡ length s.ports = length-map s.ports (λ (x : PortDecl). limits_of x.config) in
+      let lane : k < length s.lanes.ports.items = omega (arith, lanes_many, limits_many, inside) in
+      let d = some s.lanes.ports.items k lane in
+      let decl = some script.ports.items k below in
+      let port = get_or whole.closed k c in
+      let stopped = closed.stopped k n c h inside in
+      let opened = is.opened.opened k decl (room_of s.size d) h v body in
+      let name-is : name_of (get_or is.bodies k v) ≡ get_or (map name_of ended) k n = sym (get_or-map name_of is.bodies k v n body) ∙ ap (λ (l : List BodyName). get_or l k n) (sym same) in
+      let first : (get_or (map name_of ended) k n).faults ≡ faults opened.driver = ap (λ (x : BodyName). x.faults) (sym name-is) ∙ opened.opened.name.faults_are in
+      let left-is : get_or left.ports.items k p ≡ port_left port = ap (λ (l : List PortLeft). get_or l k p) (g.ports_are ∙ g.are_parts.left) ∙ get_or-map port_left whole.closed k c p here in
+      subst (λ (x : PortLeft). HasCounted faults x (get_or old place h) (get_or new place h)) (sym left-is) (record {
+        before = opened.driver;
+        after = stopped.driver;
+        handed = opened.handed;
+        back = stopped.back;
+        failed = subst (λ count. RisenBy (failures_in port.journal.rows) count (faults stopped.driver)) first stopped.failed;
+      })
+
   pub has-run : RunLaws → (script : RunScript) (poll : S) (old mid new : List (Hosted D)) (seated : SeatedScript BodyView S gh) (ended : List BodyView) (jobs : List EndedProcess) (left : ScriptRan) → All (IsUnused stage) old
       → (is : IsSeatedScript kind faults script poll old mid seated) → map name_of ended ≡ map name_of is.bodies → HaveComeBack kind stage faults own program ended seated.places.items mid new
-      → (poller : List LaneEnd) → IsLeft kind own program is.setting (ran_processes is.plans jobs) poller (map name_of ended) seated.places.items new left
+      → (poller : List LaneEnd) → IsLeft kind faults own program is.setting (ran_processes is.plans jobs) poller (map name_of ended) seated.places.items new left
       → (before : List ℕ) (after : Option (List ℕ)) → ReadyRowsAreAnswered before after left → HasRun kind stage faults own program script old new before after left
   has-run laws script poll old mid new seated ended jobs left unused is same back poller whole before after ready =
       let s = is.setting in
@@ -489,6 +529,7 @@ module _ {D S : Type 0} {gh : Ghosts BodyView} (kind : D → Kind) (stage : D �
         ports_many = omega (arith, left_many, closed_many, ports_many);
         processes_many = omega (arith, processes_many, ran_many, sized);
         came = λ n. came-of s ran whole.closed left g n (cases_lt n (length ran));
+        counted = port-counted script poll old mid new seated ended ran left is same poller whole;
         ports = port-served laws script poll old mid new seated ended ran left is same served poller whole;
         processes = λ n p l below.
             let within : n < length ran = omega (arith, ran_many, sized, below) in

@@ -23,11 +23,11 @@ use Rattle.ended_jobs.specs.Ended.{HaveEndedFor}
 use Rattle.seated_script.specs.Seated.{AreDealt}
 use Rattle.run_setting.specs.Setting.{Setting, IsSetting, AreNamedIn}
 use Rattle.run_setting.specs.Jobs.{HaveRunIn}
-use Rattle.script_run.specs.declared.parting.PortParts.{PortParts}
+use Rattle.script_run.specs.declared.parting.PartedPorts.{PartedPorts}
 use Rattle.script_run.specs.declared.parting.ProcessParts.{ProcessParts}
 use Rattle.script_run.specs.declared.running.ProcessLeft.{ProcessLeft}
 use Rattle.script_run.specs.declared.running.ScriptRan.{ScriptRan}
-use Rattle.script_run.specs.Parted.{ArePortParts, AreProcessParts}
+use Rattle.script_run.specs.Parted.{ArePartedPorts, AreProcessParts}
 
 -- the jobs of a run with this setting, whose bodies have these names, have ended
 pub record HasEndedIn {S : Type 0} (faults : S → ℕ) (answered : S → List ℕ) (s : Setting) (plans : List ProcessPlan) (poll : S) (names : List BodyName) (jobs : EndedJobs S) : Type 0 where
@@ -75,17 +75,17 @@ pub record CanGather (s : Setting) (names : List BodyName) (ran : List RanProces
 
 -- what they leave is put together
 pub record IsGathered (s : Setting) (ran : List RanProcess) (closed : List ClosedPort) (left : ScriptRan) : Type 0 where
-  pub parts : PortParts
-  pub are_parts : ArePortParts closed parts
+  pub parts : PartedPorts
+  pub are_parts : ArePartedPorts closed parts
   pub ports_are : left.ports.items ≡ parts.left.items
   pub mails : List (List Mail)
   pub joined : AreJoined s ran parts.peers mails
   pub processes : AreProcessesLeft ran mails left
 
 -- this is left of the ports and the processes of a run with this setting, whose poller gave back these ends of the ports' lanes: its ports are closed, and its mail and words put together
-pub record IsLeft {D : Type 0} (kind : D → Kind) (own : D → Own) (program : D → Option ToldProgram) (s : Setting) (ran : List RanProcess) (poller : List LaneEnd) (names : List BodyName) (places : List ℕ)
+pub record IsLeft {D : Type 0} (kind : D → Kind) (faults : D → ℕ) (own : D → Own) (program : D → Option ToldProgram) (s : Setting) (ran : List RanProcess) (poller : List LaneEnd) (names : List BodyName) (places : List ℕ)
     (hosts : List (Hosted D)) (left : ScriptRan) : Type 0 where
   pub have_run : HaveRunIn s ran
   pub closed : List ClosedPort
-  pub are_closed : AreClosedIn kind own program s ran poller names places closed hosts
+  pub are_closed : AreClosedIn kind faults own program s ran poller names places closed hosts
   pub gathered : IsGathered s ran closed left

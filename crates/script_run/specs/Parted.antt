@@ -8,7 +8,7 @@ use Rattle.run_end.specs.Ran.{RanProcess}
 use Rattle.run_seats.specs.declared.plans.ProcessPlan.{ProcessPlan}
 use Rattle.closed_lanes.specs.declared.closing.ClosedPort.{ClosedPort}
 use Rattle.ended_jobs.specs.Ended.{ran_of}
-use Rattle.script_run.specs.declared.parting.PortParts.{PortParts}
+use Rattle.script_run.specs.declared.parting.PartedPorts.{PartedPorts}
 use Rattle.script_run.specs.declared.parting.ProcessParts.{ProcessParts}
 use Rattle.script_run.specs.declared.running.PortLeft.{PortLeft}
 use Rattle.script_run.specs.declared.running.ProcessLeft.{ProcessLeft}
@@ -31,7 +31,7 @@ abbrev pub port_left : ClosedPort → PortLeft
 port_left port = record { config = port.config; events = port.events; journal = port.journal }
 
 -- so do those of each port
-pub record ArePortParts (closed : List ClosedPort) (parts : PortParts) : Type 0 where
+pub record ArePartedPorts (closed : List ClosedPort) (parts : PartedPorts) : Type 0 where
   pub left : parts.left.items ≡ map port_left closed
   pub ends_are : map (λ r. r.items) parts.peers.ends.items ≡ map (λ (c : ClosedPort). c.mailboxes) closed
   pub seats_are : parts.peers.seats.items ≡ map (λ (c : ClosedPort). c.seat) closed

@@ -4,6 +4,7 @@ use Rattle.std.specs.List.Sorted.{IsStrictlyIncreasing}
 use Rattle.driver_model.specs.Calls.{Kind, Own}
 use Rattle.driver_model.specs.Drivers.{kind_name, refusal_of}
 use Rattle.driver_model.specs.Programs.{ToldProgram}
+use Rattle.port_driver.specs.Faults.{failures_in, RisenBy}
 use Rattle.port_driver.specs.declared.life.Life.{Life}
 use Rattle.port_history.specs.Lawful.{Lawful, IsFinished}
 use Rattle.port_history.specs.Mail.{mails}
@@ -127,6 +128,14 @@ module _ {D : Type 0} where
         (calls_of (length script.ports.items) (slice_index_or script.programs.items s p) (slice_index_or ran.processes.items s l)) (came s)
     pub words : PortWordsHold number (length script.programs.items) (kind driver) decl port (all_calls (length script.ports.items) script.programs.items ran.processes.items)
 
+  -- A driver that served this port counted each failure that the port's rows tell: its count of faults rose by as many from that with which it was handed in, or stands at its end
+  pub record HasCounted (faults : D → ℕ) (port : PortLeft) (old new : Hosted D) : Type 0 where
+    pub before : D
+    pub after : D
+    pub handed : old.driver ≡ Some before
+    pub back : new.driver ≡ Some after
+    pub failed : RisenBy (failures_in port.journal.rows) (faults before) (faults after)
+
   -- The run of a script was made, with the drivers that the search finds for its ports. They are back, each with its port and stopped, and the others are as they were handed in. No port was told of an event
   -- and a direction more often than the event was answered: `before` and `after` are all events that waits of the poll set had answered, as the call began and at its end
   pub record HasRun (kind : D → Kind) (stage : D → Life) (faults : D → ℕ) (own : D → Own) (program : D → Option ToldProgram) (script : RunScript) (old new : List (Hosted D)) (before : List ℕ)
@@ -139,6 +148,8 @@ module _ {D : Type 0} where
     pub came : ℕ → List Came
     pub ports : (k : ℕ) (decl : PortDecl) (p : PortLeft) (h : Hosted D) → k < length script.ports.items
         → PortServed kind own program script ran came k (slice_index_or script.ports.items k decl) (slice_index_or ran.ports.items k p) (slice_index_or new (slice_index places k) h)
+    pub counted : (k : ℕ) (p : PortLeft) (h : Hosted D) → k < length script.ports.items
+        → HasCounted faults (slice_index_or ran.ports.items k p) (slice_index_or old (slice_index places k) h) (slice_index_or new (slice_index places k) h)
     pub processes : (s : ℕ) (p : Program) (l : ProcessLeft) → s < length script.programs.items
         → ProcessHolds (length script.ports.items) (soft_at kind old places) (slice_index_or script.programs.items s p)
         (calls_of (length script.ports.items) (slice_index_or script.programs.items s p) (slice_index_or ran.processes.items s l))

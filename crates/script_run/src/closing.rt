@@ -11,7 +11,7 @@ ghost use Rattle.run_setting.specs.Jobs.{HaveRunIn};
 ghost use Rattle.script_run.specs.Left.{AreJobParts, CanGather, HasEndedIn, HaveJobParts, IsGathered, IsLeft};
 ghost use Rattle.script_run.specs.Parted.{ran_processes};
 
-use crate::parting::{PortParts, ProcessParts, part_ports, part_processes, processes_left};
+use crate::parting::{PartedPorts, ProcessParts, part_ports, part_processes, processes_left};
 use crate::running::ScriptRan;
 use async_jobs::WorkItem;
 use closed_lanes::{ClosedPort, LaneEnds, close_lanes};
@@ -40,7 +40,7 @@ fn gather<R: Wait>(
     requires { (s : Setting) × (names : List BodyName) × (ran : List RanProcess) × CanGather s names ran closed.items receipts.items peers }
     ensures { (s : Setting) (names : List BodyName) (ran : List RanProcess) → CanGather s names ran closed.items receipts.items peers → IfOk result (IsGathered s ran closed.items) }
 {
-    let PortParts {
+    let PartedPorts {
         left: ports,
         peers: port_peers,
     } = part_ports(alloc, closed)?;
@@ -51,7 +51,7 @@ fn gather<R: Wait>(
 
 /// What the jobs of a run leave, by those who need it: the ends of its lanes, the receipts of the processes, and what ties these to the ports.
 #[derive(Drop)]
-struct JobParts {
+struct PartedJobs {
     ends: LaneEnds,
     receipts: Vec<Receipts>,
     peers: ProcessPeers,
@@ -64,7 +64,7 @@ fn close_parts<D: Driver, R: Wait>(
     hosts: &mut Vec<Hosted<D>>,
     places: &[usize],
     bodies: Vec<Body<D>>,
-    parts: JobParts,
+    parts: PartedJobs,
 ) -> Result<ScriptRan, NoMemory>
     requires len { length places.now ≡ length bodies.items }
     requires within { All (λ at. at < length hosts.old.items) places.now }
@@ -72,9 +72,9 @@ fn close_parts<D: Driver, R: Wait>(
     requires ended { (s : Setting) × (ran : List RanProcess) × HaveJobParts s (map name_of bodies.items) ran parts.ends parts.receipts.items parts.peers }
     ensures returned { HaveComeBack D.kind D.stage D.faults D.own D.program bodies.items places.now hosts.old.items hosts.new.items }
     ensures left { (s : Setting) (ran : List RanProcess) → HaveJobParts s (map name_of bodies.items) ran parts.ends parts.receipts.items parts.peers
-        → IfOk result (IsLeft D.kind D.own D.program s ran parts.ends.poller.items (map name_of bodies.items) places.now hosts.new.items) }
+        → IfOk result (IsLeft D.kind D.faults D.own D.program s ran parts.ends.poller.items (map name_of bodies.items) places.now hosts.new.items) }
 {
-    let JobParts {
+    let PartedJobs {
         ends,
         receipts,
         peers,
@@ -91,7 +91,7 @@ fn job_parts(
     poller: Vec<SendEnd<Parcel>>,
     workers: Vec<WorkerLeft>,
     finish: Vec<SendEnd<WorkItem>>,
-) -> Result<JobParts, NoMemory>
+) -> Result<PartedJobs, NoMemory>
     ensures { IfOk result (λ parts. AreJobParts processes.items poller.items workers.items finish.items parts.ends parts.receipts.items parts.peers) }
 {
     let ProcessParts {
@@ -105,7 +105,7 @@ fn job_parts(
         workers,
         finish,
     };
-    Ok(JobParts {
+    Ok(PartedJobs {
         ends,
         receipts,
         peers,
@@ -127,7 +127,7 @@ pub(crate) fn close_run<D: Driver, S: PollSet + Drop, R: Wait>(
     requires ended { (s : Setting) × (plans : List Plan) × (poll : S) × HasEndedIn S.faults S.answered s plans poll (map name_of bodies.items) jobs }
     ensures returned { HaveComeBack D.kind D.stage D.faults D.own D.program bodies.items places.now hosts.old.items hosts.new.items }
     ensures left { (s : Setting) (plans : List Plan) (poll : S) → HasEndedIn S.faults S.answered s plans poll (map name_of bodies.items) jobs
-        → IfOk result.0 (IsLeft D.kind D.own D.program s (ran_processes plans jobs.processes.items) jobs.poller.lanes.items (map name_of bodies.items) places.now hosts.new.items) }
+        → IfOk result.0 (IsLeft D.kind D.faults D.own D.program s (ran_processes plans jobs.processes.items) jobs.poller.lanes.items (map name_of bodies.items) places.now hosts.new.items) }
     ensures poll { result.1 ≡ jobs.poller.watch.poll }
 {
     let EndedJobs {

@@ -1,6 +1,6 @@
 //! What the ports and the processes of a run leave is taken apart, each part by place.
 ghost use Rattle.std.specs.Prelude.{◌≡◌, length, IfOk};
-ghost use Rattle.script_run.specs.Parted.{AreLeftOf, ArePortParts, AreProcessParts};
+ghost use Rattle.script_run.specs.Parted.{AreLeftOf, ArePartedPorts, AreProcessParts};
 
 use crate::running::{PortLeft, ProcessLeft};
 use closed_lanes::ClosedPort;
@@ -25,7 +25,7 @@ pub(crate) struct ProcessParts {
 
 /// What is reported of each port, and what ties it to the processes.
 #[derive(Drop)]
-pub(crate) struct PortParts {
+pub(crate) struct PartedPorts {
     pub(crate) left: Vec<PortLeft>,
     pub(crate) peers: PortPeers,
 }
@@ -69,8 +69,8 @@ pub(crate) fn part_processes(
 }
 
 /// Takes the ports apart.
-pub(crate) fn part_ports(alloc: Global, closed: Vec<ClosedPort>) -> Result<PortParts, NoMemory>
-    ensures { IfOk result (ArePortParts closed.items) }
+pub(crate) fn part_ports(alloc: Global, closed: Vec<ClosedPort>) -> Result<PartedPorts, NoMemory>
+    ensures { IfOk result (ArePartedPorts closed.items) }
 {
     let mut left = Vec::new(alloc);
     let mut ends = Vec::new(alloc);
@@ -92,7 +92,7 @@ pub(crate) fn part_ports(alloc: Global, closed: Vec<ClosedPort>) -> Result<PortP
         seats.push(seat)?;
     }
     let peers = PortPeers { ends, seats };
-    Ok(PortParts { left, peers })
+    Ok(PartedPorts { left, peers })
 }
 
 /// What each process leaves: its receipts and its mail.

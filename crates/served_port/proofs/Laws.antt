@@ -1,7 +1,7 @@
 -- A task's row keeps the laws where it is handled exactly as the port's state says.
 use Rattle.std.proofs.Common.{◌≡◌, ℕ, Bool, true, false, ◌&&◌, List, refl, ap}
 use Rattle.std.specs.Prelude.{not, if◌then◌else◌}
-use Rattle.port_model.specs.port_signal.declared.row.Outside.{Outside}
+use Rattle.port_model.specs.port_signal.declared.outside.Outside.{Outside}
 use Rattle.port_model.specs.declared.effect.Effect.{Effect}
 use Rattle.port_model.specs.declared.row.Row.TheVariants.{Handled, Late}
 use Rattle.port_model.specs.declared.signal.Sender.{Sender}

@@ -4,7 +4,7 @@ use Rattle.std.specs.Prelude.{not, if◌then◌else◌}
 use Rattle.port_driver.specs.driver_model.Calls.{DriverCall}
 use Rattle.port_driver.specs.driver_model.Drivers.{held_events, held_by, effects_of}
 use Rattle.port_driver.specs.Context.{SameEvents}
-use Rattle.port_model.specs.port_signal.declared.row.MarkKind.{MarkKind}
+use Rattle.port_model.specs.port_signal.declared.mark.MarkKind.{MarkKind}
 use Rattle.port_model.specs.declared.event.Dir.{Dir}
 use Rattle.port_model.specs.declared.event.Dir.TheVariants.{Read, Write}
 use Rattle.port_model.specs.declared.row.Row.TheVariants.{Listed, Resumed, Mark}

@@ -1,8 +1,9 @@
 -- Which tasks a port handles and which it finds late, and what that leaves.
-use Rattle.std.specs.Prelude.{◌≡◌, ℕ, List, ◌++◌, Bool, true, false, ◌&&◌, not, is_some}
+use Rattle.std.specs.Prelude.{◌≡◌, ℕ, List, [], ◌++◌, Bool, true, false, ◌&&◌, not, is_some}
 use Rattle.async_jobs.specs.declared.job.Job.{Job}
 use Rattle.async_jobs.specs.Order.{AllSubmitted}
 use Rattle.async_jobs.specs.Pool.{Lanes}
+use Rattle.port_model.specs.port_signal.declared.outside.Outside.{Outside}
 use Rattle.port_model.specs.declared.effect.Effect.{Effect}
 use Rattle.port_model.specs.declared.row.Row.{Row}
 use Rattle.port_model.specs.declared.row.Row.TheVariants.{Handled, Late}
@@ -20,8 +21,8 @@ use Rattle.port_events.specs.Asks.{asks_of}
 use Rattle.port_jobs.specs.Jobs.{AreJobsOf}
 use Rattle.port_state.specs.port_mail.Rows.{IsRowOf}
 use Rattle.port_state.specs.declared.served.Served.{Served}
-use Rattle.served_port.specs.declared.outcome.Outcome.{Outcome}
-use Rattle.served_port.specs.declared.outcome.Outcome.TheVariants as outcome
+use Rattle.served_port.specs.declared.outcome.HandledOrLate.{HandledOrLate}
+use Rattle.served_port.specs.declared.outcome.HandledOrLate.TheVariants as outcome
 use Rattle.served_port.specs.View.{ServedView, IsAt}
 
 -- the port handles a task: a process's where it is open, a ready event's where the driver selected it and it is armed, a dropped event's where it
@@ -77,6 +78,11 @@ pub record IsLateRow (port : Opening) (s : State) (from : Sender) (seq : ℕ) (t
   pub asks : new.events.asks ≡ old.events.asks
   pub jobs : new.jobs.lanes ≡ old.jobs.lanes
 
-abbrev pub IsOutcome : Outcome → Opening → State → Sender → ℕ → TaskView → ServedView → ServedView → Type 0
+abbrev pub IsOutcome : HandledOrLate → Opening → State → Sender → ℕ → TaskView → ServedView → ServedView → Type 0
 IsOutcome (outcome.Handled made) port s from seq task old new = IsHandledRow port s from seq task made old new
 IsOutcome outcome.Late port s from seq task old new = IsLateRow port s from seq task old new
+
+-- the outside's answers in the row of a task
+abbrev pub answers_in : HandledOrLate → List Outside
+answers_in (outcome.Handled made) = made.outside
+answers_in outcome.Late = []

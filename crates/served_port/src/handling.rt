@@ -1,5 +1,6 @@
 //! A task that the port handles or finds late.
 ghost use Rattle.std.specs.Prelude.{◌≡◌, ◌≤◌, [], ℕ, true, is_some, IfOk, OnOk};
+ghost use Rattle.port_driver.specs.Faults.{failures, RisenBy};
 ghost use Rattle.port_events.specs.port_history.Opening.{Opening, taken_of};
 ghost use Rattle.port_events.specs.port_history.State.{State, after};
 ghost use Rattle.port_jobs.specs.Jobs.{Submits};
@@ -9,12 +10,12 @@ ghost use Rattle.port_model.specs.declared.row.Row.TheVariants.{Late};
 ghost use Rattle.port_state.specs.View.{IsSamePort};
 ghost use Rattle.port_state.specs.Served.{IsServed};
 ghost use Rattle.served_port.specs.View.{IsAt, IsSameServed, IsSomewhere, end_names};
-ghost use Rattle.served_port.specs.Outcomes.{is_handled, IsOutcome};
+ghost use Rattle.served_port.specs.Outcomes.{answers_in, is_handled, IsOutcome};
 ghost use Rattle.served_port.specs.Steps.{Handles, Follows};
 
-use crate::{Driver, Effect, NoMemory, Outcome, Sender, Served, ServedPort, Signal};
+use crate::{Driver, Effect, HandledOrLate, NoMemory, Sender, Served, ServedPort, Signal};
 use port_driver::Life;
-use port_events::{Ending, EventFault};
+use port_events::{AfterTask, EventFault};
 use port_jobs::SubmitFault;
 use std::alloc::Global;
 use std::sync::Wait;
@@ -45,20 +46,21 @@ impl<D: Driver> ServedPort<D> {
         from: Sender,
         seq: u64,
         signal: &Signal,
-    ) -> Result<Outcome, NoMemory>
+    ) -> Result<HandledOrLate, NoMemory>
         requires among { IsAmong self.old.state.links.processes from }
         requires at { IsSomewhere self.old }
         ensures same { IsSameServed self.old self.new }
+        ensures failed { IfOk result (λ outcome. RisenBy (failures (answers_in outcome)) self.old.state.service.faults self.new.state.service.faults) }
         ensures outcome { IfOk result (λ outcome. (port : Opening) (s : State) (task : TaskView) → task.signal ≡ signal.now → IsAt self.old port s → s.due ≡ []
             → IsOutcome outcome port s from seq task self.old self.new) }
     {
         if !self.handles(from, signal) {
             self.note_late(from, signal)?;
-            return Ok(Outcome::Late);
+            return Ok(HandledOrLate::Late);
         }
         let served = self.serve(alloc, from, seq, signal)?;
         self.follow(rt, alloc, signal, &served)?;
-        Ok(Outcome::Handled(served))
+        Ok(HandledOrLate::Handled(served))
     }
 
     /// Calls the driver for a task that the port handles. A dropped event is told to nobody but `stop_select` once the driver is stopped.
@@ -73,6 +75,7 @@ impl<D: Driver> ServedPort<D> {
         requires handled { Handles self.old from signal.now }
         ensures same { IsSamePort self.old.state self.new.state }
         ensures faults { self.old.state.service.faults ≤ self.new.state.service.faults }
+        ensures failed { IfOk result (λ made. RisenBy (failures made.outside) self.old.state.service.faults self.new.state.service.faults) }
         ensures life { self.new.state.service.stage ≡ Life.Fresh → self.old.state.service.stage ≡ Life.Fresh }
         ensures rest { (self.new.events ≡ self.old.events) × (self.new.jobs ≡ self.old.jobs) }
         ensures serves { IfOk result (λ made. (port : Opening) (s : State) (task : TaskView) → task.signal ≡ signal.now → IsAt self.old port s → s.due ≡ []
@@ -123,7 +126,7 @@ impl<D: Driver> ServedPort<D> {
         ensures state { self.new.state ≡ record self.old.state { service = record self.old.state.service { faults = self.new.state.service.faults } } }
         ensures follows { OnOk result (Follows signal.now served.now.effects (is_some self.old.state.reason) served.now.closing.stops self.old self.new) }
     {
-        let ending = Ending {
+        let ending = AfterTask {
             closed: !self.state.is_open(),
             stops: served.closing.stops,
         };

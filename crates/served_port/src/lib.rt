@@ -15,7 +15,7 @@ mod served_port;
 
 pub use async_jobs::Pool;
 pub use ends::{PortEnds, PortPlace};
-pub use outcome::Outcome;
+pub use outcome::HandledOrLate;
 pub use port_driver::{Config, Driver, StartRefusal};
 pub use port_links::Links;
 pub use port_model::{Effect, MarkKind, NoMemory, Sender, Signal};

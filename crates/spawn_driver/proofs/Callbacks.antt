@@ -4,7 +4,7 @@ use Rattle.std.specs.Prelude.{IsSome, OnOk}
 use Rattle.std.specs.Result.{is_err}
 use Rattle.std.proofs.lemmas.List.{take-take, length-take}
 use Rattle.std.proofs.lemmas.List.Elements.{All-nil, All-cons}
-use Rattle.port_signal.specs.declared.row.Outside.TheVariants.{Failed, Status}
+use Rattle.port_signal.specs.declared.outside.Outside.TheVariants.{Failed, Status}
 use Rattle.driver_model.specs.Calls.{Callback, ReadyInput, ReadyOutput, Program, Running, Spawn}
 use Rattle.outside.specs.declared.child.StatusGot.{StatusGot}
 use Rattle.outside.specs.declared.child.StatusGot.TheVariants as got

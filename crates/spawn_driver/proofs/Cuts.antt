@@ -13,7 +13,7 @@ use Rattle.packet_framing.specs.Lines.{message}
 use Rattle.packet_framing.specs.Messages.{IsServed, IsStreamed, StreamMessages}
 use Rattle.packet_framing.specs.Unframed.{Unframes}
 use Rattle.packet_framing.specs.Unframed.{Unframed as Unframer}
-use Rattle.port_signal.specs.declared.row.Outside.TheVariants.{Got}
+use Rattle.port_signal.specs.declared.outside.Outside.TheVariants.{Got}
 use Rattle.port_model.specs.declared.effect.Effect.{Effect}
 use Rattle.port_model.specs.declared.effect.Effect.TheVariants.{Fail}
 use Rattle.driver_model.specs.Calls.{ReadyInput, DriverCall, call_of, cut_of, Program, Running, Spawn}

@@ -9,7 +9,7 @@ use Rattle.packet_framing.specs.Messages.{IsServed, rest_of}
 use Rattle.packet_framing.specs.Unframed.{Unframes, HasOversize}
 use Rattle.packet_framing.proofs.Laws.{rest_is}
 use Rattle.port_config.specs.declared.config.Config.{Config}
-use Rattle.port_signal.specs.declared.row.Outside.TheVariants.{Got}
+use Rattle.port_signal.specs.declared.outside.Outside.TheVariants.{Got}
 use Rattle.port_model.specs.declared.effect.Effect.{Effect}
 use Rattle.port_model.specs.declared.effect.Effect.TheVariants.{Fail}
 use Rattle.driver_model.specs.Calls.{ReadyInput, DriverCall, call_of, cut_of, Program, Running, Spawn, is_empty}

@@ -4,7 +4,7 @@ use Rattle.std.specs.Prelude.{if◌then◌else◌, map}
 use Rattle.std.proofs.lemmas.List.{append-nil}
 use Rattle.packet_framing.specs.declared.message.Message.{Message as Unframed}
 use Rattle.port_config.specs.declared.config.Config.{Config}
-use Rattle.port_signal.specs.declared.row.Outside.{Outside}
+use Rattle.port_signal.specs.declared.outside.Outside.{Outside}
 use Rattle.port_model.specs.declared.event.Dir.{Dir}
 use Rattle.port_model.specs.declared.effect.Effect.{Effect}
 use Rattle.port_model.specs.declared.effect.Effect.TheVariants.{Eof, Busy, Select, Fail}

@@ -5,8 +5,8 @@ use Rattle.std.proofs.Math.Dec.{eqb-suc-zero}
 use Rattle.std.proofs.lemmas.Bool.{eqb-true}
 use Rattle.std.proofs.lemmas.List.{append-nil, append_cancel_left}
 use Rattle.port_config.specs.declared.config.Config.{Config}
-use Rattle.port_signal.specs.declared.row.Outside.{Outside}
-use Rattle.port_signal.specs.declared.row.Outside.TheVariants.{Took, Again, Failed, End}
+use Rattle.port_signal.specs.declared.outside.Outside.{Outside}
+use Rattle.port_signal.specs.declared.outside.Outside.TheVariants.{Took, Again, Failed, End}
 use Rattle.port_model.specs.declared.effect.Effect.{Effect}
 use Rattle.port_model.specs.declared.effect.Effect.TheVariants.{Fail, ReplyBadarg}
 use Rattle.driver_model.specs.Calls.{Callback, Outputv, Control, Call, ReadyInput, ReadyOutput, ReadyAsync, ProcessExit, Flush, DriverCall, call_of, Program, Running, Spawn}

@@ -1,20 +1,15 @@
 -- The answers that a callback recorded are those of its program.
-use Rattle.std.specs.Prelude.{◌≡◌, ◌≤◌, ◌<◌, ◌+◌, ◌-◌, ◌^◌, ℕ, min, List, [], ◌∷◌, ◌++◌, length, false, All, Option, None, Some, IfSome}
-use Rattle.port_signal.specs.declared.row.Outside.{Outside}
-use Rattle.port_signal.specs.declared.row.Outside.TheVariants.{Took, Again, Failed}
+use Rattle.std.specs.Prelude.{◌≡◌, ◌<◌, ℕ, List, [], ◌++◌, length, false, All, Option, None, Some, IfSome}
+use Rattle.port_signal.specs.declared.outside.Outside.{Outside}
+use Rattle.port_signal.specs.declared.outside.Outside.TheVariants.{Took, Again}
 use Rattle.outside.specs.Children.{Stand}
+use Rattle.port_driver.specs.Faults.{failures, RisenBy}
 use Rattle.spawn_driver.specs.Serving.{Serving}
 
 -- how the program of a driver stands, where it tells
 abbrev pub stand_of : Option Serving → Option Stand
 stand_of None = None
 stand_of (Some s) = s.child.stand
-
--- how many of these answers are failures
-abbrev pub failures : List Outside → ℕ
-failures [] = 0
-failures (Failed ∷ answers) = failures answers + 1
-failures (answer ∷ answers) = failures answers
 
 -- a program that stands so answers this: it gives nothing only where it has nothing to give and its output hasn't ended, and takes nothing
 -- of a queue that has bytes only where it takes none now
@@ -27,5 +22,5 @@ IsAnswer queue stand answer = Unit {0}
 pub record Answered (queue : List ℕ) (stand : Option Stand) (before after : ℕ) (old new : List Outside) : Type 0 where
   pub answers : List Outside
   pub outside : new ≡ old ++ answers
-  pub faults : min (before + failures answers) (2 ^ 64 - 1) ≤ after
+  pub faults : RisenBy (failures answers) before after
   pub stands : IfSome stand (λ (s : Stand). All (IsAnswer queue s) answers)

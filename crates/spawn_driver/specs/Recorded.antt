@@ -1,6 +1,6 @@
 -- What a part of a callback records in its context.
 use Rattle.std.specs.Prelude.{◌≡◌, ◌≤◌, ◌+◌, ℕ, List, [], ◌∷◌, ◌++◌, length, Bool, true, false, ◌&&◌, not, nat_le, nat_lt, if◌then◌else◌}
-use Rattle.port_signal.specs.declared.row.Outside.{Outside}
+use Rattle.port_signal.specs.declared.outside.Outside.{Outside}
 use Rattle.port_model.specs.declared.event.Dir.TheVariants.{Write}
 use Rattle.port_model.specs.declared.effect.Effect.{Effect}
 use Rattle.port_model.specs.declared.effect.Effect.TheVariants.{Busy, Select}

@@ -1,7 +1,7 @@
 -- What the driver of a program does with its queue and what it keeps, by the answers of its program.
 use Rattle.std.specs.Prelude.{◌≡◌, ◌+◌, ℕ, List, [], ◌∷◌, ◌++◌, ◌⊎◌, length, drop, map, true, false, ◌&&◌, ◌||◌, nat_le, nat_lt, if◌then◌else◌, codes, Option, None, Some}
-use Rattle.port_signal.specs.declared.row.Outside.{Outside}
-use Rattle.port_signal.specs.declared.row.Outside.TheVariants.{Took, Got, End, Failed, Status}
+use Rattle.port_signal.specs.declared.outside.Outside.{Outside}
+use Rattle.port_signal.specs.declared.outside.Outside.TheVariants.{Took, Got, End, Failed, Status}
 use Rattle.packet_framing.specs.Frames.{frame_of}
 use Rattle.packet_framing.specs.Messages.{last_message}
 use Rattle.packet_framing.specs.Unframed.{Unframes, HasOversize}

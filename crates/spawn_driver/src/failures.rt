@@ -1,7 +1,7 @@
 //! The failures of a port, and what a failed call of its program leaves.
 ghost use Rattle.std.specs.Prelude.{◌≡◌, ◌<◌, ◌++◌, ◌∷◌, [], None, true, length, codes, OnOk};
 ghost use Rattle.port_signal.specs.Name.{name_fault};
-ghost use Rattle.port_signal.specs.declared.row.Outside.TheVariants.{Failed};
+ghost use Rattle.port_signal.specs.declared.outside.Outside.TheVariants.{Failed};
 ghost use Rattle.port_model.specs.declared.effect.Effect.TheVariants.{Fail};
 ghost use Rattle.spawn_driver.specs.Recorded.{Adds, with_effects};
 

@@ -1,7 +1,7 @@
 //! What is read of a program's output.
 ghost use Rattle.std.specs.Prelude.{◌≡◌, ◌≤◌, ◌+◌, ◌++◌, ◌∷◌, [], length, OnOk};
 ghost use Rattle.packet_framing.specs.Messages.{IsServed};
-ghost use Rattle.port_signal.specs.declared.row.Outside.TheVariants.{Got};
+ghost use Rattle.port_signal.specs.declared.outside.Outside.TheVariants.{Got};
 ghost use Rattle.spawn_driver.specs.Recorded.{Adds, with_answers};
 ghost use Rattle.spawn_driver.specs.Steps.{Receives};
 

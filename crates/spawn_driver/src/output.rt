@@ -1,7 +1,7 @@
 //! What is written to a program.
 ghost use Rattle.std.specs.Prelude.{◌≡◌, ◌≤◌, ◌<◌, ◌++◌, ◌&&◌, ◌||◌, ◌∷◌, [], nat_le, length, take, min, if◌then◌else◌, IfOk, OnOk};
 ghost use Rattle.std.specs.List.{concat};
-ghost use Rattle.port_signal.specs.declared.row.Outside.TheVariants.{Took};
+ghost use Rattle.port_signal.specs.declared.outside.Outside.TheVariants.{Took};
 ghost use Rattle.port_model.specs.declared.effect.Effect.TheVariants.{Select};
 ghost use Rattle.spawn_driver.specs.Recorded.{Adds, with_effects, with_answers, write_selected, write_deselected, busy_set, busy_cleared};
 ghost use Rattle.spawn_driver.specs.Steps.{Queues, QueuesFrame, Takes};

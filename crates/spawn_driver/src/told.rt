@@ -1,6 +1,6 @@
 //! What the answers of a row tell of a program.
 ghost use Rattle.std.specs.Prelude.{◌≡◌, ◌≤◌, ◌∷◌, ℕ, true, false, length, MatchOption, OnOk};
-ghost use Rattle.port_signal.specs.declared.row.Outside.TheVariants as said;
+ghost use Rattle.port_signal.specs.declared.outside.Outside.TheVariants as said;
 ghost use Rattle.driver_model.specs.Calls.{ReadyInput};
 ghost use Rattle.driver_model.specs.Spawn.{answers_fetch};
 ghost use Rattle.spawn_driver.specs.Recorded.{Adds};

@@ -2,7 +2,7 @@
 ghost use Rattle.std.specs.Prelude.{◌≡◌, IfOk};
 ghost use Rattle.outside.specs.Programs.{shown};
 
-use crate::port::{Port, fresh_context, options, spawner};
+use crate::port::{ProgramPort, fresh_context, options, spawner};
 use outside::{MemChild, MemProgram, MemSpawner, NoMemory, SpawnFault, Spawner};
 use packet_framing::Mode;
 use port_driver::{Driver, Life, StartRefusal};
@@ -53,7 +53,7 @@ impl Spawner for FaultySpawner {
 }
 
 /// A port of a program that ends at once, in whose queue is `abc`. The planned call is to fail.
-fn faulty(alloc: Global, planned: Planned) -> Result<Port<SpawnDriver<FaultySpawner>>, Fail>
+fn faulty(alloc: Global, planned: Planned) -> Result<ProgramPort<SpawnDriver<FaultySpawner>>, Fail>
     ensures { IfOk result (λ port. port.driver.life ≡ Life.Started) }
 {
     let mut program = MemProgram::new(alloc, 2);
@@ -62,13 +62,17 @@ fn faulty(alloc: Global, planned: Planned) -> Result<Port<SpawnDriver<FaultySpaw
     let faulty = FaultySpawner { spawner, planned };
     let mut config = options(alloc, Mode::Stream)?;
     config.exit_status = true;
-    let mut port = Port::open(alloc, spawn_driver(faulty), &config)?;
+    let mut port = ProgramPort::open(alloc, spawn_driver(faulty), &config)?;
     port.takes(alloc, b"abc", b"write on;")?;
     Ok(port)
 }
 
 /// Whether a call because there is room to write is recorded so, and leaves nothing queued.
-fn writes_last<D: Driver>(alloc: Global, port: &mut Port<D>, wanted: &[u8]) -> Result<bool, Fail>
+fn writes_last<D: Driver>(
+    alloc: Global,
+    port: &mut ProgramPort<D>,
+    wanted: &[u8],
+) -> Result<bool, Fail>
     requires { D.stage port.old.driver ≡ Life.Started }
 {
     let shows = port.writes(alloc, wanted)?;
@@ -76,7 +80,11 @@ fn writes_last<D: Driver>(alloc: Global, port: &mut Port<D>, wanted: &[u8]) -> R
 }
 
 /// Whether a call because there is something to read is recorded so, and leaves nothing queued.
-fn reads_last<D: Driver>(alloc: Global, port: &mut Port<D>, wanted: &[u8]) -> Result<bool, Fail>
+fn reads_last<D: Driver>(
+    alloc: Global,
+    port: &mut ProgramPort<D>,
+    wanted: &[u8],
+) -> Result<bool, Fail>
     requires { D.stage port.old.driver ≡ Life.Started }
 {
     let shows = port.reads(alloc, wanted)?;

@@ -1,7 +1,7 @@
 //! What a program is given.
 ghost use Rattle.std.specs.Prelude.{◌≡◌};
 
-use crate::port::{Port, framed, options, serve};
+use crate::port::{ProgramPort, framed, options, serve};
 use outside::MemProgram;
 use packet_framing::Mode;
 use port_driver::{Driver, Life};
@@ -19,7 +19,11 @@ fn a_program_takes_of_one_offer_what_it_can(rt: HostRuntime) -> Result<(), Fail>
 }
 
 /// Whether two commands select the write event once and queue these bytes.
-fn queues_both<D: Driver>(alloc: Global, port: &mut Port<D>, queued: &[u8]) -> Result<bool, Fail>
+fn queues_both<D: Driver>(
+    alloc: Global,
+    port: &mut ProgramPort<D>,
+    queued: &[u8],
+) -> Result<bool, Fail>
     requires { D.stage port.old.driver ≡ Life.Started }
 {
     let first = port.takes(alloc, b"ab", b"write on;")?;
@@ -42,7 +46,7 @@ fn a_second_command_selects_nothing_more(rt: HostRuntime) -> Result<(), Fail> {
 /// Whether data of so many bytes is recorded so.
 fn takes_many<D: Driver>(
     alloc: Global,
-    port: &mut Port<D>,
+    port: &mut ProgramPort<D>,
     count: usize,
     wanted: &[u8],
 ) -> Result<bool, Fail>
@@ -71,7 +75,7 @@ fn data_of_256_bytes_is_too_long_for_one_byte_of_length(rt: HostRuntime) -> Resu
 }
 
 /// Whether three bytes make a port busy, and two that are taken free it.
-fn is_filled_and_freed<D: Driver>(alloc: Global, port: &mut Port<D>) -> Result<bool, Fail>
+fn is_filled_and_freed<D: Driver>(alloc: Global, port: &mut ProgramPort<D>) -> Result<bool, Fail>
     requires { D.stage port.old.driver ≡ Life.Started }
 {
     let filled = port.takes(alloc, b"abc", b"write on;busy;")?;

@@ -19,7 +19,7 @@ const WRITE: u32 = 11;
 
 /// A started driver and its queue.
 #[derive(Drop)]
-pub(crate) struct Port<D: Driver> {
+pub(crate) struct ProgramPort<D: Driver> {
     driver: D,
     queue: DriverQueue,
 }
@@ -44,11 +44,11 @@ pub(crate) fn serve(
     alloc: Global,
     program: MemProgram,
     config: &Config,
-) -> Result<Port<SpawnDriver<MemSpawner>>, Fail>
+) -> Result<ProgramPort<SpawnDriver<MemSpawner>>, Fail>
     ensures { IfOk result (λ port. port.driver.life ≡ Life.Started) }
 {
     let spawner = spawner(alloc, program)?;
-    Port::open(alloc, spawn_driver(spawner), config)
+    ProgramPort::open(alloc, spawn_driver(spawner), config)
 }
 
 /// A port of this program, with this framing.
@@ -56,7 +56,7 @@ pub(crate) fn framed(
     alloc: Global,
     program: MemProgram,
     mode: Mode,
-) -> Result<Port<SpawnDriver<MemSpawner>>, Fail>
+) -> Result<ProgramPort<SpawnDriver<MemSpawner>>, Fail>
     ensures { IfOk result (λ port. port.driver.life ≡ Life.Started) }
 {
     let config = options(alloc, mode)?;
@@ -73,9 +73,9 @@ pub(crate) fn fresh_context(alloc: Global) -> Result<DriverCtx, Fail>
     }
 }
 
-impl<D: Driver> Port<D> {
+impl<D: Driver> ProgramPort<D> {
     /// A port that this driver serves.
-    pub(crate) fn open(alloc: Global, driver: D, config: &Config) -> Result<Port<D>, Fail>
+    pub(crate) fn open(alloc: Global, driver: D, config: &Config) -> Result<ProgramPort<D>, Fail>
         requires { D.stage driver ≡ Life.Fresh }
         ensures { IfOk result (λ port. D.stage port.driver ≡ Life.Started) }
     {
@@ -85,7 +85,7 @@ impl<D: Driver> Port<D> {
             return Err("the driver refused".into());
         }
         let (queue, _, _) = ctx.finish();
-        Ok(Port { driver, queue })
+        Ok(ProgramPort { driver, queue })
     }
 
     /// Whether these bytes are queued.

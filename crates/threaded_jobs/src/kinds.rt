@@ -1,5 +1,5 @@
 use outside::PollSet;
-use port_sched::{Job, PortBody};
+use port_sched::{PortBody, ThreadJob};
 use process_job::ProcessJob;
 use run_jobs::{FinishJob, PollerJob, WorkerJob};
 use std::sync::Wait;
@@ -13,7 +13,7 @@ pub enum RunJob<B: PortBody, S: PollSet> {
     Finish(FinishJob),
 }
 
-impl<B: PortBody, S: PollSet> Job for RunJob<B, S> {
+impl<B: PortBody, S: PollSet> ThreadJob for RunJob<B, S> {
     ghost use Rattle.threaded_jobs.specs.Kinds.{CanGo, HasGone};
 
     ghost can_run = { CanGo };

@@ -12,7 +12,7 @@ use Rattle.atomic_blocks.specs.Lent.{RowsId}
 use Rattle.atomic_table.specs.Seated.{TableId}
 use Rattle.port_words.specs.home.Home.{IsNamed}
 use Rattle.port_words.specs.home.Seats.{HomeKnown}
-use Rattle.run_queue.specs.declared.account.Hand.{Hand}
+use Rattle.run_queue.specs.declared.account.QueueHand.{QueueHand}
 use Rattle.run_queue.specs.Account.{hand, all_parts, parts_of}
 use Rattle.run_queue.specs.Seats.{DequeKnown, RunKnown, the_own, joined_deque, joined_deques, joined_seat, changed_at, with_own, guest_end, fresh_seat, HasAll, AreOfOneQueue}
 use Rattle.run_queue.proofs.SeatLemmas.{all_from_get}
@@ -59,7 +59,7 @@ pub record QueueFrom (ids : List RowsId) (injector : WebId) (number count rest :
   pub below : (m : ℕ) (k : DequeKnown) → slice_get s.deques m ≡ Some k → m < number → (has_owner k ≡ false) × (parts_in k ≡ count)
   pub above : (m : ℕ) (k : DequeKnown) → slice_get s.deques m ≡ Some k → number ≤ m → (has_owner k ≡ true) × (parts_in k ≡ count + rest)
 
-fresh_ids : (v : Hand) (most number : ℕ) (ids : List RowsId) → map (λ (k : DequeKnown). k.deque) (changed_at (with_own v) number (map (guest_end most) ids)) ≡ ids
+fresh_ids : (v : QueueHand) (most number : ℕ) (ids : List RowsId) → map (λ (k : DequeKnown). k.deque) (changed_at (with_own v) number (map (guest_end most) ids)) ≡ ids
 fresh_ids v most number [] = refl
 fresh_ids v most zero (x ∷ xs) = ap (λ l. x ∷ l) (plain xs)
   where
@@ -74,13 +74,13 @@ Owns parts k = (has_owner k ≡ true) × (parts_in k ≡ parts)
 Visits : ℕ → DequeKnown → Type 0
 Visits parts k = (has_owner k ≡ false) × (parts_in k ≡ parts)
 
-fresh_owner : (v : Hand) (most : ℕ) (id : RowsId) → (has_owner (with_own v (guest_end most id)) ≡ true) × (parts_in (with_own v (guest_end most id)) ≡ 1 + v.parts)
+fresh_owner : (v : QueueHand) (most : ℕ) (id : RowsId) → (has_owner (with_own v (guest_end most id)) ≡ true) × (parts_in (with_own v (guest_end most id)) ≡ 1 + v.parts)
 fresh_owner v most id = (refl, omega (arith, sum_by-cons parts_of v (hand 1 [] [] ∷ []), sum_by-cons parts_of (hand 1 [] []) []))
 
 fresh_guest : (most : ℕ) (id : RowsId) → (has_owner (guest_end most id) ≡ false) × (parts_in (guest_end most id) ≡ 1)
 fresh_guest most id = (refl, omega (arith, sum_by-cons parts_of (hand 1 [] []) []))
 
-fresh_mine : (v : Hand) (most m number : ℕ) (ids : List RowsId) (k : DequeKnown) → slice_get (changed_at (with_own v) number (map (guest_end most) ids)) m ≡ Some k → m ≡ number
+fresh_mine : (v : QueueHand) (most m number : ℕ) (ids : List RowsId) (k : DequeKnown) → slice_get (changed_at (with_own v) number (map (guest_end most) ids)) m ≡ Some k → m ≡ number
     → (has_owner k ≡ true) × (parts_in k ≡ 1 + v.parts)
 fresh_mine v most m number [] k e same = absurd (none-some k e)
 fresh_mine v most zero zero (x ∷ xs) k e same = subst (λ (d : DequeKnown). (has_owner d ≡ true) × (parts_in d ≡ 1 + v.parts)) (same_Some (with_own v (guest_end most x)) k e) (fresh_owner v most x)
@@ -93,7 +93,7 @@ fresh_plain most m [] k e = absurd (none-some k e)
 fresh_plain most zero (x ∷ xs) k e = subst (λ (d : DequeKnown). (has_owner d ≡ false) × (parts_in d ≡ 1)) (same_Some (guest_end most x) k e) (fresh_guest most x)
 fresh_plain most (suc m) (x ∷ xs) k e = fresh_plain most m xs k e
 
-fresh_other : (v : Hand) (most m number : ℕ) (ids : List RowsId) (k : DequeKnown) → slice_get (changed_at (with_own v) number (map (guest_end most) ids)) m ≡ Some k → m ≢ number
+fresh_other : (v : QueueHand) (most m number : ℕ) (ids : List RowsId) (k : DequeKnown) → slice_get (changed_at (with_own v) number (map (guest_end most) ids)) m ≡ Some k → m ≢ number
     → (has_owner k ≡ false) × (parts_in k ≡ 1)
 fresh_other v most m number [] k e differ = absurd (none-some k e)
 fresh_other v most zero zero (x ∷ xs) k e differ = absurd (differ refl)
@@ -143,15 +143,15 @@ from_last ids injector number rest s one last = record {
   above = λ m k e le. one.mine m k e (let w = slice_get_within s.deques m k e in let l = ids_length ids s one.ids_are in omega arith);
 }
 
-own_has : (a b : Option Hand) → is_some a ≡ false → is_some (the_own a b) ≡ is_some b
+own_has : (a b : Option QueueHand) → is_some a ≡ false → is_some (the_own a b) ≡ is_some b
 own_has None b away = refl
 own_has (Some x) b away = absurd (true≢false away)
 
-own_stays : (a b : Option Hand) → is_some a ≡ true → is_some (the_own a b) ≡ true
+own_stays : (a b : Option QueueHand) → is_some a ≡ true → is_some (the_own a b) ≡ true
 own_stays None b there = absurd (true≢false (sym there))
 own_stays (Some x) b there = refl
 
-pub is_none : (a : Option Hand) → is_some a ≡ false → a ≡ None
+pub is_none : (a : Option QueueHand) → is_some a ≡ false → a ≡ None
 is_none None away = refl
 is_none (Some x) away = absurd (true≢false away)
 

@@ -8,7 +8,7 @@ use Rattle.std.proofs.lemmas.Option.{none-some, slice_get_within}
 use Rattle.atomic_blocks.specs.Laid.{WebId}
 use Rattle.atomic_blocks.specs.Lent.{RowsId}
 use Rattle.port_words.specs.home.Seats.{HomeKnown}
-use Rattle.run_queue.specs.declared.account.Hand.{Hand}
+use Rattle.run_queue.specs.declared.account.QueueHand.{QueueHand}
 use Rattle.run_queue.specs.Account.{hand, all_parts, put_weight, taken_weight}
 use Rattle.run_queue.specs.Seats.{DequeKnown, RunKnown, the_own, hands_of, joined_deque, joined_deques, changed_at, with_own, guest_end, fresh_seat, entry_parts}
 use Rattle.run_queue.proofs.OpeningLemmas.{fresh_row}
@@ -44,14 +44,14 @@ homes_add_up B vs ws same weight = (
   homes_add (λ s. used_at (weight s.port) s) (λ v w e. used_both v w weight e) vs ws same.0 same.1,
 )
 
-pub own_add : (f : Hand → ℕ) (a b : Option Hand) (g h : List Hand) → (a ≡ None) ⊎ (b ≡ None)
+pub own_add : (f : QueueHand → ℕ) (a b : Option QueueHand) (g h : List QueueHand) → (a ≡ None) ⊎ (b ≡ None)
     → sum_by f (option_to_list (the_own a b) ++ (g ++ h)) ≡ sum_by f (option_to_list a ++ g) + sum_by f (option_to_list b ++ h)
 own_add f None b g h apart = omega (arith, sum_by-append f (option_to_list b) (g ++ h), sum_by-append f g h, sum_by-append f (option_to_list b) h)
 own_add f (Some x) None g h apart = omega (arith, sum_by-cons f x (g ++ h), sum_by-append f g h, sum_by-cons f x g)
 own_add f (Some x) (Some y) g h (inl e) = absurd (none-some x (sym e))
 own_add f (Some x) (Some y) g h (inr e) = absurd (none-some y (sym e))
 
-deques_add : (f : Hand → ℕ) (vs ws : List DequeKnown) → length ws ≡ length vs
+deques_add : (f : QueueHand → ℕ) (vs ws : List DequeKnown) → length ws ≡ length vs
     → ((n : ℕ) (k l : DequeKnown) → slice_get vs n ≡ Some k → slice_get ws n ≡ Some l → OwnApart k l)
     → sum_by (λ k. sum_by f (hands_of k)) (joined_deques vs ws) ≡ sum_by (λ k. sum_by f (hands_of k)) vs + sum_by (λ k. sum_by f (hands_of k)) ws
 deques_add f [] [] count apart = refl
@@ -122,7 +122,7 @@ each_once B kept strange left homes run account is_left weight =
     omega arith
 
 -- what new ends of deques weigh
-no_ends : (f : Hand → ℕ) → ((parts : ℕ) → f (hand parts [] []) ≡ 0) → (most : ℕ) (ids : List RowsId) → sum_by (λ k. sum_by f (hands_of k)) (map (guest_end most) ids) ≡ 0
+no_ends : (f : QueueHand → ℕ) → ((parts : ℕ) → f (hand parts [] []) ≡ 0) → (most : ℕ) (ids : List RowsId) → sum_by (λ k. sum_by f (hands_of k)) (map (guest_end most) ids) ≡ 0
 no_ends f none most [] = refl
 no_ends f none most (id ∷ ids) =
     let F : DequeKnown → ℕ = λ k. sum_by f (hands_of k) in
@@ -131,7 +131,7 @@ no_ends f none most (id ∷ ids) =
     let rest : sum_by F (map (guest_end most) ids) ≡ 0 = no_ends f none most ids in
     omega (arith, sum_by-cons F (guest_end most id) (map (guest_end most) ids))
 
-no_row : (f : Hand → ℕ) → ((parts : ℕ) → f (hand parts [] []) ≡ 0) → (parts n most : ℕ) (ids : List RowsId)
+no_row : (f : QueueHand → ℕ) → ((parts : ℕ) → f (hand parts [] []) ≡ 0) → (parts n most : ℕ) (ids : List RowsId)
     → sum_by (λ k. sum_by f (hands_of k)) (changed_at (with_own (hand parts [] [])) n (map (guest_end most) ids)) ≡ 0
 no_row f none parts n most [] = refl
 no_row f none parts zero most (id ∷ ids) =

@@ -9,8 +9,8 @@ use Rattle.packet_framing.specs.declared.mode.Mode.TheVariants.{Stream}
 use Rattle.packet_framing.specs.declared.message.Message.{Message as Unframed}
 use Rattle.packet_framing.specs.Messages.{last_message}
 use Rattle.port_config.specs.declared.config.Config.{Config}
-use Rattle.port_signal.specs.declared.row.Outside.{Outside}
-use Rattle.port_signal.specs.declared.row.Outside.TheVariants.{Got, End, Failed, Status as ToldStatus}
+use Rattle.port_signal.specs.declared.outside.Outside.{Outside}
+use Rattle.port_signal.specs.declared.outside.Outside.TheVariants.{Got, End, Failed, Status as ToldStatus}
 use Rattle.port_model.specs.declared.event.Dir.TheVariants.{Read, Write}
 use Rattle.port_model.specs.declared.effect.Effect.{Effect}
 use Rattle.port_model.specs.declared.effect.Effect.TheVariants.{Async, Eof, Reply, ReplyBadarg, Fail, Select, Watch, Busy}

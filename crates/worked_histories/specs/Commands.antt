@@ -1,7 +1,7 @@
 -- Histories of commands, closes and what is kept for later.
 use Rattle.std.specs.Prelude.{List, [], ◌∷◌, ◌++◌, codes}
 use Rattle.io_vector.specs.declared.flag.Flag.TheVariants.{Plain}
-use Rattle.port_signal.specs.declared.mail.Answer.TheVariants.{True, Badarg}
+use Rattle.port_signal.specs.declared.answer.Answer.TheVariants.{True, Badarg}
 use Rattle.port_model.specs.declared.signal.Signal.TheVariants.{Close}
 use Rattle.port_model.specs.declared.effect.Effect.{Effect}
 use Rattle.port_model.specs.declared.effect.Effect.TheVariants.{Message, ReplyBadarg}

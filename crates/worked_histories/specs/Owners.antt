@@ -1,6 +1,6 @@
 -- Histories of owners, links and monitors.
 use Rattle.std.specs.Prelude.{List, [], ◌∷◌, codes}
-use Rattle.port_signal.specs.declared.mail.Answer.TheVariants.{True}
+use Rattle.port_signal.specs.declared.answer.Answer.TheVariants.{True}
 use Rattle.port_model.specs.declared.signal.Signal.TheVariants.{OwnerClose, Connect, OwnerConnect, Link, Monitor, Demonitor, Exit, Gone}
 use Rattle.port_model.specs.declared.mail.Mail.{Mail}
 use Rattle.port_model.specs.declared.mail.Mail.TheVariants as mail

@@ -3,7 +3,7 @@ use Rattle.std.specs.Prelude.{ℕ, List, [], ◌∷◌, ◌++◌, true, false, c
 use Rattle.io_vector.specs.declared.flag.Flag.TheVariants.{Plain, Eol, Noeol}
 use Rattle.packet_framing.specs.declared.mode.Mode.{Mode}
 use Rattle.port_config.specs.Config.{plain}
-use Rattle.port_signal.specs.declared.row.Outside.TheVariants.{Took, Got, End, Failed}
+use Rattle.port_signal.specs.declared.outside.Outside.TheVariants.{Took, Got, End, Failed}
 use Rattle.port_model.specs.declared.event.Dir.TheVariants.{Read, Write}
 use Rattle.port_model.specs.declared.signal.Signal.TheVariants.{Close, Exit}
 use Rattle.port_model.specs.declared.effect.Effect.{Effect}

@@ -3,8 +3,8 @@ use Rattle.std.specs.Prelude.{ℕ, List, [], ◌∷◌, true, false, Option, Som
 use Rattle.io_vector.specs.declared.flag.Flag.TheVariants.{Plain}
 use Rattle.port_config.specs.declared.config.Config.{Config}
 use Rattle.port_config.specs.Config.{plain}
-use Rattle.port_signal.specs.declared.row.Outside.{Outside}
-use Rattle.port_signal.specs.declared.row.MarkKind.TheVariants.{Busy as BusyMark, Free as FreeMark, Closed as ClosedMark}
+use Rattle.port_signal.specs.declared.outside.Outside.{Outside}
+use Rattle.port_signal.specs.declared.mark.MarkKind.TheVariants.{Busy as BusyMark, Free as FreeMark, Closed as ClosedMark}
 use Rattle.port_model.specs.declared.event.Dir.{Dir}
 use Rattle.port_model.specs.declared.signal.Sender.TheVariants.{Process, Poller, Worker}
 use Rattle.port_model.specs.declared.signal.Signal.{Signal}

@@ -57,6 +57,6 @@ returns-clause-closed g c s processes set named ran give =
     let closed = subst (λ columns. AreClosed bodies columns left) c.in-Ok.ensures.columns c.in_ok-left.ensures.closed in
     let are : ArePools left pools = record { many = parted.pools_many; each = parted.pools_are } in
     let emptied = subst (λ l. HaveEmptied AnyFits pools ends.finish.items l settled) c.in-Ok.ensures.jobs c.in_ok-empty_lanes.ensures.emptied in
-    all-closed g.D.Driver.kind g.D.Driver.own g.D.Driver.program s bodies processes ends run left c.in_ok-ports.ports.items pools places hosts
+    all-closed g.D.Driver.kind g.D.Driver.faults g.D.Driver.own g.D.Driver.program s bodies processes ends run left c.in_ok-ports.ports.items pools places hosts
     (runs s bodies processes ends run left closed pools are settled emptied).all c.closed_ports_are_lawful.ensures c.accepted_signals_have_rows.ensures.signals closed c.in_ok-left.ensures.stand parted
     (have-worked s bodies processes ends run left closed pools are settled emptied)

@@ -5,7 +5,7 @@ use Rattle.std.proofs.Crossing.{crosses}
 use Rattle.port_words.specs.contracts.busy.port.PortSeat as port_seat
 use Rattle.port_words.proofs.busy.port.PortSeat.TheSendSync as port_seat_sent
 use Rattle.process_end.proofs.Sent.{processes_cross}
-use Rattle.crowd_tests.specs.contracts.rig.Port as port
+use Rattle.crowd_tests.specs.contracts.rig.CrowdPort as port
 use Rattle.crowd_tests.specs.contracts.taking.Taker as taker
 use Rattle.crowd_tests.specs.contracts.crowd.run.{R-row}
 use Rattle.crowd_tests.proofs.crowd.run.Given.{Over}

@@ -1,6 +1,6 @@
 use denote.Param.{param}
 use denote.Param.Send.{IsSend, IsSync}
-use Rattle.lane_tests.specs.contracts.lanes.Job as job
+use Rattle.lane_tests.specs.contracts.lanes.PutJob as job
 use Rattle.lane_tests.specs.contracts.lanes.exchange.{R-row}
 use Rattle.task_queue.proofs.Sent.{ends_cross}
 use Rattle.lane_tests.proofs.lanes.exchange.Given.{Over}

@@ -1,7 +1,7 @@
 use Rattle.std.proofs.Common.{◌≡◌, ℕ, ◌+◌, ◌<◌, Option, Some, None, IfSome, IsSomeAnd, List, [], ◌∷◌, length, get_or, vec_len, Vec, Global, ap, ◌∙◌, sym, subst, arith}
 use Rattle.task_queue.specs.Items.{of}
-use Rattle.lane_tests.specs.declared.lanes.Job.{Job}
-use Rattle.lane_tests.specs.declared.lanes.Number.{Number}
+use Rattle.lane_tests.specs.declared.lanes.PutJob.{PutJob}
+use Rattle.lane_tests.specs.declared.lanes.LaneNumber.{LaneNumber}
 use Rattle.lane_tests.proofs.lanes.fan_in.Goals as goal
 
 -- some element of a list that has one
@@ -20,12 +20,12 @@ joined P Q R both None p q = absurd q
 
 pub finish_all-requires : goal.finish_all-requires
 finish_all-requires g c n e below =
-    let jobs : List Job = c.in-Some.jobs.items in
+    let jobs : List PutJob = c.in-Some.jobs.items in
     let count : vec_len c.in-Some-Some.ends ≡ vec_len c.in-Some.jobs =
     subst (λ r. IfSome r (λ ends. vec_len ends ≡ vec_len c.in-Some.jobs)) c.in-Some-Some.is-0 c.exchange_all-ends.ensures.len in
     let low : n < vec_len c.in-Some.jobs = omega arith in
     let few : n < length jobs = omega arith in
-    let j : Job = any_of jobs n few in
+    let j : PutJob = any_of jobs n few in
     let all = rw c.in-Some-Some.is-0 at c.exchange_all-ends.ensures.sent in
     let same = rw c.in-Some-Some.is-1 at c.exchange_all-ends.ensures.same in
     let lists = c.in-Some.ensures.len in
@@ -35,16 +35,16 @@ finish_all-requires g c n e below =
 
 pub returns : goal.returns
 returns g c =
-    let jobs : List Job = c.in-Some.jobs.items in
+    let jobs : List PutJob = c.in-Some.jobs.items in
     let count : vec_len c.in-Some-Some.ends ≡ vec_len c.in-Some.jobs =
     subst (λ r. IfSome r (λ ends. vec_len ends ≡ vec_len c.in-Some.jobs)) c.in-Some-Some.is-0 c.exchange_all-ends.ensures.len in
     let all = rw c.in-Some-Some.is-0 at c.exchange_all-ends.ensures.sent in
     let lists = c.in-Some.ensures.len in
-    weaker _ (λ items. (n : ℕ) (v : Vec Number Global) → n < vec_len c.args.lists → of (n + 1) items.items ≡ (get_or c.args.lists.items n v).items)
+    weaker _ (λ items. (n : ℕ) (v : Vec LaneNumber Global) → n < vec_len c.args.lists → of (n + 1) items.items ≡ (get_or c.args.lists.items n v).items)
     (λ items told n v below.
     let low : n < vec_len c.in-Some.jobs = omega arith in
     let few : n < length jobs = omega arith in
-    let j : Job = any_of jobs n few in
+    let j : PutJob = any_of jobs n few in
     let ends : n < length c.in-Some-Some.ends.items = omega arith in
     let e = any_of c.in-Some-Some.ends.items n ends in
     let job = c.in-Some.ensures.ends n j below in

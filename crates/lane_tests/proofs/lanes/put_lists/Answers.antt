@@ -1,5 +1,5 @@
 use denote.Param.Send.{IsSend}
-use Rattle.lane_tests.specs.contracts.lanes.Job as job
+use Rattle.lane_tests.specs.contracts.lanes.PutJob as job
 use Rattle.task_queue.proofs.Sent.{ends_cross}
 use Rattle.lane_tests.proofs.lanes.put_lists.Goals as goal
 

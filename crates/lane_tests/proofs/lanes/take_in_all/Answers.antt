@@ -4,7 +4,7 @@ use Rattle.std.proofs.Math.ListN.{get_or-append}
 use Rattle.std.proofs.Math.Seq.{get_or-append_seam}
 use Rattle.task_queue.specs.Ends.{Sending, Taking, ended_of}
 use Rattle.task_queue.proofs.Told.{among_last, among_still}
-use Rattle.lane_tests.specs.declared.lanes.Number.{Number}
+use Rattle.lane_tests.specs.declared.lanes.LaneNumber.{LaneNumber}
 use Rattle.lane_tests.proofs.lanes.take_in_all.Goals as goal
 
 weaker : {X : Type 0} (P Q : X → Type 0) → ((x : X) → P x → Q x) → (o : Option X) → IsSomeAnd o P → IsSomeAnd o Q
@@ -23,7 +23,7 @@ pub loop-sender-preserved : goal.loop-sender-preserved
 loop-sender-preserved c =
     let xs = c.loop-sender.yielded in
     let x = c.in-Some.sender in
-    let P : Sending Number (Unit {0}) → Type 0 = λ s. Contains c.take_in.new.self.ended (ended_of s) in
+    let P : Sending LaneNumber (Unit {0}) → Type 0 = λ s. Contains c.take_in.new.self.ended (ended_of s) in
     record {
       same = same_still c.args.end.now c.loop-sender.end c.take_in.new.self c.in-Some-sender.sender c.loop-sender.invariant.same c.take_in.ensures;
       ended = λ n e below. ⊎_elim

@@ -1,5 +1,8 @@
+use Rattle.std.proofs.Common.{ap}
 use Rattle.std.proofs.lemmas.Result.{on_ok_weaker}
+use Rattle.port_driver.specs.Context.{Context}
 use Rattle.port_service.proofs.Calls.{Called-none, Called-did, Called-answered}
+use Rattle.port_service.proofs.Counted.{counts-to}
 use Rattle.port_service.proofs.calling.call_driver.Goals as goal
 
 pub returns-in_ok-answer-in-Control-clause-called : goal.returns-in_ok-answer-in-Control-clause-called
@@ -48,3 +51,11 @@ returns-in-Exit-clause-called g c = rw c.in-Exit.is (Called-none _ _ _ _)
 
 pub returns-in-Dropped-clause-called : goal.returns-in-Dropped-clause-called
 returns-in-Dropped-clause-called g c = rw c.in-Dropped.is (Called-none _ _ _ _)
+
+pub returns-in_ok-answer-in-Control-clause-counted : goal.returns-in_ok-answer-in-Control-clause-counted
+returns-in_ok-answer-in-Control-clause-counted g c =
+    on_ok_weaker c.reply.result (λ e. counts-to c.args.ctx.now.outside _ _ _ _ (ap (λ (x : Context). x.outside) e) c.in_ok-answer-in-Control.ensures.counted) c.reply.ensures.ok
+
+pub returns-in_ok-answer-in-Call-clause-counted : goal.returns-in_ok-answer-in-Call-clause-counted
+returns-in_ok-answer-in-Call-clause-counted g c =
+    on_ok_weaker c.reply-in-Call.result (λ e. counts-to c.args.ctx.now.outside _ _ _ _ (ap (λ (x : Context). x.outside) e) c.in_ok-answer-in-Call.ensures.counted) c.reply-in-Call.ensures.ok

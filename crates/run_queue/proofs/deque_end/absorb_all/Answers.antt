@@ -3,7 +3,7 @@ use Rattle.std.specs.List.{All}
 use Rattle.std.proofs.lemmas.List.Elements.{All-pop}
 use Rattle.atomic_blocks.specs.Lent.{RowsId}
 use Rattle.crossbeam_deque.specs.Handles.{worker_deque, worker_view}
-use Rattle.run_queue.specs.declared.account.Hand.{Hand}
+use Rattle.run_queue.specs.declared.account.QueueHand.{QueueHand}
 use Rattle.run_queue.specs.Ends.{IsGuestOf, guest_view}
 use Rattle.run_queue.specs.Seats.{IsSameAccount}
 use Rattle.run_queue.proofs.Accounts.{joins}
@@ -23,5 +23,5 @@ guests-preserved c =
     let two = subst (λ xs. IsSameAccount whole (worker_view c.guests.owner ∷ xs)) (map_push guest_view rest c.in-Some.guest) one in
     let three = absorbs whole (worker_view c.guests.owner) guest (map guest_view rest) two in (
       subst (λ (d : RowsId × Global). All (IsGuestOf d) rest) (sym c.absorb.ensures.same.0.0) others,
-      subst (λ (v : Hand). IsSameAccount whole (v ∷ map guest_view rest)) (sym c.absorb.ensures.rule) three,
+      subst (λ (v : QueueHand). IsSameAccount whole (v ∷ map guest_view rest)) (sym c.absorb.ensures.rule) three,
     )

@@ -20,5 +20,5 @@ pub returns-clause-left : goal.returns-clause-left
 returns-clause-left g c s plans poll has =
     let ran = ran_processes plans c.args.jobs.processes.items in
     let names = map name_of c.args.bodies.items in
-    subst (λ ends. IfOk c.close_parts-ran.result (IsLeft g.D.Driver.kind g.D.Driver.own g.D.Driver.program s ran ends names c.args.places.now c.close_parts-ran.new.hosts.items)) c.in-Ok.ensures.poller_is
+    subst (λ ends. IfOk c.close_parts-ran.result (IsLeft g.D.Driver.kind g.D.Driver.faults g.D.Driver.own g.D.Driver.program s ran ends names c.args.places.now c.close_parts-ran.new.hosts.items)) c.in-Ok.ensures.poller_is
     (c.close_parts-ran.ensures.left s ran (job-parts g.S.PollSet.faults g.S.PollSet.answered s plans poll names c.args.jobs has _ _ _ c.in-Ok.ensures))

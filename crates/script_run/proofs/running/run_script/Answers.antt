@@ -78,10 +78,10 @@ returns-clause-ran g c =
     c.close_run-ran.result.0 c.made.result c.made.ensures
     (weaker _ _ c.close_run-ran.result.0 (λ ran whole. has-run g.D.Driver.kind g.D.Driver.stage g.D.Driver.faults g.D.Driver.own g.D.Driver.program (record { senders = c.each_sender_has_an_end.ensures.senders; tells = c.calls_tell.ensures; waited = c.waits_are_shown.ensures; in_order = c.listed_calls_are_in_order.ensures; listed = c.suspended_calls_are_listed.ensures }) c.args.script c.args.poll
     c.args.hosts.now.items c.seat_script.new.hosts.items new c.in-Ok.seated c.run_ports-bodies.result.bodies.items jobs.processes.items ran c.requires.unused is same back jobs.poller.lanes.items
-    (subst (λ p. IsLeft g.D.Driver.kind g.D.Driver.own g.D.Driver.program is.setting (ran_processes is.plans jobs.processes.items) jobs.poller.lanes.items ended_names p new ran) places whole)
+    (subst (λ p. IsLeft g.D.Driver.kind g.D.Driver.faults g.D.Driver.own g.D.Driver.program is.setting (ran_processes is.plans jobs.processes.items) jobs.poller.lanes.items ended_names p new ran) places whole)
     before (Some (g.S.PollSet.answered c.close_run-ran.result.1))
     (subst (λ poll. ReadyRowsAreAnswered before (Some (g.S.PollSet.answered poll)) ran) (sym c.close_run-ran.ensures.poll)
-    (ready-rows g.D.Driver.kind g.D.Driver.own g.D.Driver.program g.S.PollSet.faults g.S.PollSet.answered is.setting is.plans c.args.poll ended_names jobs (ran_processes is.plans jobs.processes.items) _ new ran has whole))) left)
+    (ready-rows g.D.Driver.kind g.D.Driver.faults g.D.Driver.own g.D.Driver.program g.S.PollSet.faults g.S.PollSet.answered is.setting is.plans c.args.poll ended_names jobs (ran_processes is.plans jobs.processes.items) _ new ran has whole))) left)
 
 pub returns-clause-back : goal.returns-clause-back
 returns-clause-back g c =

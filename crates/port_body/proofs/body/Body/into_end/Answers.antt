@@ -2,6 +2,7 @@ use Rattle.std.proofs.Common.{◌≡◌, false, IfSome, sym, ap, ◌∙◌, subs
 use Rattle.std.specs.Prelude.{reverse}
 use Rattle.port_driver.specs.driver_model.Calls.{Held}
 use Rattle.port_driver.specs.driver_model.Programs.{Tells}
+use Rattle.port_driver.specs.Faults.{failures_in, RisenBy}
 use Rattle.recorded_port.specs.View.{is_finished, state_of}
 use Rattle.port_body.specs.Body.{BodyView}
 use Rattle.port_body.specs.Ends.{IsWholeEnd}
@@ -31,3 +32,11 @@ returns-clause-whole g c = λ whole.
     subst (λ rows. IsWholeEnd v rows c.into_end.result.outlets c.lane_port.inside.lane) (sym (c.into_end.ensures.journal ∙ ap (λ (p : LanePortView). p.port.rows) at_lane))
     (subst (λ outlets. IsWholeEnd v v.lane_port.port.rows outlets c.lane_port.inside.lane) (sym (c.into_end.ensures.outlets ∙ ap (λ (p : LanePortView). outlets_of p.port) at_lane))
     (subst (λ lane. IsWholeEnd v v.lane_port.port.rows (outlets_of v.lane_port.port) lane) (sym (ap (λ (p : LanePortView). p.lane) at_lane)) (whole-end v body finished)))
+
+pub returns-clause-failed : goal.returns-clause-failed
+returns-clause-failed g c =
+    let v = c.args.self in
+    let failed = subst (λ (v : BodyView). RisenBy (failures_in v.lane_port.port.rows) v.first_faults v.lane_port.port.port.state.service.faults) c.self.view_is c.self.invariant.failed in
+    let at_lane = c.lane_port.view_is ∙ ap (λ (v : BodyView). v.lane_port) c.self.view_is in
+    subst (λ rows. RisenBy (failures_in rows) v.first_faults (g.D.Driver.faults c.into_end.result.driver)) (sym (c.into_end.ensures.journal ∙ ap (λ (p : LanePortView). p.port.rows) at_lane))
+    (subst (λ faults. RisenBy (failures_in v.lane_port.port.rows) v.first_faults faults) (sym (c.into_end.ensures.faults ∙ ap (λ (p : LanePortView). p.port.port.state.service.faults) at_lane)) failed)

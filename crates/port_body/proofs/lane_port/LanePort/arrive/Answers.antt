@@ -96,3 +96,17 @@ returns-clause-same g c =
     lane_port_trans c.args.self.now mid c.settle.new.self c.list_sender.ensures.same (lane_port_trans mid _ c.settle.new.self
     (same_lane mid _ same (ap (λ (v : LanePortView). v.lane) c.self.view_is) (ap (λ (v : LanePortView). v.processes) c.self.view_is) (ap (λ (v : LanePortView). v.workers) c.self.view_is))
     c.settle.ensures.same)
+
+pub returns-in_err-resume-clause-same : goal.returns-in_err-resume-clause-same
+returns-in_err-resume-clause-same g c =
+    let mid = c.list_sender.new.self in
+    let same = subst (λ (v : LanePortView). IsSameRecorded v.port c.resume.new.self) c.self.view_is c.resume.ensures.same in
+    lane_port_trans c.args.self.now mid _ c.list_sender.ensures.same
+    (same_lane mid _ same (ap (λ (v : LanePortView). v.lane) c.self.view_is) (ap (λ (v : LanePortView). v.processes) c.self.view_is) (ap (λ (v : LanePortView). v.workers) c.self.view_is))
+
+pub returns-then-must_wait-clause-same : goal.returns-then-must_wait-clause-same
+returns-then-must_wait-clause-same g c =
+    let mid = c.list_sender.new.self in
+    let same = subst (λ (v : LanePortView). IsSameRecorded v.port c.resume.new.self) c.self.view_is c.resume.ensures.same in
+    lane_port_trans c.args.self.now mid _ c.list_sender.ensures.same
+    (same_lane mid _ same (ap (λ (v : LanePortView). v.lane) c.self.view_is) (ap (λ (v : LanePortView). v.processes) c.self.view_is) (ap (λ (v : LanePortView). v.workers) c.self.view_is))

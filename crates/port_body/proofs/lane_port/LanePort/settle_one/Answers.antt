@@ -3,7 +3,9 @@ use Rattle.port_lanes.specs.Keys.{sender_at}
 use Rattle.recorded_port.specs.Taking.{MayTake, Takes, IsSameRecorded, UsesRoom}
 use Rattle.port_body.specs.LanePort.{LanePortView, Holds}
 use Rattle.port_body.proofs.Holding.{took, resumed}
+use Rattle.recorded_port.proofs.Same.{same-trans}
 use Rattle.port_body.proofs.Room.{took_room}
+use Rattle.port_body.proofs.Same.{same_lane}
 use Rattle.port_body.proofs.Settling.{on-both, may-take, settles-one}
 use Rattle.port_body.proofs.lane_port.LanePort.settle_one.Goals as goal
 
@@ -47,3 +49,10 @@ resume-requires-clause-room g c =
     let room = subst (λ (v : LanePortView). UsesRoom v.port c.take.new.self) c.self.view_is c.take.ensures.room in
     let enough = took_room old.port c.take.new.self (sender_at old.lane.key x.sender) x.seq x.value.task c.requires.holds.settled c.in_ok-take.ensures.settled room takes 0 c.requires.room in
     omega (arith, enough)
+
+pub returns-clause-same : goal.returns-clause-same
+returns-clause-same g c =
+    let old = c.args.self.now in
+    let same = subst (λ (v : LanePortView). IsSameRecorded v.port c.take.new.self) c.self.view_is c.take.ensures.same in
+    same_lane old _ (same-trans old.port c.take.new.self c.resume.new.self same c.resume.ensures.same) (ap (λ (v : LanePortView). v.lane) c.self.view_is)
+    (ap (λ (v : LanePortView). v.processes) c.self.view_is) (ap (λ (v : LanePortView). v.workers) c.self.view_is)

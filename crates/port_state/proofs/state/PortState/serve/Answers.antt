@@ -1,5 +1,6 @@
 use Rattle.std.proofs.Common.{◌≡◌, ◌≤◌, false, length, is_some, ◌&&◌, refl, sym, ap, ◌∙◌, subst}
 use Rattle.std.specs.Prelude.{not, if◌then◌else◌}
+use Rattle.port_driver.specs.Faults.{failures, RisenBy}
 use Rattle.port_links.specs.port_history.Opening.{is_process, taken_of}
 use Rattle.port_links.specs.port_history.Mail.{closing_mail}
 use Rattle.port_links.specs.port_history.Service.{caller_of}
@@ -28,6 +29,11 @@ pub returns-clause-faults : goal.returns-clause-faults
 returns-clause-faults g c = rw (← c.self.view_is) (
     let n = c.note_row.ensures.state c.self.inside.links.ties in
     subst (λ x. c.self.inside.service.faults ≤ x) (sym (ap (λ (x : StateView). x.service.faults) n)) c.handle.ensures.faults)
+
+pub returns-clause-failed : goal.returns-clause-failed
+returns-clause-failed g c = rw (← c.self.view_is, c.note_row.ensures.row) (
+    let n = c.note_row.ensures.state c.self.inside.links.ties in
+    subst (λ x. RisenBy (failures c.in_ok-made.made.outside) c.self.inside.service.faults x) (sym (ap (λ (x : StateView). x.service.faults) n)) c.in_ok-made.ensures.failed)
 
 pub returns-clause-life : goal.returns-clause-life
 returns-clause-life g c =

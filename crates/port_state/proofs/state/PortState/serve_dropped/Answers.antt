@@ -9,6 +9,7 @@ use Rattle.port_state.proofs.state.PortState.serve_dropped.Goals as goal
 
 pub returns : goal.returns
 returns g c = rw (← c.self.view_is, c.new.ensures, c.new-2.ensures) (record {
+  outside = refl;
   serves = λ port s task e told none.
       let stopped : s.stopped ≡ true = sym told.stopped ∙ (ap (λ x. x.stopped) c.self.view_is ∙ c.requires.stopped) in
       let q = quiet port s c.args.seq task c.args.event e stopped in

@@ -2,6 +2,7 @@ use Rattle.std.proofs.Common.{refl, sym, ap, ◌∙◌, subst}
 use Rattle.port_lanes.specs.port_history.Opening.{Opening}
 use Rattle.served_port.specs.View.{ServedView, IsAt}
 use Rattle.recorded_port.specs.View.{RecordedView, state_of}
+use Rattle.recorded_port.proofs.Grown.{same-marked}
 use Rattle.recorded_port.proofs.Same.{same-opening}
 use Rattle.recorded_port.proofs.Settled.{can-mark}
 use Rattle.recorded_port.proofs.TaskRows.{marked-row}
@@ -44,3 +45,30 @@ returns-clause-next g c = λ left recorded.
       seat = ap (λ (v : RecordedView). v.seat) c.self.view_is;
       suspended = ap (λ (v : RecordedView). v.suspended) c.self.view_is;
     }) c.write_mark.ensures.written
+
+pub returns-clause-same : goal.returns-clause-same
+returns-clause-same g c =
+    let o : Opening = record {
+      number = c.self.inside.fixed.number;
+      processes = c.self.inside.port.state.links.processes;
+      kind = c.self.inside.port.state.service.kind;
+      config = c.self.inside.fixed.config;
+      owner = c.self.inside.fixed.owner;
+      read = c.self.inside.fixed.read;
+      write = c.self.inside.fixed.write;
+    } in
+    let opening = same-opening o _ _ (ap (λ (x : ServedView). x.state.links.processes) c.next_mark.ensures.kept) (ap (λ (x : ServedView). x.state.service.kind) c.next_mark.ensures.kept)
+    ∙ ap (λ (v : RecordedView). v.opening) c.self.view_is in
+    let port = ap (λ (v : RecordedView). v.port) c.self.view_is in
+    same-marked c.args.self.now _ c.write_mark.new.self c.next_mark.new.self c.in-Some.kind
+    (record {
+      opening = opening;
+      rows = ap (λ (v : RecordedView). v.rows) c.self.view_is;
+      room = ap (λ (v : RecordedView). v.room) c.self.view_is;
+      port_is = refl;
+      ends = ap (λ (v : RecordedView). v.ends) c.self.view_is;
+      seat = ap (λ (v : RecordedView). v.seat) c.self.view_is;
+      suspended = ap (λ (v : RecordedView). v.suspended) c.self.view_is;
+    })
+    (c.next_mark.ensures.kept ∙ ap (λ (x : ServedView). record x { state = record x.state { busy = c.next_mark.new.self.state.busy; change = c.next_mark.new.self.state.change; closes = c.next_mark.new.self.state.closes } }) port)
+    c.write_mark.ensures.written

@@ -1,11 +1,11 @@
-use Rattle.std.proofs.Common.{is_some, sym, ap, ◌∙◌}
+use Rattle.std.proofs.Common.{refl, is_some, sym, ap, ◌∙◌}
 use Rattle.std.specs.Prelude.{not}
 use Rattle.recorded_port.specs.View.{RecordedView}
 use Rattle.recorded_port.proofs.Same.{same-written, put-names, puts-each, state-with, state-with-open}
 use Rattle.recorded_port.proofs.recorded_port.RecordedPort.write_resumed.Goals as goal
 
 pub returns-clause-same : goal.returns-clause-same
-returns-clause-same g c = rw (← c.self.view_is) (same-written _ _ _ _ _ c.write.ensures.written
+returns-clause-same g c = rw (← c.self.view_is) (same-written _ _ _ _ _ c.write.ensures.written refl
     (put-names c.post_resume-posted.result _ _ _ _ (c.post_resume-posted.ensures c.args.self.now.opening (state-with c.args.self.now.opening (not c.is_open.result))
     (ap (λ (v : RecordedView). v.opening.number) (sym c.self.view_is)) (state-with-open c.args.self.now.opening (not c.is_open.result)))))
 

@@ -1,4 +1,4 @@
-use Rattle.std.proofs.Common.{◌≡◌, true, sym, ap, ◌∙◌, subst}
+use Rattle.std.proofs.Common.{◌≡◌, true, sym, ap, ◌∙◌, subst, arith}
 use Rattle.port_driver.specs.Context.{SameEvents}
 use Rattle.port_driver.specs.driver_model.Drivers.{held_events}
 use Rattle.port_events.specs.port_history.Opening.{taken_of}
@@ -24,3 +24,9 @@ returns-then-is_stopped-clause-serves g c = rw (← c.self.view_is) (λ port s t
     subst (λ x. IsServed port s (taken_of x c.args.seq task made.outside made.effects) c.args.signal.now made c.self.inside.state) (sym d.poller)
     (subst (λ x. IsServed port s (taken_of Poller c.args.seq task made.outside made.effects) x made c.self.inside.state) (sym c.in-Dropped.is)
     (c.serve_dropped.ensures.serves port s task (e ∙ c.in-Dropped.is) at.state settled)))
+
+pub returns-clause-failed : goal.returns-clause-failed
+returns-clause-failed g c = rw (← c.self.view_is) c.serve.ensures.failed
+
+pub returns-then-is_stopped-clause-failed : goal.returns-then-is_stopped-clause-failed
+returns-then-is_stopped-clause-failed g c = rw (← c.self.view_is, c.serve_dropped.ensures.outside) (omega arith)

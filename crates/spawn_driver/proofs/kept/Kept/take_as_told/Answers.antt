@@ -2,7 +2,7 @@ use Rattle.std.proofs.Common.{◌≡◌, [], ◌∷◌, sym, ◌∙◌, ap, subs
 use Rattle.std.proofs.lemmas.Result.{on_ok_weaker}
 use Rattle.packet_framing.specs.declared.mode.Mode.{Mode}
 use Rattle.packet_framing.specs.declared.mode.Mode.TheVariants.{Stream}
-use Rattle.port_signal.specs.declared.row.Outside.TheVariants.{Got}
+use Rattle.port_signal.specs.declared.outside.Outside.TheVariants.{Got}
 use Rattle.driver_model.specs.Calls.{Program, cut_of}
 use Rattle.port_driver.specs.Context.{Context}
 use Rattle.spawn_driver.specs.Recorded.{with_answers}

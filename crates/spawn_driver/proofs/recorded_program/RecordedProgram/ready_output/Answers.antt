@@ -1,5 +1,5 @@
 use Rattle.std.proofs.Common.{◌≡◌, ◌≤◌, [], ◌∷◌, length, min, ap, ◌∙◌, arith}
-use Rattle.port_signal.specs.declared.row.Outside.TheVariants.{Took, Failed}
+use Rattle.port_signal.specs.declared.outside.Outside.TheVariants.{Took, Failed}
 use Rattle.driver_model.specs.Calls.{ReadyOutput}
 use Rattle.spawn_driver.proofs.Silent.{one-answer, does, took-told, offer-failed}
 use Rattle.spawn_driver.proofs.recorded_program.RecordedProgram.ready_output.Goals as goal
