@@ -13,7 +13,8 @@ use std::time::{Clock, Duration};
 ///
 /// A read event is ready as long as something is there to fetch, and a write event as long as the input
 /// takes a piece: an event stays ready until it is met. Where none is ready, a wait pauses for a
-/// millisecond at most and looks once more. It never fails.
+/// millisecond at most, or ten where nothing was ready for long, and looks once more. It never
+/// fails.
 #[derive(Drop)]
 pub struct RealPoll<R> {
     rt: R,

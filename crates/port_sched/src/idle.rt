@@ -5,16 +5,24 @@ use std::sync::Wait;
 use std::thread::Parker;
 use std::time::Duration;
 
-// How many microseconds it sleeps at first, and at most, once it has spun and yielded.
+// How many microseconds it sleeps at first, once it has spun and yielded.
 const SHORTEST: u64 = 100;
 
-const LONGEST: u64 = 1_000;
+// It sleeps for so many microseconds, or for this part of all that it has slept where that is more.
+const COMMON: u64 = 1_000;
 
-/// A wait that grows: it spins, then yields the processor, then sleeps, for 100 microseconds at first and for a millisecond at most.
+const PART: u64 = 16;
+
+// And at most for so many.
+const LONGEST: u64 = 10_000;
+
+/// A wait that grows: it spins, then yields the processor, then sleeps, for 100 microseconds at first, twice as long each time, and for a millisecond at most
+/// while it has slept for less than 16 milliseconds; from then on for a sixteenth of the time that it has slept, and for 10 milliseconds at most.
 ///
 /// For a loop that looks again and again for something to do, as a scheduler's, and whom nobody wakes. Each loop has one of its own. It calls `wait` after each
 /// round that found nothing, and `reset` after each that found something, so that a loop that has work answers at once, and one that has none for long leaves the
-/// processor to the others. The first eleven waits after a `reset` take some microseconds in all, and each further one sleeps.
+/// processor to the others. The first eleven waits after a `reset` take some microseconds in all, and each further one sleeps. So what comes is found after a
+/// millisecond, or after a sixteenth of the time for which nothing came, and a loop that waits for long looks a hundred times a second.
 ///
 /// A wait has no bound that a contract could tell, and what a loop waits for it has to look for itself: a job of a run looks at its seat of OVER in each round, and
 /// ends where it finds that the run is over.
@@ -23,6 +31,7 @@ pub struct Idle {
     backoff: Backoff,
     parker: Parker,
     nap: Cell<u64>,
+    slept: Cell<u64>,
 }
 
 impl Idle {
@@ -32,6 +41,7 @@ impl Idle {
             backoff: Backoff::new(),
             parker: Parker::new(),
             nap: Cell::new(SHORTEST),
+            slept: Cell::new(0),
         }
     }
 
@@ -39,16 +49,20 @@ impl Idle {
     pub fn reset(&self) {
         self.backoff.reset();
         self.nap.set(SHORTEST);
+        self.slept.set(0);
     }
 
-    /// The round found nothing to do: waits a little, longer each time up to a sleep of a millisecond. It doesn't wait for anybody.
+    /// The round found nothing to do: waits a little, longer each time up to a sleep of 10 milliseconds. It doesn't wait for anybody.
     pub fn wait<R: Wait>(&self, rt: &R) {
         if !self.backoff.is_completed() {
             self.backoff.snooze();
             return;
         }
         let nap = self.nap.get();
-        self.nap.set(nap.saturating_mul(2).min(LONGEST));
+        let slept = self.slept.get().saturating_add(nap);
+        self.slept.set(slept);
+        let most = (slept / PART).max(COMMON).min(LONGEST);
+        self.nap.set(nap.saturating_mul(2).min(most));
         self.parker.park_timeout(rt, Duration::from_micros(nap));
     }
 }

@@ -3,8 +3,8 @@ use crate::idle::Idle;
 use crossbeam_utils::atomic::AtomicCell;
 use std::sync::Wait;
 
-// How often a job looks for the others, with a pause of at most a millisecond behind each look: for ten seconds or a little more.
-const LOOKS: u32 = 10_000;
+// How often a job looks for the others: with the pauses behind the looks, which grow to ten milliseconds, for ten seconds or a little more.
+const LOOKS: u32 = 1_060;
 
 // Where jobs wait for each other before they begin. Each of them runs beside the others only in a thread of its own: where one can't be made, a job is run behind another,
 // and jobs that wait for each other would never end so.
