@@ -155,6 +155,9 @@ module _ (s : Setting) (names : List BodyName) (ran : List RanProcess) (ports : 
         ap (λ (v : ProcView). length v.lanes) (set_up n r within).old ∙ (peers.set.lanes_are.processes n (process_lanes n within) within).lanes.many ∙ ports_many ∙ sym peers.own.seats_many;
   }
 
+  pub whole_rows : HaveRunWhole (length (rows_of ports)) ran
+  whole_rows = subst (λ n. HaveRunWhole n ran) (peers.own.seats_many ∙ sym rows_many) whole
+
   old_seats : (n : ℕ) (row : List SendKnown) (below : n < s.size.processes)
       → get_or (map (λ (p : RanProcess). p.old.seats) ran) n row ≡ (get_or s.lanes.processes.items n (process_lanes n below)).seats.items
   old_seats n row below =

@@ -17,7 +17,7 @@ use Rattle.script_plan.specs.declared.decl.PortDecl.{PortDecl}
 use Rattle.closed_mail.specs.Joined.{AreJoined, AreOfProcesses, HasGrown, PortWordsHold, rows_of}
 use Rattle.closed_mail.specs.declared.joining.PortPeers.{PortPeers}
 use Rattle.closed_mail.specs.declared.joining.ProcessPeers.{ProcessPeers}
-use Rattle.closed_mail.proofs.Peers.{HavePeers, mail_rows, none_joined, port_setup, seat_rows, whole}
+use Rattle.closed_mail.proofs.Peers.{HavePeers, mail_rows, none_joined, port_setup, seat_rows, whole, whole_rows}
 
 module _ (s : Setting) (names : List BodyName) (ran : List RanProcess) (ports : PortPeers) (processes : ProcessPeers) (peers : HavePeers s names ran ports) (of : AreOfProcesses ran processes) where
   -- there is mail for each mailbox, and the ends and the seats are of these ports
@@ -51,7 +51,7 @@ module _ (s : Setting) (names : List BodyName) (ran : List RanProcess) (ports : 
       (subst (λ boxes. HaveTakenRows boxes (rows_of ports) (map (λ m. m.items) processes.mails.items) mails) of.mailboxes_are taken) in
       record {
         many = took.many ∙ length-map ran (λ (p : RanProcess). p.mails);
-        merges = λ n r m below. all_merge ran (rows_of ports) mails peers.have.ran took n r m below;
+        merges = λ n r m below. all_merge ran (rows_of ports) mails (whole_rows s names ran ports peers) took n r m below;
         grown = λ n r m below.
             let boxes = map (λ (p : RanProcess). p.end.mailbox) ran in
             let boxes_many : length boxes ≡ length ran = length-map ran (λ (p : RanProcess). p.end.mailbox) in

@@ -17,7 +17,7 @@ use Rattle.process_job.specs.Asks.{calls_of, end_reason, made_asks, made_of}
 use Rattle.process_job.specs.Mails.{Came, mail_from, own_mails, is_closed, noproc_mail, AreReplied}
 use Rattle.process_job.specs.Going.{ProcessState, state, AreSamePorts, HasHeard}
 use Rattle.process_job.specs.Jobs.{IsFreshProcess}
-use Rattle.process_job.specs.Steps.{HasMadeSteps, HasRunToEnd}
+use Rattle.process_job.specs.Steps.{HasMadeSteps, HasRunToEnd, HasTakenNone}
 use Rattle.process_job.proofs.Closing.{told-shown}
 use Rattle.process_job.proofs.Mailing.{own_mails-append, replied_append}
 use Rattle.process_job.proofs.Ports.{same_ports, ports_then, ports_made}
@@ -69,9 +69,10 @@ with-seat [] k below f = absurd (omega (arith, below))
 with-seat (seat ∷ seats) k below f = f seat
 
 pub run_to_end : (steps : List Step) (files : List (List ℕ)) (old mid : ProcView) (reason : List ℕ) (end : ProcEnd) (mails : List Mail) → IsFreshProcess old
-    → HasMadeSteps steps files (state old []) (state mid mails) reason → HasEnded reason mid end.receipts end.mailbox end.lanes.items end.seats.items
+    → HasMadeSteps steps files (state old []) (state mid mails) reason
+    → (length old.lanes ≡ 0 → HasTakenNone old.mailbox [] mid.mailbox mails) → HasEnded reason mid end.receipts end.mailbox end.lanes.items end.seats.items
     → HasRunToEnd steps files old end mails
-run_to_end steps files old mid reason end mails fresh m e =
+run_to_end steps files old mid reason end mails fresh m silent e =
     let told : List Receipt = e.told.receipts in
     let count : ℕ = length told in
     let goes = m.makes.goes in
@@ -106,6 +107,7 @@ run_to_end steps files old mid reason end mails fresh m e =
       seats_are = e.seats_are;
       came = m.came;
       mails_are = goes.mails_are;
+      silent = λ none. (t.mailbox ∙ (silent none).0, (silent none).1);
       heard = subst (HasHeard m.came old.mailbox) (sym t.mailbox) goes.heard;
       own = goes.own
           ∙ sym (append-nil (own_mails m.asks m.receipts))

@@ -18,6 +18,7 @@ use Rattle.script_plan.specs.Monitors.{is_die}
 use Rattle.script_plan.specs.Plan.{IsWithin}
 use Rattle.process_end.specs.Commanded.{signal_of}
 use Rattle.process_job.specs.declared.action.StepAction.{StepAction}
+use Rattle.process_job.specs.declared.action.StepAction.TheVariants as action
 use Rattle.process_job.specs.Asks.{is_file, asks_of, calls_of, end_reason, reason_of, files_after, made_of, made_of_step, next_content}
 use Rattle.process_job.specs.Mails.{Came, messages_of, bytes_of, is_data_of, size_from}
 use Rattle.process_job.specs.Waits.{FoundClosed, HasWaited, HaveWaited}
@@ -62,6 +63,13 @@ unread_content line _ x y e = refl
 
 pub is_action : (line : ℕ) (act : Act) (content : List ℕ) (action : StepAction) → Ok action ≡ action_of line act content → IsActionOf line act content action
 is_action line act content action e = let h = of_action line act content in subst (λ r. IfOk r (IsActionOf line act content)) (sym e) h
+
+-- where there is no port, no action is within
+pub no_action : (processes ports : ℕ) (a : StepAction) → ActionWithin processes ports a → ports ≡ 0 → ⊥
+no_action processes ports (action.Command form bytes) within none = omega (arith, within, none)
+no_action processes ports (action.File file) within none = (let w = within.0 in omega (arith, w, none))
+no_action processes ports (action.Signal call) within none = (let w = within.0 in omega (arith, w, none))
+no_action processes ports (action.Wait port wanted) within none = omega (arith, within, none)
 
 -- and the reason for which a step ends the process
 pub ends_with : (line : ℕ) (act : Act) (content reason : List ℕ) (r : Result StepAction (List ℕ)) → r ≡ Err reason → r ≡ action_of line act content → (is_die act ≡ true) × ((later : List ℕ) → reason_of act later ≡ reason)

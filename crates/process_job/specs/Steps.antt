@@ -9,6 +9,7 @@ use Rattle.process_end.specs.declared.answers.ProcEnd.{ProcEnd}
 use Rattle.process_end.specs.Views.{ProcView}
 use Rattle.process_end.specs.Ports.{ArePorts}
 use Rattle.process_end.specs.Calls.{HasAsked}
+use Rattle.process_end.specs.Mailbox.{Mailbox}
 use Rattle.script_plan.specs.declared.step.Step.{Step}
 use Rattle.script_plan.specs.declared.step.Act.{Act}
 use Rattle.process_job.specs.Asks.{asks_of, calls_of, end_reason, ends_file, made_asks, made_of, made_of_step}
@@ -56,6 +57,10 @@ pub record HasComeTo (steps : List Step) (files : List (List ℕ)) (old : Proces
   pub reason : end_reason steps ≡ end_reason rest
   pub waited : (mails : List Mail) (seats : List SendKnown) → IsLater new mails seats → HaveWaited mails seats rest → HaveWaited mails seats steps
 
+-- nothing was taken of the mailbox, and no mail came
+abbrev pub HasTakenNone : Mailbox → List Mail → Mailbox → List Mail → Type 0
+HasTakenNone old mails new new_mails = (new ≡ old) × (new_mails ≡ mails)
+
 -- a process made all these steps, and ends for this reason
 pub record HasMadeSteps (steps : List Step) (files : List (List ℕ)) (old new : ProcessState) (reason : List ℕ) : Type 0 where
   pub asks : List Asked
@@ -68,7 +73,7 @@ pub record HasMadeSteps (steps : List Step) (files : List (List ℕ)) (old new :
 
 -- A process made all its steps and ended; `old` is what it had to begin with. The calls are read oldest first: those of the steps that were made, by the receipts, and one
 -- for each port. The mail came from the mailbox, each that is to be read once and in the order of its port, and from the process itself, where a closed port refused
--- a link or a monitor. A port that it ever found closed is closed by its last receipt for that port too
+-- a link or a monitor. A process without ports has no mail, and takes nothing of its mailbox. A port that it ever found closed is closed by its last receipt for that port too
 pub record HasRunToEnd (steps : List Step) (files : List (List ℕ)) (old : ProcView) (end : ProcEnd) (mails : List Mail) : Type 0 where
   pub asks : List Asked
   pub asks_are : asks ≡ made_asks (length old.lanes) steps files end.receipts
@@ -86,6 +91,7 @@ pub record HasRunToEnd (steps : List Step) (files : List (List ℕ)) (old : Proc
   pub came : List Came
   pub mails_are : mails ≡ map (λ c. c.mail) came
   pub heard : HasHeard came old.mailbox last.mailbox
+  pub silent : length old.lanes ≡ 0 → HasTakenNone old.mailbox [] last.mailbox mails
   pub own : mail_from None came ≡ own_mails (reverse asks) last.receipts
   pub waited : HaveWaited mails last.seats steps
   pub shown : (k : ℕ) → k < length old.lanes → FoundClosed k last.seats → ShowsClosed k last.receipts

@@ -4,7 +4,7 @@ ghost use Rattle.process_job.specs.Actions.{ActionWithin, asks_by, EndedWait};
 ghost use Rattle.process_job.specs.Going.{state};
 ghost use Rattle.process_job.specs.Jobs.{AreAmong, AreWithin};
 ghost use Rattle.process_job.specs.Seats.{HasPorts, SeatsAfter};
-ghost use Rattle.process_job.specs.Steps.{HasMadeSteps, MakesCallsOf};
+ghost use Rattle.process_job.specs.Steps.{HasMadeSteps, HasTakenNone, MakesCallsOf};
 
 use crate::action::{StepAction, action_of, content_for};
 use crate::calling::{payload_of, send_command, send_file, send_signal};
@@ -60,7 +60,7 @@ pub(crate) struct StepsToMake {
     pub files: VecDeque<Piece>,
 }
 
-/// Makes the steps of a process, up to the one that ends it. Answers the reason of its end.
+/// Makes the steps of a process, up to the one that ends it. Answers the reason of its end. Where there is no port, there is no step that takes mail.
 pub(crate) fn make_steps<B: PortBody, R: Wait>(
     rt: &R,
     alloc: Global,
@@ -73,6 +73,7 @@ pub(crate) fn make_steps<B: PortBody, R: Wait>(
     requires within { (processes : ℕ) × AreAmong processes proc.lanes × AreWithin processes (length proc.lanes) program.steps.items }
     ensures seats { SeatsAfter result seats.old seats.new }
     ensures made { IfOk result (λ r. HasMadeSteps program.steps.items program.files.items (state proc log.old) (state r.0 log.new) r.1) }
+    ensures silent { IfOk result (λ r. length proc.lanes ≡ 0 → HasTakenNone proc.mailbox log.old r.0.mailbox log.new) }
 {
     let StepsToMake {
         mut steps,

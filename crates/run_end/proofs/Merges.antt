@@ -14,6 +14,7 @@ use Rattle.port_model.specs.declared.mail.Mail.{Mail}
 use Rattle.process_end.specs.Mailbox.{Mailbox}
 use Rattle.process_job.specs.Mails.{Came, mail_from, is_source, own_mails, readable}
 use Rattle.process_job.proofs.Mailing.{mail_from-append, readable-append, of-append}
+use Rattle.process_job.proofs.Stepping.{empty_list}
 use Rattle.run_lanes.specs.Ends.{taken_in}
 use Rattle.run_end.specs.Rest.{came_in, TookRest}
 use Rattle.run_end.specs.Ran.{RanProcess, calls_made}
@@ -59,7 +60,7 @@ all_sent : (p : RanProcess) (ends : List MailEnd) (mailbox : Mailbox) (all : Lis
 all_sent p ends mailbox all are rest q d below =
     let end = get_or ends q d in
     sym (ap (λ n. of n mailbox.taken) (are q d below).0)
-    ∙ of_ends (λ e. of e.number mailbox.taken ≡ e.sent) p.end.mailbox mailbox ends (ap (λ (m : Mailbox). m.ended) rest.more.taken) rest.taken.all q d below
+    ∙ of_ends (λ e. of e.number mailbox.taken ≡ e.sent) p.end.mailbox mailbox ends (ap (λ (m : Mailbox). m.ended) rest.more.taken) (rest.taken (omega (arith, below))).all q d below
 
 -- and nothing from another
 all_below : (p : RanProcess) (ends : List MailEnd) (mailbox : Mailbox) (all : List Mail) → AreMailEnds ends → TookRest ends p.end.mailbox mailbox p.mails all → 0 < length ends
@@ -67,11 +68,16 @@ all_below : (p : RanProcess) (ends : List MailEnd) (mailbox : Mailbox) (all : Li
 all_below p ends mailbox all are rest some =
     let d = first_of ends 0 some in
     let first = of_ends (λ e. e.number ≡ 0 → All (λ x. x.sender < e.made) mailbox.taken × All (λ o. o.number < e.made) mailbox.ended) p.end.mailbox mailbox ends
-    (ap (λ (m : Mailbox). m.ended) rest.more.taken) rest.taken.order.counted 0 d some in
+    (ap (λ (m : Mailbox). m.ended) rest.more.taken) (rest.taken some).order.counted 0 d some in
     subst (λ n. All (λ (x : Item Mail). x.sender < n) mailbox.taken) (are 0 d some).1 (first (are 0 d some).0).0
 
+-- where there is no mail nothing came
+none_came : (n : ℕ) (came : List Came) → map (λ (c : Came). c.mail) came ≡ [] → All (λ c. IsFromPort n c.from) came
+none_came n [] none = All-nil (λ (c : Came). IsFromPort n c.from)
+none_came n (c ∷ came) none = absurd cc
+
 pub is_merge : MailIsMerge
-is_merge p ends mailbox all whole are rest =
+is_merge p ends mailbox all whole many are rest =
     let ran = whole.ran in
     let items = rest.more.items in
     let came : List Came = ran.came ++ came_in items in
@@ -83,9 +89,11 @@ is_merge p ends mailbox all whole are rest =
     ∙ ap (λ l. l ++ readable (of q items)) (before q) ∙ ap (λ l. mail_from (Some q) ran.came ++ l) (came_of q items) ∙ sym (mail_from-append (Some q) ran.came (came_in items)) in
     let asks : reverse ran.asks ≡ (calls_made p).asks = ap reverse ran.asks_are in
     let receipts : ran.last.receipts ≡ (calls_made p).receipts = sym (reverse-reverse ran.last.receipts) ∙ ap reverse (sym ran.receipts_are) in
+    let mails_are : all ≡ map (λ c. c.mail) came =
+    rest.more.mails_are ∙ ap (λ l. l ++ mails_in items) ran.mails_are ∙ sym (map-append (λ (c : Came). c.mail) ran.came (came_in items)) in
     record {
       came = came;
-      mails_are = rest.more.mails_are ∙ ap (λ l. l ++ mails_in items) ran.mails_are ∙ sym (map-append (λ (c : Came). c.mail) ran.came (came_in items));
+      mails_are = mails_are;
       ports = λ q d below. sym (ports q) ∙ ap readable (all_sent p ends mailbox all are rest q d below);
       own_is = mail_from-append None ran.came (came_in items)
           ∙ ap (λ l. mail_from None ran.came ++ l) (came_own items)
@@ -93,6 +101,11 @@ is_merge p ends mailbox all whole are rest =
           ∙ ran.own
           ∙ ap (λ l. own_mails l ran.last.receipts) asks
           ∙ ap (own_mails (calls_made p).asks) receipts;
-      among = λ some. none_past (length ends) came
-          (λ q le. sym (ports q) ∙ ap readable (none_of q (length ends) mailbox.taken (all_below p ends mailbox all are rest some) le));
+      among = ⊎_elim
+          (λ (some : 0 < length ends). none_past (length ends) came
+          (λ q le. sym (ports q) ∙ ap readable (none_of q (length ends) mailbox.taken (all_below p ends mailbox all are rest some) le)))
+          (λ (few : length ends ≤ 0).
+          let none : length ends ≡ 0 = omega (arith, few) in
+          none_came (length ends) came (sym mails_are ∙ (rest.none (empty_list ends none)).1 ∙ (ran.silent (many ∙ none)).1))
+          (cases_lt 0 (length ends));
     }

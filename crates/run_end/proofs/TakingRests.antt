@@ -113,14 +113,14 @@ taken_rows mailboxes new rows columns mails all are turned takes = record {
 }
 
 pub all_merge : AllMailIsMerge
-all_merge ps rows all ran taken n p mails below =
+all_merge ps rows all whole taken n p mails below =
     let q = get_or ps n p in
     let boxes = length-map ps (λ (o : RanProcess). o.end.mailbox) in
     let t = taken.each n q.end.mailbox q.mails mails (omega arith) in
     record {
       ends = t.ends;
       column = t.column;
-      merge = is_merge q t.ends t.new (get_or all n mails) (ran n p below) t.numbered
+      merge = is_merge q t.ends t.new (get_or all n mails) (whole.ran n p below) (whole.many n p below ∙ sym t.column.many) t.numbered
           (took_same t.ends _ q.end.mailbox t.new t.new _ q.mails (get_or all n mails) (get_or all n mails) (get_or-map (λ (o : RanProcess). o.end.mailbox) ps n p q.end.mailbox below) refl
           (get_or-map (λ (o : RanProcess). o.mails) ps n p q.mails below) refl t.took);
     }

@@ -13,7 +13,7 @@ use Rattle.process_job.specs.script_plan.declared.step.Act.TheVariants.{Expect, 
 use Rattle.process_job.specs.Going.{state}
 use Rattle.process_job.specs.Waits.{FoundClosed, HasWaited, HaveWaited, ShowsClosed}
 use Rattle.process_job.proofs.Stepping.{waited_all_later}
-use Rattle.run_end.specs.Ran.{RanProcess, calls_made}
+use Rattle.run_end.specs.Ran.{calls_made}
 use Rattle.run_end.specs.Waited.{AllWaitsAreShown, WaitIsShown, WaitsAreShown}
 
 -- a seat that found nothing yet

@@ -5,9 +5,10 @@ use Rattle.port_model.specs.declared.mail.Mail.{Mail}
 use Rattle.process_end.specs.Mailbox.{Mailbox}
 use Rattle.process_job.specs.Mails.{own_mails}
 use Rattle.run_lanes.specs.Ends.{made_by}
-use Rattle.run_end.specs.Ran.{RanProcess, HasRunWhole, calls_made}
+use Rattle.run_end.specs.Ran.{RanProcess, calls_made}
 use Rattle.run_end.specs.Rest.{TookRest}
 use Rattle.run_end.specs.Rows.{IsColumn}
+use Rattle.run_end.specs.Tell.{HaveRunWhole}
 use Rattle.run_end.specs.Merge.{AreMailEnds, IsMerge}
 
 -- an end of this mailbox with this number, one of so many
@@ -62,6 +63,6 @@ pub record IsMergeAt (place : ℕ) (rows : List (List MailEnd)) (p : RanProcess)
 
 -- so is the mail of each process of a run
 abbrev pub AllMailIsMerge : Type 0
-AllMailIsMerge = (processes : List RanProcess) (rows : List (List MailEnd)) (all : List (List Mail)) → All HasRunWhole processes
+AllMailIsMerge = (processes : List RanProcess) (rows : List (List MailEnd)) (all : List (List Mail)) → HaveRunWhole (length rows) processes
     → HaveTakenRows (map (λ p. p.end.mailbox) processes) rows (map (λ p. p.mails) processes) all
     → (n : ℕ) (p : RanProcess) (mails : List Mail) → n < length processes → IsMergeAt n rows (slice_index_or processes n p) (slice_index_or all n mails)

@@ -17,16 +17,16 @@ abbrev pub IsFromPort : ℕ → Option ℕ → Type 0
 IsFromPort ports None = Unit {0}
 IsFromPort ports (Some port) = port < ports
 
--- The mail is a merge: of each port what its end sent and is to be read, in the order in which it was sent, each once; and what the process added itself, in order. Where there is a
--- port at all, no other mail is among it
+-- The mail is a merge: of each port what its end sent and is to be read, in the order in which it was sent, each once; and what the process added itself, in order. No other mail is
+-- among it
 pub record IsMerge (ends : List MailEnd) (own mails : List Mail) : Type 0 where
   pub came : List Came
   pub mails_are : mails ≡ map (λ c. c.mail) came
   pub ports : (q : ℕ) (d : MailEnd) → q < length ends → mail_from (Some q) came ≡ readable (slice_index_or ends q d).sent
   pub own_is : mail_from None came ≡ own
-  pub among : 0 < length ends → All (λ c. IsFromPort (length ends) c.from) came
+  pub among : All (λ c. IsFromPort (length ends) c.from) came
 
 -- the mail of a process that has ended, once the rest of it was taken: a merge of what the ports sent it, and of what it added itself where a closed port refused a link or a monitor
 abbrev pub MailIsMerge : Type 0
-MailIsMerge = (p : RanProcess) (ends : List MailEnd) (mailbox : Mailbox) (all : List Mail) → HasRunWhole p → AreMailEnds ends → TookRest ends p.end.mailbox mailbox p.mails all
+MailIsMerge = (p : RanProcess) (ends : List MailEnd) (mailbox : Mailbox) (all : List Mail) → HasRunWhole p → length p.old.lanes ≡ length ends → AreMailEnds ends → TookRest ends p.end.mailbox mailbox p.mails all
     → IsMerge ends (own_mails (calls_made p).asks (calls_made p).receipts) all

@@ -1,5 +1,5 @@
 -- The mail that is left in a mailbox after a run.
-use Rattle.std.specs.Prelude.{◌≡◌, List, ◌++◌, map, filter, not, Some}
+use Rattle.std.specs.Prelude.{◌≡◌, ◌<◌, List, [], ◌++◌, length, map, filter, not, Some}
 use Rattle.task_queue.specs.declared.item.Item.{Item}
 use Rattle.task_queue.specs.Ends.{KeepsOrder, TookAll}
 use Rattle.run_lanes.specs.port_mail.Ends.{MailEnd}
@@ -23,7 +23,8 @@ pub record IsAllTaken (mailbox : Mailbox) : Type 0 where
   pub all : TookAll mailbox
   pub order : KeepsOrder AnyMail mailbox
 
--- the ends were taken in, and then all that was left was taken, behind the mail that was there
+-- the ends were taken in, and then all that was left was taken, behind the mail that was there. Where there is no end, nothing is taken
 pub record TookRest (ends : List MailEnd) (old new : Mailbox) (mails all : List Mail) : Type 0 where
   pub more : TookMore (taken_in old ends) new mails all
-  pub taken : IsAllTaken new
+  pub taken : 0 < length ends → IsAllTaken new
+  pub none : ends ≡ [] → (new ≡ old) × (all ≡ mails)

@@ -1,5 +1,5 @@
 -- What the steps of a process that wait for data show, once it has ended.
-use Rattle.std.specs.Prelude.{◌≡◌, ◌⊎◌, ℕ, ◌≤◌, List, [], ◌∷◌, ◌++◌, false}
+use Rattle.std.specs.Prelude.{◌≡◌, ◌⊎◌, ◌≤◌, List, [], ◌∷◌, ◌++◌, false}
 use Rattle.port_model.specs.declared.mail.Mail.{Mail}
 use Rattle.process_end.specs.process_receipts.declared.receipt.Receipt.{Receipt}
 use Rattle.process_job.specs.script_plan.declared.step.Step.{Step}

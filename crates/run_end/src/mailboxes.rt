@@ -11,7 +11,7 @@ use std::alloc::Global;
 use std::sync::Wait;
 use task_queue::{SendEnd, TakeEnd};
 
-// Takes the rest of the mailbox at a place.
+// Takes the rest of the mailbox at a place, where there is an end of it.
 fn take_rest_at<R: Wait>(
     rt: &R,
     mailboxes: &mut Vec<TakeEnd<Mail>>,
@@ -23,6 +23,9 @@ fn take_rest_at<R: Wait>(
     requires lanes { (m : Mailbox) → All (λ e. e.lane ≡ (slice_index_or mailboxes.old.items place m).lane) ends.items }
     ensures { OnOk result (TakesRestAt place ends.items mailboxes.old.items mailboxes.new.items (map (λ m. m.items) mails.old.items) (map (λ m. m.items) mails.new.items)) }
 {
+    if ends.is_empty() {
+        return Ok(());
+    }
     take_rest(rt, &mut mailboxes[place], ends, &mut mails[place])?;
     Ok(())
 }
@@ -47,7 +50,7 @@ fn take_each_rest<R: Wait>(
 }
 
 /// Takes the rest of all mailboxes, of which the ends come port by port: each row is of one port, with an end of each mailbox, in the order of mailboxes. Answers the mail of each, with
-/// the rest behind what was there. Where no memory is found, all is dropped.
+/// the rest behind what was there. Where there is no port nothing is taken. Where no memory is found, all is dropped.
 pub fn take_all_rest<R: Wait>(
     rt: &R,
     alloc: Global,

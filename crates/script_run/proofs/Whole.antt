@@ -319,7 +319,7 @@ process-holds tell waits script s ran closed left g is have closed_many ports pr
           (subst (λ (x : Calls). WaitsAreShown (get_or left.processes.items n l).mails.items x.receipts (get_or ran n r).steps) (sym calls)
           (subst (λ m. WaitsAreShown m (calls_made (get_or ran n r)).receipts (get_or ran n r).steps) (sym (g.processes.mails_are n l [] below ∙ grown.1))
           (waits (get_or ran n r) grown.0 (have.ran n r below))));
-      among = λ some-port. subst (λ m. All (λ (c : Came). IsFromPort m c.from) at.merge.came) all (at.merge.among (omega (arith, all, some-port)));
+      among = subst (λ m. All (λ (c : Came). IsFromPort m c.from) at.merge.came) all at.merge.among;
     }
 
 -- what holds of all words that a port found holds of those with which it resumed

@@ -104,7 +104,7 @@ pub record ProcessHolds (ports : ℕ) (soft : List Bool) (program : Program) (ca
   pub receipts : AreReceipts soft calls.asks calls.receipts
   pub mails_are : left.mails.items ≡ map (λ c. c.mail) came
   pub own : mail_from None came ≡ own_mails calls.asks calls.receipts
-  pub among : 0 < ports → All (λ c. IsFromPort ports c.from) came
+  pub among : All (λ c. IsFromPort ports c.from) came
   pub replied : AreReplied calls.asks calls.receipts left.mails.items
   pub waited : WaitsAreShown left.mails.items calls.receipts program.steps.items
 

@@ -4,7 +4,7 @@ use Rattle.port_words.specs.over.Over.{OverKnown, HasToFinish}
 use Rattle.process_job.specs.declared.halt.Halt.TheVariants as halt
 use Rattle.process_job.specs.Going.{state}
 use Rattle.process_job.specs.Jobs.{AreWithin}
-use Rattle.process_job.specs.Steps.{HasMadeSteps, HasRunToEnd}
+use Rattle.process_job.specs.Steps.{HasMadeSteps, HasRunToEnd, HasTakenNone}
 use Rattle.process_job.proofs.Endings.{run_to_end}
 use Rattle.process_job.proofs.Seating.{finished_then, halted_then, no_memory, ran_halt, seats_none, woken_then}
 use Rattle.process_job.proofs.job.run_process.Goals as goal
@@ -30,8 +30,10 @@ returns g c =
     let log : List Mail = c.make_steps.new.log in
     let made : HasMadeSteps work.steps.items work.files.items (state work.proc []) (state c.in_ok-proc.proc log) c.in_ok-proc.reason =
     subst (λ (l : List Mail). HasMadeSteps work.steps.items work.files.items (state work.proc l) (state c.in_ok-proc.proc log) c.in_ok-proc.reason) c.in_ok-log.ensures c.in_ok-proc.ensures.made in
+    let silent : length work.proc.lanes ≡ 0 → HasTakenNone work.proc.mailbox [] c.in_ok-proc.proc.mailbox log =
+    subst (λ (l : List Mail). length work.proc.lanes ≡ 0 → HasTakenNone work.proc.mailbox l c.in_ok-proc.proc.mailbox log) c.in_ok-log.ensures c.in_ok-proc.ensures.silent in
     let run : HasRunToEnd work.steps.items work.files.items work.proc c.in_ok-proc-2.proc log =
-    run_to_end work.steps.items work.files.items work.proc c.in_ok-proc.proc c.in_ok-proc.reason c.in_ok-proc-2.proc log c.requires.work.fresh made e.ended in (
+    run_to_end work.steps.items work.files.items work.proc c.in_ok-proc.proc c.in_ok-proc.reason c.in_ok-proc-2.proc log c.requires.work.fresh made silent e.ended in (
       subst (HasRunToEnd work.steps.items work.files.items work.proc c.in_ok-proc-2.proc) (sym c.into_mails.ensures) run,
       woken_then [] c.args.seats.now.ports c.make_steps.new.seats.ports c.end_process.new.seats.ports go.woke e.seats.0,
       finished_then c.args.seats.now.over c.make_steps.new.seats.over c.end_process.new.seats.over go.looked e.seats.1,

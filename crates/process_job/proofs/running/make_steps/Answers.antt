@@ -1,4 +1,4 @@
-use Rattle.std.proofs.Common.{◌≡◌, ◌<◌, ℕ, List, [], ◌∷◌, length, Result, Ok, Err, sym, ap, ◌∙◌, subst, arith}
+use Rattle.std.proofs.Common.{◌≡◌, ◌<◌, ℕ, List, [], ◌∷◌, length, Result, Ok, Err, refl, sym, ap, ◌∙◌, subst, arith}
 use Rattle.std.specs.List.{All}
 use Rattle.std.proofs.lemmas.List.Elements.{All-head, All-tail}
 use Rattle.script_plan.specs.declared.step.Step.{Step}
@@ -10,7 +10,7 @@ use Rattle.process_job.specs.Jobs.{AreWithin}
 use Rattle.process_job.specs.Steps.{HasComeTo, MakesCallsOf}
 use Rattle.process_job.proofs.Ports.{among_kept}
 use Rattle.process_job.proofs.Seating.{after_halt, halted_then, ports_kept, seats_none, seats_then}
-use Rattle.process_job.proofs.Stepping.{IsActionOf, empty_list, come_all, come_end, come_more, come_none, ends_with, is_action}
+use Rattle.process_job.proofs.Stepping.{IsActionOf, empty_list, come_all, come_end, come_more, come_none, ends_with, is_action, no_action}
 use Rattle.process_job.proofs.running.make_steps.Goals as goal
 
 pub steps-init : goal.steps-init
@@ -18,6 +18,7 @@ steps-init g c = record {
   seats = seats_none c.args.seats.now c.requires.ports.homes;
   ports = c.requires.ports;
   within = c.requires.within;
+  silent = λ none. (refl, refl);
   come = come_none c.args.program.steps.items c.args.program.files.items (state c.args.proc c.args.log.now);
 }
 
@@ -67,6 +68,9 @@ steps-preserved g c =
         among_kept w.0 c.steps.sender.lanes three.proc.lanes c.steps.sender.seats three.proc.seats ports w.1,
         subst (λ n. AreWithin w.0 n rest) (sym ports.lanes_many) (All-tail (λ (s : Step). IsWithin w.0 (length c.steps.sender.lanes) s.act) step rest all),
       );
+      silent = λ none. absurd (no_action w.0 (length c.steps.sender.lanes) c.in-Ok.action
+          (a.within w.0 (length c.steps.sender.lanes) (All-head (λ (s : Step). IsWithin w.0 (length c.steps.sender.lanes) s.act) step rest all))
+          (i.come.makes.goes.ports.lanes_many ∙ none));
       come = subst (λ l. HasComeTo all_steps all_files one rest l three) (sym c.content_for-content.ensures.rest) come;
     }
 
@@ -91,3 +95,9 @@ returns-clause-made g c =
     let two : ProcessState = state c.steps.sender c.steps.log in
     let none : length c.steps.steps.items ≡ 0 = omega (arith, c.in_default.ensures.cases.0, c.steps.steps.ok.0) in
     come_all all_steps all_files files c.normal.result one two (subst (λ l. HasComeTo all_steps all_files one l files two) (empty_list c.steps.steps.items none) c.steps.invariant.come) c.normal.ensures
+
+pub returns-in-Err-clause-silent : goal.returns-in-Err-clause-silent
+returns-in-Err-clause-silent g c = c.steps.invariant.silent
+
+pub returns-clause-silent : goal.returns-clause-silent
+returns-clause-silent g c = c.steps.invariant.silent
