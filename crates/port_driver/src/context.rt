@@ -163,12 +163,15 @@ impl DriverCtx {
         self.queue.sizeq() == 0
     }
 
-    /// Adds an effect.
+    /// Adds an effect. The first one gets room for itself alone: most callbacks have no second one, and the list is kept in the row.
     fn add(&mut self, effect: Effect) -> Result<(), NoMemory>
         requires { length self.old.effects < 1048576 }
         ensures ok { OnOk result (self.new ≡ did self.old effect) }
         ensures err { OnErr result (self.new ≡ self.old) }
     {
+        if self.effects.is_empty() {
+            self.effects.reserve_exact(1)?;
+        }
         self.effects.push(effect)?;
         Ok(())
     }
