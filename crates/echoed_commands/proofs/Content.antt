@@ -1,12 +1,10 @@
 -- Where no call for a port is refused, what its owner's commands carry is all that its steps send.
-use Rattle.std.proofs.Common.{◌≡◌, ℕ, ◌+◌, ◌==◌, ◌<◌, ◌≤◌, ◌&&◌, zero, suc, Bool, true, false, cond, List, [], ◌∷◌, ◌++◌, length, map, take, drop, Option, Some, None, refl, sym, ap, ◌∙◌, subst, arith, ⊎_elim, append_assoc}
+use Rattle.std.proofs.Common.{◌≡◌, ℕ, ◌+◌, ◌==◌, ◌<◌, ◌≤◌, ◌&&◌, zero, suc, Bool, true, false, cond, List, [], ◌∷◌, ◌++◌, length, map, take, drop, Option, Some, None, refl, sym, ap, ◌∙◌, arith, ⊎_elim, append_assoc}
 use Rattle.std.specs.Prelude.{reverse}
 use Rattle.std.specs.List.{AllByRecursion, concat, flat_map}
-use Rattle.std.proofs.lemmas.Bool.{eqb-true, eq-eqb, ne_eqb, cases_eq, true≢false}
+use Rattle.std.proofs.lemmas.Bool.{eqb-true, ne_eqb, cases_eq}
 use Rattle.std.proofs.lemmas.List.{append-nil, length-drop, map-append, reverse-append, reverse-reverse, take-append-drop}
 use Rattle.std.proofs.lemmas.List.Concat.{flat_map-append}
-use Rattle.echoed_history.specs.port_history.port_model.declared.signal.Signal.{Signal}
-use Rattle.echoed_history.specs.port_history.port_model.Tasks.{TaskView}
 use Rattle.process_end.specs.Ended.{gone_ask, gone_asks}
 use Rattle.run_setting.specs.run_end.process_job.Asks.{asks_of, calls_of, command_ask, end_reason, ends_file, files_after, how_of, made_asks, made_of, made_of_step, next_content, pieces, pieces_up_to, vector_of}
 use Rattle.process_end.specs.process_receipts.Asks.{Asked, task_of}
@@ -24,7 +22,7 @@ use Rattle.run_setting.specs.run_end.process_job.script_plan.Plan.{IsWithin}
 use Rattle.echoed_history.specs.Commands.{command_data, task_data}
 use Rattle.echoed_commands.specs.Sending.{all_sent_by, sends_to, sent_by}
 use Rattle.echoed_commands.proofs.Asked.{asks-for, made-newest, step-made}
-use Rattle.echoed_history.proofs.Lists.{both, reversed, weaker}
+use Rattle.echoed_history.proofs.Lists.{reversed, weaker}
 
 -- the data of a call for the port
 abbrev pub ask_data : ℕ → Asked → List ℕ

@@ -1,8 +1,8 @@
 -- The mail of a process: what is saved of a port's data is what came from that port.
-use Rattle.std.proofs.Common.{◌≡◌, ℕ, ◌==◌, ◌<◌, ◌&&◌, not, Bool, true, false, cond, List, [], ◌∷◌, ◌++◌, Option, Some, None, refl, sym, ap, ◌∙◌, subst, ⊎_elim}
-use Rattle.std.specs.Prelude.{map, filter, codes}
+use Rattle.std.proofs.Common.{◌≡◌, ℕ, ◌==◌, ◌&&◌, not, Bool, true, false, cond, List, [], ◌∷◌, ◌++◌, Option, Some, None, refl, sym, ap, ◌∙◌, subst}
+use Rattle.std.specs.Prelude.{map, filter}
 use Rattle.std.specs.List.{AllByRecursion, flat_map}
-use Rattle.std.proofs.lemmas.Bool.{eqb-true, eq-eqb, ne_eqb}
+use Rattle.std.proofs.lemmas.Bool.{eq-eqb, ne_eqb}
 use Rattle.script_run.specs.run_opening.driver_model.port_signal.Links.{has}
 use Rattle.script_run.specs.run_opening.driver_model.port_signal.declared.monitor.Monitor.{Monitor as MonitorEntry}
 use Rattle.script_run.specs.run_opening.driver_model.port_signal.Reasons.{told_reason}
@@ -11,15 +11,15 @@ use Rattle.echoed_history.specs.port_history.port_model.declared.effect.Effect.T
 use Rattle.echoed_history.specs.port_history.port_model.declared.mail.Mail.{Mail}
 use Rattle.echoed_history.specs.port_history.port_model.declared.mail.Mail.TheVariants as mail
 use Rattle.echoed_history.specs.port_history.port_model.declared.row.Row.{Row}
-use Rattle.echoed_history.specs.port_history.port_model.declared.row.Row.TheVariants.{Handled, Late, Listed, Resumed, Mark}
+use Rattle.echoed_history.specs.port_history.port_model.declared.row.Row.TheVariants.{Handled, Late, Resumed}
 use Rattle.echoed_history.specs.port_history.port_model.declared.signal.Sender.{Sender}
-use Rattle.echoed_history.specs.port_history.port_model.declared.signal.Sender.TheVariants.{Process, Poller, Worker, Timer}
+use Rattle.echoed_history.specs.port_history.port_model.declared.signal.Sender.TheVariants.{Process}
 use Rattle.echoed_history.specs.port_history.port_model.declared.signal.Signal.{Signal}
 use Rattle.echoed_history.specs.port_history.port_model.declared.signal.Signal.TheVariants.{OwnerCommand, Control, Call, Close, OwnerClose, Connect, OwnerConnect, Link, Monitor}
 use Rattle.echoed_history.specs.port_history.Counts.{saved_mail, saved_of, line_end}
-use Rattle.echoed_history.specs.port_history.Mail.{Sent, send, effect_mail, answer_mail, answers, late_mail, end_mail, closing_mail, closed_mail, handled_mail, row_mail, mail_for, mails, bad_signal, answer_of}
-use Rattle.echoed_history.specs.port_history.Opening.{Opening, Taken, taken_of}
-use Rattle.echoed_history.specs.port_history.State.{State, state, is_open, closing_reason, closer_after, stops}
+use Rattle.echoed_history.specs.port_history.Mail.{Sent, send, effect_mail, answer_mail, answers, late_mail, closing_mail, closed_mail, row_mail, mail_for, mails, bad_signal}
+use Rattle.echoed_history.specs.port_history.Opening.{Opening, taken_of}
+use Rattle.echoed_history.specs.port_history.State.{State, state, closing_reason, closer_after, stops}
 use Rattle.echoed_history.specs.port_history.Ties.{Ties, may_own, tied}
 use Rattle.process_end.specs.process_receipts.Asks.{Asked}
 use Rattle.process_end.specs.process_receipts.declared.receipt.Receipt.{Receipt}

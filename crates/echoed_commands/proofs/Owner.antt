@@ -1,49 +1,33 @@
 -- The calls of the processes for a port to which its owner alone sends commands, and the rows that they have.
-use Rattle.std.proofs.Common.{◌≡◌, ℕ, ◌+◌, ◌==◌, ◌<◌, ◌≤◌, zero, suc, Bool, true, false, cond, List, [], ◌∷◌, ◌++◌, length, get_or, Option, Some, None, refl, sym, ap, ◌∙◌, subst, arith, ⊎_elim, All, count_by}
-use Rattle.std.specs.Prelude.{reverse, slice_index_or}
-use Rattle.std.specs.List.{AllByRecursion, flat_map}
-use Rattle.std.proofs.lemmas.Bool.{eqb-false, ne_eqb, cases_lt, cases_eq}
+use Rattle.std.proofs.Common.{◌≡◌, ℕ, ◌+◌, ◌==◌, ◌<◌, ◌≤◌, zero, suc, Bool, true, cond, List, [], ◌∷◌, ◌++◌, length, get_or, Some, refl, sym, ap, ◌∙◌, subst, arith}
+use Rattle.std.specs.Prelude.{reverse}
+use Rattle.std.specs.List.{AllByRecursion}
+use Rattle.std.proofs.lemmas.Bool.{ne_eqb}
 use Rattle.std.proofs.lemmas.List.{append-nil, reverse-append}
-use Rattle.std.proofs.lemmas.List.Elements.{All-from_recursion, recursion_from_All}
 use Rattle.std.proofs.lemmas.List.Sums.{sum_by-cons, sum_by-append}
-use Rattle.script_run.specs.run_opening.driver_hosts.declared.hosted.Hosted.{Hosted}
-use Rattle.script_run.specs.run_opening.driver_model.Calls.{Kind, Own, Echo, Valve, Tally, Store, Digest, Spawn, Refuse1, Refuse2, Refuse3}
+use Rattle.script_run.specs.run_opening.driver_model.Calls.{Kind, Echo, Valve, Tally, Store, Digest, Spawn, Refuse1, Refuse2, Refuse3}
 use Rattle.script_run.specs.run_opening.driver_model.Drivers.{kind_name}
-use Rattle.script_run.specs.run_opening.driver_model.Programs.{ToldProgram}
-use Rattle.script_run.specs.run_opening.driver_hosts.port_driver.declared.life.Life.{Life}
 use Rattle.script_run.specs.run_opening.port_body.LanePort.{rows_from, task_from}
-use Rattle.echoed_history.specs.port_history.Counts.{is_late_command, late_commands, saved_of}
-use Rattle.echoed_history.specs.port_history.Mail.{mails}
-use Rattle.echoed_history.specs.port_history.Opening.{Opening}
+use Rattle.echoed_history.specs.port_history.Counts.{is_late_command, late_commands}
 use Rattle.echoed_history.specs.port_history.port_model.declared.row.Row.{Row}
 use Rattle.echoed_history.specs.port_history.port_model.declared.row.Row.TheVariants.{Handled, Late, Listed, Resumed, Mark}
-use Rattle.echoed_history.specs.port_history.port_model.declared.signal.Sender.TheVariants.{Process, Poller, Worker, Timer}
+use Rattle.echoed_history.specs.port_history.port_model.declared.signal.Sender.TheVariants.{Process}
 use Rattle.echoed_history.specs.port_history.port_model.Tasks.{TaskView}
 use Rattle.process_end.specs.Ended.{gone_ask, gone_asks}
 use Rattle.run_setting.specs.run_end.process_job.Asks.{asks_of, end_reason, made_asks}
-use Rattle.run_setting.specs.run_end.process_job.Mails.{Came, mail_from, is_source, readable}
 use Rattle.process_end.specs.process_receipts.Asks.{Asked, is_gone, task_of}
-use Rattle.process_end.specs.process_receipts.Receipts.{AreReceipts, accepted, is_put, stats_shown}
+use Rattle.process_end.specs.process_receipts.Receipts.{AreReceipts, accepted, is_put}
 use Rattle.process_end.specs.process_receipts.declared.receipt.Receipt.{Receipt}
-use Rattle.run_setting.specs.run_end.Merge.{IsFromPort}
-use Rattle.run_setting.specs.run_end.Shown.{Calls, WordsHold}
-use Rattle.script_run.specs.run_opening.Opened.{limits_of}
+use Rattle.run_setting.specs.run_end.Shown.{Calls}
 use Rattle.run_setting.specs.run_seats.declared.plans.Program.{Program}
-use Rattle.run_setting.specs.declared.RunScript.{RunScript}
-use Rattle.run_setting.specs.run_end.process_job.script_plan.declared.decl.PortDecl.{PortDecl}
 use Rattle.run_setting.specs.run_end.process_job.script_plan.declared.step.Step.{Step}
-use Rattle.script_run.specs.declared.running.PortLeft.{PortLeft}
 use Rattle.script_run.specs.declared.running.ProcessLeft.{ProcessLeft}
-use Rattle.script_run.specs.declared.running.ScriptRan.{ScriptRan}
-use Rattle.script_run.specs.Ran.{HasRun, IsFrom, all_calls, calls_of, history_of, opening_of}
-use Rattle.echoed_commands.specs.Sending.{IsEchoPort, sends_back, sends_to, is_plain}
-use Rattle.echoed_commands.specs.Echoed.{CommandsAreEchoed, EchoesTo, IsEchoed, is_taken}
-use Rattle.echoed_history.specs.Commands.{AreCommands, AreEnds, EndsWith, OthersEnd, echoes, is_plain_command, task_data}
+use Rattle.script_run.specs.Ran.{IsFrom, all_calls, calls_of}
+use Rattle.echoed_commands.specs.Sending.{sends_back, sends_to, is_plain}
+use Rattle.echoed_history.specs.Commands.{AreCommands, AreEnds, echoes, is_plain_command}
 use Rattle.echoed_commands.proofs.Answered.{AtEnd, IsOwn, at-end, tasks-all}
-use Rattle.echoed_commands.proofs.Asked.{made_by, made-newest, other-asks, own-asks, steps-made}
-use Rattle.echoed_history.proofs.Lists.{both, reversed, weaker}
-use Rattle.echoed_commands.proofs.Mailed.{OthersSendNone, came-saved, mails-other, own-other, readable-other, readable-saved}
-use Rattle.echoed_history.proofs.Serving.{HasServed, Serves, has-served, serves, unfinished}
+use Rattle.echoed_commands.proofs.Asked.{made_by, made-newest, own-asks, steps-made}
+use Rattle.echoed_history.proofs.Lists.{both, weaker}
 
 -- the driver of this name is one of the kinds that send back
 pub kind-echoes : (kind : Kind) → sends_back (kind_name kind) ≡ true → echoes kind ≡ true

@@ -1,11 +1,11 @@
 -- Few calls, and short ones: none is refused for its size or its number.
-use Rattle.std.proofs.Common.{◌≡◌, ℕ, ◌+◌, ◌==◌, ◌<◌, ◌≤◌, zero, suc, Bool, true, false, cond, List, [], ◌∷◌, ◌++◌, length, map, take, drop, Option, Some, None, refl, sym, ap, ◌∙◌, subst, arith, sum_by}
+use Rattle.std.proofs.Common.{◌≡◌, ℕ, ◌≤◌, zero, suc, Bool, true, false, cond, List, [], ◌∷◌, length, map, take, drop, Some, refl, sym, ap, ◌∙◌, arith, sum_by}
 use Rattle.std.specs.List.{AllByRecursion}
 use Rattle.std.proofs.lemmas.Bool.{eqb-true, true≢false}
 use Rattle.std.proofs.lemmas.List.{length-append, length-take}
 use Rattle.std.proofs.lemmas.List.Sums.{sum_by-cons}
 use Rattle.echoed_history.specs.port_history.port_model.Signals.{data_size}
-use Rattle.run_setting.specs.run_end.process_job.Asks.{asks_of, calls_of, command_ask, ends_file, made_of, made_of_step, pieces_up_to}
+use Rattle.run_setting.specs.run_end.process_job.Asks.{asks_of, command_ask, ends_file, made_of, made_of_step, pieces_up_to}
 use Rattle.process_end.specs.process_receipts.Asks.{Asked}
 use Rattle.process_end.specs.process_receipts.declared.how.How.TheVariants.{Plain}
 use Rattle.process_end.specs.process_receipts.declared.receipt.Receipt.{Receipt}

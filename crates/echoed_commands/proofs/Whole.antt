@@ -1,5 +1,5 @@
 -- A run as a whole: what its ports and processes leave of a port that sends each command back.
-use Rattle.std.proofs.Common.{◌≡◌, ℕ, ◌+◌, ◌==◌, ◌<◌, ◌≤◌, zero, suc, Bool, true, false, cond, List, [], ◌∷◌, ◌++◌, length, get_or, Option, Some, None, refl, sym, ap, ◌∙◌, subst, arith, ⊎_elim, All}
+use Rattle.std.proofs.Common.{◌≡◌, ℕ, ◌+◌, ◌==◌, ◌<◌, ◌≤◌, Bool, true, cond, List, [], ◌∷◌, ◌++◌, length, Option, Some, None, refl, sym, ap, ◌∙◌, subst, arith, ⊎_elim}
 use Rattle.std.specs.Prelude.{reverse, slice_index, slice_index_or}
 use Rattle.std.specs.List.{AllByRecursion, flat_map}
 use Rattle.std.proofs.lemmas.Bool.{eqb-false, cases_lt, true_from_ne_false}
@@ -11,7 +11,7 @@ use Rattle.script_run.specs.run_opening.driver_model.Programs.{ToldProgram}
 use Rattle.script_run.specs.run_opening.driver_hosts.port_driver.declared.life.Life.{Life}
 use Rattle.script_run.specs.run_opening.port_body.LanePort.{rows_from}
 use Rattle.script_run.specs.run_opening.port_body.recorded_port.View.{stat_marks}
-use Rattle.echoed_history.specs.port_history.Counts.{late_commands, saved_of}
+use Rattle.echoed_history.specs.port_history.Counts.{saved_of}
 use Rattle.echoed_history.specs.port_history.Mail.{mails}
 use Rattle.echoed_history.specs.port_history.Opening.{Opening}
 use Rattle.echoed_history.specs.port_history.State.{state}
@@ -22,7 +22,7 @@ use Rattle.run_setting.specs.run_end.port_words.busy.Stat.{Rises}
 use Rattle.run_setting.specs.run_end.port_words.declared.busy.view.StatMark.{StatMark}
 use Rattle.process_end.specs.Ended.{gone_ask, gone_asks}
 use Rattle.run_setting.specs.run_end.process_job.Asks.{asks_of, calls_of as calls_of_steps, made_of}
-use Rattle.run_setting.specs.run_end.process_job.Mails.{Came, mail_from, is_source, readable}
+use Rattle.run_setting.specs.run_end.process_job.Mails.{Came}
 use Rattle.process_end.specs.process_receipts.Asks.{Asked, task_of}
 use Rattle.process_end.specs.process_receipts.Receipts.{AreReceipts, accepted, is_put, stats_shown}
 use Rattle.process_end.specs.process_receipts.declared.receipt.Receipt.{Receipt}
@@ -39,9 +39,9 @@ use Rattle.script_run.specs.declared.running.PortLeft.{PortLeft}
 use Rattle.script_run.specs.declared.running.ProcessLeft.{ProcessLeft}
 use Rattle.script_run.specs.declared.running.ScriptRan.{ScriptRan}
 use Rattle.script_run.specs.Ran.{HasRun, IsFrom, PairHolds, PortServed, all_calls, calls_of, history_of, opening_of}
-use Rattle.echoed_commands.specs.Sending.{IsEchoPort, IsWithinLimits, IsShort, sends_back, sends_to, is_plain}
+use Rattle.echoed_commands.specs.Sending.{IsEchoPort, IsShort, sends_back, sends_to, is_plain}
 use Rattle.echoed_commands.specs.Echoed.{AllIsEchoed, CommandsAreEchoed, EchoesAllTo, RefusesNoneOf, EchoesTo, NoneIsRefused, is_taken}
-use Rattle.echoed_history.specs.Commands.{AreCommands, AreEnds, EndsWith, OthersEnd, echoes, task_data}
+use Rattle.echoed_history.specs.Commands.{AreCommands, AreEnds, OthersEnd, echoes, task_data}
 use Rattle.echoed_commands.proofs.Answered.{EachFor, IsShortAsk, made-put, made-taken, owner-taken}
 use Rattle.echoed_commands.proofs.Asked.{other-asks, steps-made}
 use Rattle.echoed_history.proofs.Lists.{reversed, weaker}

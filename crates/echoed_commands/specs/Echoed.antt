@@ -1,14 +1,12 @@
 -- What the owner of a port finds that sends each command back, whatever the schedule.
-use Rattle.std.specs.Prelude.{◌≡◌, ℕ, ◌<◌, List, [], All, Bool, true, false, Option, length, slice_index_or}
-use Rattle.std.specs.List.{concat, flat_map}
+use Rattle.std.specs.Prelude.{◌≡◌, ℕ, ◌<◌, List, All, Bool, true, false, Option, length, slice_index_or}
+use Rattle.std.specs.List.{flat_map}
 use Rattle.script_run.specs.run_opening.driver_model.Calls.{Kind, Own}
 use Rattle.script_run.specs.run_opening.driver_model.Programs.{ToldProgram}
 use Rattle.script_run.specs.run_opening.driver_hosts.declared.hosted.Hosted.{Hosted}
 use Rattle.script_run.specs.run_opening.driver_hosts.port_driver.declared.life.Life.{Life}
 use Rattle.echoed_history.specs.port_history.Counts.{late_commands, saved_of}
 use Rattle.echoed_history.specs.port_history.port_model.declared.signal.Signal.{Signal}
-use Rattle.echoed_history.specs.port_history.port_model.declared.signal.Signal.TheVariants.{Command}
-use Rattle.echoed_history.specs.port_history.port_model.Tasks.{TaskView}
 use Rattle.process_end.specs.process_receipts.declared.receipt.Outcome.{Outcome}
 use Rattle.process_end.specs.process_receipts.declared.receipt.Outcome.TheVariants.{Accepted, Suspended, TooLong, SentOut}
 use Rattle.process_end.specs.process_receipts.Receipts.{accepted, is_put}

@@ -10,7 +10,7 @@ use Rattle.port_history.specs.port_model.declared.event.Dir.TheVariants.{Read, W
 use Rattle.port_history.specs.port_model.declared.effect.Effect.{Effect}
 use Rattle.port_history.specs.port_model.declared.effect.Effect.TheVariants.{Message, Eof, Status, Busy, Select, Unuse, Async, Watch, Reply, ReplyBadarg, Fail}
 use Rattle.driver_model.specs.Calls as driver
-use Rattle.driver_model.specs.Calls.{Callback, DriverCall, Kind, Echo, Valve, Tally, Store, Digest, Spawn, Refuse1, Refuse2, Refuse3}
+use Rattle.driver_model.specs.Calls.{Callback, DriverCall, Kind, Echo, Valve}
 use Rattle.driver_model.specs.Drivers.{effects_of}
 use Rattle.driver_model.specs.Echo.{echo_effects}
 use Rattle.driver_model.specs.Valve.{valve_effects}

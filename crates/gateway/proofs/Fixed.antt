@@ -1,5 +1,5 @@
 -- What of a run is the same for every schedule, by the laws of the crates below.
-use Rattle.std.proofs.Common.{◌≡◌, ℕ, List, Option, Result, subst}
+use Rattle.std.proofs.Common.{ℕ, List, Option, Result, subst}
 use Rattle.driver_model.specs.Calls.{Kind, Own}
 use Rattle.driver_model.specs.Programs.{ToldProgram}
 use Rattle.driver_hosts.specs.declared.hosted.Hosted.{Hosted}

@@ -6,7 +6,7 @@ use Rattle.driver_model.specs.port_signal.Reasons.{is_kill}
 use Rattle.driver_model.specs.port_signal.declared.outside.Outside.{Outside}
 use Rattle.driver_model.specs.port_model.declared.effect.Effect.{Effect}
 use Rattle.driver_model.specs.Calls as driver
-use Rattle.driver_model.specs.Calls.{Callback, DriverCall, call_of, cut_of, is_empty, Own, Kind, Echo, Tally, Valve, Store, Digest, Spawn, Refuse1, Refuse2, Refuse3}
+use Rattle.driver_model.specs.Calls.{DriverCall, call_of, is_empty, Own, Kind, Echo, Tally, Valve, Store, Digest, Spawn, Refuse1, Refuse2, Refuse3}
 use Rattle.driver_model.specs.Spawn.{is_none}
 use Rattle.driver_model.specs.Drivers.{effects_of, call_answered}
 use Rattle.port_driver.specs.Context.{Context}

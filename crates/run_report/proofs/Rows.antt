@@ -11,7 +11,7 @@ use Rattle.port_model.specs.declared.signal.Sender.TheVariants.{Process, Poller,
 use Rattle.port_model.specs.declared.signal.Signal.{Signal}
 use Rattle.port_model.specs.declared.signal.Signal.TheVariants.{Command, OwnerCommand, Control, Call, Close, OwnerClose, Connect, OwnerConnect, Link, Unlink, Monitor, Demonitor, Exit, Gone, Ready, Dropped, AsyncDone}
 use Rattle.driver_model.specs.Calls as driver
-use Rattle.driver_model.specs.Calls.{Callback, DriverCall, call_of}
+use Rattle.driver_model.specs.Calls.{DriverCall, call_of}
 use Rattle.port_history.specs.Opening.{Opening, Taken, is_process}
 use Rattle.port_history.specs.Ties.{Ties}
 use Rattle.port_history.specs.Service.{callback_of, caller_of, calls_by, exit_callback, first_reason, flush_calls, is_drained, stop_calls}

@@ -1,5 +1,5 @@
 -- Which calls the steps of a process make that hand no port to another process.
-use Rattle.std.proofs.Common.{◌≡◌, ◌+◌, ℕ, zero, suc, List, [], ◌∷◌, ◌++◌, length, drop, map, reverse, Bool, true, false, ◌&&◌, eqb, cond, refl, sym, ◌∙◌, ap, subst}
+use Rattle.std.proofs.Common.{◌≡◌, ℕ, zero, suc, List, [], ◌∷◌, length, drop, reverse, Bool, true, false, ◌&&◌, eqb, cond, refl, sym, ◌∙◌}
 use Rattle.std.specs.List.{AllByRecursion}
 use Rattle.port_model.specs.declared.signal.Signal.TheVariants as signal
 use Rattle.port_model.specs.Tasks.{TaskView}
@@ -14,10 +14,10 @@ use Rattle.echoed_commands.specs.run_setting.run_end.process_job.Asks.{pieces, v
 use Rattle.script_plan.specs.Monitors.{is_die}
 use Rattle.script_plan.specs.declared.step.Step.{Step}
 use Rattle.script_plan.specs.declared.step.Act.{Act}
-use Rattle.script_plan.specs.declared.step.Act.TheVariants.{Command, File, Send, Control, Call, Close, Connect, SendClose, SendConnect, Link, Unlink, Monitor, Demonitor, Exit, Expect, Bytes, Die}
+use Rattle.script_plan.specs.declared.step.Act.TheVariants.{Command, File, Send, Control, Call, Close, Connect, SendClose, SendConnect, Link, Unlink, Monitor, Demonitor, Exit}
 use Rattle.unframed_output.specs.Laws.{is_connect}
 use Rattle.saved_output.specs.Saved.{connects}
-use Rattle.saved_output.proofs.Lists.{all-append, all-front, all-back, all-reverse, all-map}
+use Rattle.saved_output.proofs.Lists.{all-append, all-reverse, all-map}
 
 -- a call that hands this port to nobody
 abbrev pub Keeps : ℕ → Asked → Type 0

@@ -1,5 +1,5 @@
 -- What holds of each element of lists that are joined or turned round.
-use Rattle.std.proofs.Common.{◌≡◌, List, [], ◌∷◌, ◌++◌, reverse, map, sym, subst}
+use Rattle.std.proofs.Common.{List, [], ◌∷◌, ◌++◌, reverse, map, sym, subst}
 use Rattle.std.specs.List.{AllByRecursion}
 use Rattle.std.proofs.lemmas.List.{reverse-append}
 

@@ -1,6 +1,6 @@
 -- The saved output of a program in a run of a script.
-use Rattle.std.proofs.Common.{◌≡◌, ◌<◌, ◌≤◌, ℕ, List, [], ◌∷◌, ◌++◌, length, map, get_or, reverse, Bool, true, false, ◌&&◌, eqb, Option, Some, None, refl, sym, ◌∙◌, ap, subst, arith, codes}
-use Rattle.std.specs.Prelude.{nat_le, slice_index_or}
+use Rattle.std.proofs.Common.{◌≡◌, ◌<◌, ℕ, List, [], ◌∷◌, length, map, get_or, Bool, true, false, ◌&&◌, eqb, Option, Some, None, refl, sym, ◌∙◌, ap, subst, arith, codes}
+use Rattle.std.specs.Prelude.{slice_index_or}
 use Rattle.std.specs.List.{AllByRecursion}
 use Rattle.std.proofs.lemmas.Bool.{and_parts}
 use Rattle.std.proofs.lemmas.List.Elements.{recursion_from_All}
@@ -14,25 +14,22 @@ use Rattle.port_model.specs.declared.signal.Sender.TheVariants.{Process}
 use Rattle.port_model.specs.declared.mail.Mail.{Mail}
 use Rattle.port_history.specs.Counts.{saved_of}
 use Rattle.port_history.specs.Mail.{mails}
-use Rattle.port_history.specs.Opening.{Opening}
 use Rattle.echoed_commands.specs.script_run.run_opening.port_body.LanePort.{rows_from}
-use Rattle.echoed_commands.specs.run_setting.run_end.process_job.Mails.{Came, is_source, mail_from, own_mails, readable}
+use Rattle.echoed_commands.specs.run_setting.run_end.process_job.Mails.{Came, is_source, mail_from, readable}
 use Rattle.echoed_commands.specs.script_run.run_opening.driver_hosts.declared.hosted.Hosted.{Hosted}
 use Rattle.echoed_commands.specs.run_setting.run_end.Merge.{IsFromPort}
 use Rattle.echoed_commands.specs.run_setting.run_end.Shown.{Calls}
 use Rattle.echoed_commands.specs.run_setting.run_seats.declared.plans.Program.{Program}
-use Rattle.echoed_commands.specs.run_setting.declared.RunScript.{RunScript}
 use Rattle.script_plan.specs.declared.decl.PortDecl.{PortDecl}
 use Rattle.script_plan.specs.declared.step.Step.{Step}
 use Rattle.echoed_commands.specs.script_run.declared.running.PortLeft.{PortLeft}
 use Rattle.echoed_commands.specs.script_run.declared.running.ProcessLeft.{ProcessLeft}
-use Rattle.echoed_commands.specs.script_run.declared.running.ScriptRan.{ScriptRan}
-use Rattle.echoed_commands.specs.script_run.Ran.{HasRun, IsFrom, PairHolds, PortHolds, PortServed, ProcessHolds, calls_of, history_of, opening_of}
-use Rattle.unframed_output.specs.Output.{bytes_kept, has_ended, saved_output}
+use Rattle.echoed_commands.specs.script_run.Ran.{IsFrom, PairHolds, PortHolds, calls_of, history_of, opening_of}
+use Rattle.unframed_output.specs.Output.{saved_output}
 use Rattle.unframed_output.specs.Laws.{IsOfProgram, KeepsOwner}
 use Rattle.unframed_output.proofs.Mails.{output-is-saved}
 use Rattle.unframed_output.proofs.Others.{mails-other}
-use Rattle.saved_output.specs.Saved.{IsSaved, NeverConnect, OutputIsSavedIn, ServesProgram, connects}
+use Rattle.saved_output.specs.Saved.{OutputIsSavedIn, connects}
 use Rattle.saved_output.proofs.Asks.{TaskKeeps, accepted-keep, asks-keep}
 use Rattle.saved_output.proofs.Came.{IsUnsaved, others-unsaved, own-unsaved, readable-saved, readable-unsaved, saved-from}
 use Rattle.saved_output.proofs.Lists.{all-reverse}

@@ -1,5 +1,5 @@
 -- The rows of a port whose tasks hand it to nobody.
-use Rattle.std.proofs.Common.{◌≡◌, ◌<◌, ℕ, List, [], ◌∷◌, ◌++◌, Bool, true, false, ◌&&◌, eqb, cond, refl, sym, ◌∙◌, ap, subst}
+use Rattle.std.proofs.Common.{◌≡◌, ◌<◌, ℕ, List, [], ◌∷◌, ◌++◌, Bool, true, false, ◌&&◌, eqb, cond, refl}
 use Rattle.std.specs.List.{AllByRecursion}
 use Rattle.std.proofs.lemmas.Bool.{and_parts}
 use Rattle.port_model.specs.declared.signal.Sender.{Sender}
@@ -12,7 +12,7 @@ use Rattle.port_model.specs.Tasks.{TaskView}
 use Rattle.port_history.specs.Laws.{count_of, may_send, poller_sends, worker_sends}
 use Rattle.port_history.specs.Lawful.{Lawful}
 use Rattle.port_history.specs.Opening.{Opening}
-use Rattle.port_history.specs.State.{State, state}
+use Rattle.port_history.specs.State.{state}
 use Rattle.echoed_commands.specs.script_run.run_opening.port_body.LanePort.{rows_from, task_from}
 use Rattle.echoed_commands.specs.script_run.Ran.{IsAmong, IsFrom}
 use Rattle.unframed_output.specs.Laws.{is_connect, KeepsOwner}

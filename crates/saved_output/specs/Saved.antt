@@ -7,7 +7,6 @@ use Rattle.port_driver.specs.declared.life.Life.{Life}
 use Rattle.port_history.specs.Counts.{saved_of}
 use Rattle.echoed_commands.specs.script_run.run_opening.driver_hosts.declared.hosted.Hosted.{Hosted}
 use Rattle.script_plan.specs.declared.decl.PortDecl.{PortDecl}
-use Rattle.script_plan.specs.declared.step.Step.{Step}
 use Rattle.script_plan.specs.declared.step.Act.{Act}
 use Rattle.script_plan.specs.declared.step.Act.TheVariants.{Connect, SendConnect}
 use Rattle.echoed_commands.specs.run_setting.run_seats.declared.plans.Program.{Program}

@@ -18,7 +18,7 @@ use Rattle.driver_model.specs.port_model.declared.row.Row.{Row}
 use Rattle.driver_model.specs.port_model.declared.row.Row.TheVariants.{Handled, Late, Listed, Resumed, Mark}
 use Rattle.driver_model.specs.port_model.Tasks.{TaskView}
 use Rattle.driver_model.specs.Calls as driver
-use Rattle.driver_model.specs.Calls.{Callback, Outputv, ProcessExit, Flush, Stop, DriverCall, call_of, is_empty}
+use Rattle.driver_model.specs.Calls.{Callback, ProcessExit, Flush, Stop, DriverCall, call_of, is_empty}
 use Rattle.driver_model.specs.Spawn.{asked, framed, given, has_failed, program_failed, spawn_queue, is_none}
 use Rattle.port_history.specs.Opening.{Opening, Taken, taken_of}
 use Rattle.port_history.specs.Ties.{Ties}
