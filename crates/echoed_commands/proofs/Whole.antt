@@ -164,7 +164,7 @@ module _ {D : Type 0} (kind : D → Kind) (stage : D → Life) (faults : D → �
   saved : saved_of number (left decl.owner).mails.items ≡ flat_map task_data (accepted number (calls decl.owner).asks (calls decl.owner).receipts)
   saved = ap (saved_of number) (run.processes decl.owner p l is-there).mails_are
       ∙ came-saved ports number (run.came decl.owner) others-none
-      (recursion_from_All (λ (c : Came). IsFromPort ports c.from) (run.came decl.owner) ((run.processes decl.owner p l is-there).among (omega (arith, within))))
+      (recursion_from_All (λ (c : Came). IsFromPort ports c.from) (run.came decl.owner) (run.processes decl.owner p l is-there).among)
       ∙ ap (saved_of number) pair.mail
       ∙ readable-saved number (mails opening decl.owner history)
       ∙ has.saved

@@ -217,7 +217,7 @@ module _ {D : Type 0} (kind : D → Kind) (stage : D → Life) (faults : D → �
         let most = handled_commands (open_at k) (rows_at k) in
         ⊎_elim
         (λ (had : commands_to k steps ≤ messages_of k mail).
-        let few = messages-few k (length script.ports.items) most (r.has_run.came k) mail (calls_at k).asks (calls_at k).receipts (omega (arith, below, many)) holds.mails_are (holds.among (omega (arith, many))) holds.own
+        let few = messages-few k (length script.ports.items) most (r.has_run.came k) mail (calls_at k).asks (calls_at k).receipts (omega (arith, below, many)) holds.mails_are holds.among holds.own
         (λ q' less.
         let inside : q' < 4 = omega (arith, less, many) in
         let it = port-is q' inside in

@@ -84,12 +84,12 @@ source-unsaved number ports came own others None within apart = own
 source-unsaved number ports came own others (Some k) within apart = others k within apart
 
 -- what is saved of the mail of a process is what is saved of the mail that the port sent it
-process-saved : (number ports : ℕ) (came : List Came) (left sent : List Mail) → number < ports → left ≡ map (λ (c : Came). c.mail) came → (0 < ports → AllByRecursion (λ (c : Came). IsFromPort ports c.from) came)
+process-saved : (number ports : ℕ) (came : List Came) (left sent : List Mail) → left ≡ map (λ (c : Came). c.mail) came → AllByRecursion (λ (c : Came). IsFromPort ports c.from) came
     → AllByRecursion (IsUnsaved number) (mail_from None came) → ((k : ℕ) → k < ports → eqb k number ≡ false → AllByRecursion (IsUnsaved number) (mail_from (Some k) came))
     → mail_from (Some number) came ≡ readable sent → saved_of number left ≡ saved_of number sent
-process-saved number ports came left sent below are among own others from =
+process-saved number ports came left sent are among own others from =
     ap (saved_of number) are
-    ∙ (saved-from number came (others-unsaved number ports came (among (omega arith)) (source-unsaved number ports came own others))
+    ∙ (saved-from number came (others-unsaved number ports came among (source-unsaved number ports came own others))
     ∙ (ap (saved_of number) from ∙ readable-saved number sent))
 
 module _ {D : Type 0} (kind : D → Kind) (stage : D → Life) (faults : D → ℕ) (own : D → Own) (program : D → Option ToldProgram) where
@@ -111,8 +111,8 @@ module _ {D : Type 0} (kind : D → Kind) (stage : D → Life) (faults : D → �
       (recursion_from_All (λ (t : Step). connects number t.act ≡ false) (slice_index_or script.programs.items s step).steps.items (serves.stays s step within))) in
       let process = run.processes owner step l serves.owner in
       let calls = calls_of ports (slice_index_or script.programs.items owner step) (slice_index_or ran.processes.items owner l) in
-      process-saved number ports (run.came owner) (slice_index_or ran.processes.items owner l).mails.items (mails opening owner (history_of port)) serves.below process.mails_are
-      (λ some. recursion_from_All (λ (c : Came). IsFromPort ports c.from) (run.came owner) (process.among some))
+      process-saved number ports (run.came owner) (slice_index_or ran.processes.items owner l).mails.items (mails opening owner (history_of port)) process.mails_are
+      (recursion_from_All (λ (c : Came). IsFromPort ports c.from) (run.came owner) process.among)
       (subst (AllByRecursion (IsUnsaved number)) (sym process.own) (own-unsaved number calls.asks calls.receipts))
       (λ j within apart.
       let other = run.ports j d p host within in
