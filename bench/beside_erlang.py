@@ -8,6 +8,7 @@ has a name, the project's figure, that of Erlang/OTP, and the project's in perce
 
   load_1, load_4       16,000 commands of 8 processes at 4 echo ports, with 1 and 4 schedulers, in microseconds: `load 7` less a run of the same processes and
                        ports without commands; by Erlang/OTP from the first command to the last data, with a linked-in driver in C
+  load_floor           the puts, takes, copies and lists of these commands in C on one thread, with records as large as the project's, in microseconds
   load_process         `load 7` with 1 scheduler, the whole process, in microseconds; and that of `erl`
   growth               131,072 commands of 8 bytes at an echo port in percent of 16,384
   memory               bytes that a run keeps a command, from the difference of the two
@@ -105,6 +106,8 @@ def time_load(program, runs, erlang):
         row(f"load_{schedulers}", whole - start, erlang.told(schedulers, "load", 7, runs))
         if schedulers == "1":
             row("load_process", whole, median(runs, erlang.words(1, "load", 7, 1)) if erlang.found else None)
+    subprocess.run(["gcc", "-O2", "-o", "floor", f"{HERE}/floor.c"], check=True)
+    row("load_floor", statistics.median(float(subprocess.run(["./floor", "7"], check=True, capture_output=True).stdout) for _ in range(runs)))
 
 
 def time_growth(program, runs):
