@@ -43,15 +43,18 @@ fn unit_of(alloc: Global, mode: Mode, bytes: u32) -> Result<Vec<u8>> {
     Ok(unit)
 }
 
-/// Feeds a text in chunks of so many bytes, and counts the messages.
-fn feed_all(alloc: Global, mode: Mode, text: &[u8], chunk_len: usize) -> Result<usize> {
+/// Feeds a text in chunks of so many bytes, which share its bytes, and counts the messages.
+fn feed_all(alloc: Global, mode: Mode, text: &Piece, chunk_len: usize) -> Result<usize> {
     if !mode.is_served() {
         bail!("no such mode");
     }
     let mut unframer = Unframer::new(alloc, mode);
     let mut messages = 0usize;
-    for chunk in text.chunks(chunk_len.max(1)) {
-        messages = messages.saturating_add(unframer.feed(chunk)?.len());
+    let mut rest = text.share()?;
+    while !rest.is_empty() {
+        let len = chunk_len.max(1).min(rest.len());
+        messages = messages.saturating_add(unframer.feed(&rest.part(0, len)?)?.len());
+        rest.advance(len);
     }
     Ok(messages.saturating_add(unframer.end()?.len()))
 }
@@ -63,12 +66,12 @@ pub(crate) fn feed_time<R: Clock + AllocGlobal>(
     bytes: u32,
     bytewise: bool,
 ) -> Result<Duration> {
-    let text = text_of(rt.alloc(), mode, bytes)?;
+    let text = Piece::of_vec(text_of(rt.alloc(), mode, bytes)?)?;
     let chunk = if bytewise { 1 } else { LARGE_CHUNK };
     let mut best = Duration::MAX;
     for _ in 0..ROUNDS {
         let start = Instant::now(rt)?;
-        feed_all(rt.alloc(), mode, text.as_slice(), chunk)?;
+        feed_all(rt.alloc(), mode, &text, chunk)?;
         best = best.min(start.elapsed(rt)?);
     }
     Ok(best)

@@ -11,8 +11,8 @@ use std::alloc::Global;
 use std::marker::Model;
 use std::mem;
 
-/// How many segments a vector holds with no allocation: a header and its data.
-const INLINE: usize = 2;
+/// How many segments a vector holds with no allocation. A history keeps a vector for each command, which has one segment.
+const INLINE: usize = 1;
 
 /// The most bytes of one vector, 2^63 - 1.
 const MAX_SIZE: u64 = 0x7fff_ffff_ffff_ffff;

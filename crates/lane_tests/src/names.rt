@@ -1,12 +1,26 @@
 use port_signal::{Items, Log, Reason, ReasonFault, reason};
 use std::test::Fail;
 
+/// Whether a text is a name, and is given back.
+fn reads_back(text: &str) -> bool {
+    matches!(reason(text), Ok(name) if name.as_str() == text)
+}
+
+/// Why a text is no name, if it is none.
+fn fault_of(text: &str) -> Option<ReasonFault> {
+    Reason::of_bytes(text.as_bytes()).err()
+}
+
+/// Whether the names of two texts are one.
+fn are_one(first: &str, second: &str) -> Result<bool, ReasonFault> {
+    Ok(reason(first)?.is(&reason(second)?))
+}
+
 #[test]
-fn a_name_reads_back_as_its_text(rt: HostRuntime) -> Result<(), Fail> {
+fn a_name_reads_back_as_its_text(rt: HostRuntime) {
     for text in ["a", "normal", "z9", "a_1_b", "abcdefghijklmnop"] {
-        assert_eq!(rt; reason(text)?.as_str(), text);
+        assert!(rt; reads_back(text), "{text:?}");
     }
-    Ok(())
 }
 
 #[test]
@@ -22,10 +36,10 @@ fn a_fault_tells_the_first_bad_place(rt: HostRuntime) {
         ("abcdefghijklmnopq", 16),
         ("abcdefghijklmnop-", 16),
     ] {
-        match Reason::of_bytes(text.as_bytes()) {
-            Ok(_) => panic!(rt; "{text:?} is no name"),
-            Err(fault) => assert_eq!(rt; fault, ReasonFault::NotAName { at }, "in {text:?}"),
-        }
+        assert!(rt;
+            fault_of(text) == Some(ReasonFault::NotAName { at }),
+            "in {text:?}"
+        );
     }
 }
 
@@ -33,8 +47,8 @@ fn a_fault_tells_the_first_bad_place(rt: HostRuntime) {
 fn names_are_one_where_their_texts_are(rt: HostRuntime) -> Result<(), Fail> {
     let name = reason("normal")?;
     assert!(rt; name.is(&name.same()));
-    assert!(rt; !name.is(&reason("norma")?));
-    assert!(rt; !name.is(&reason("normam")?));
+    assert!(rt; are_one("normal", "norma") == Ok(false));
+    assert!(rt; are_one("normal", "normam") == Ok(false));
     Ok(())
 }
 

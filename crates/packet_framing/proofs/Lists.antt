@@ -50,3 +50,12 @@ range-append s t from to from' to' ordered within is is' =
     ∙ take-append (to - from) (drop from s) (drop (from - length s) t)
     ∙ ap (λ xs. xs ++ take (to - from - length (drop from s)) (drop (from - length s) t)) front
     ∙ ap (λ xs. slice_range s from' to' ++ xs) back
+
+-- a range behind the first list is one of the second
+pub range-past : (s t : List ℕ) (from to : ℕ) → length s ≤ from → from ≤ to →
+    slice_range (s ++ t) from to ≡ slice_range t (from - length s) (to - length s)
+range-past s t from to past ordered =
+    let front : drop from (s ++ t) ≡ drop (from - length s) t =
+    drop-append from s t ∙ ap (λ xs. xs ++ drop (from - length s) t) (drop_all from s past) in
+    let counts : to - from ≡ (to - length s) - (from - length s) = omega arith in
+    ap (take (to - from)) front ∙ ap (λ n. take n (drop (from - length s) t)) counts

@@ -6,11 +6,11 @@ use io_vector::{NoMemory, Piece};
 use std::alloc::Global;
 
 /// The bytes that an unframer holds and those of a chunk, read as one list of bytes. They are looked
-/// at where they lie, and copied once, into their message.
+/// at where they lie. A message that lies in the chunk shares its bytes; another one has a copy.
 #[derive(Drop)]
 pub(crate) struct Joined<'a> {
     pub(crate) held: &'a [u8],
-    pub(crate) chunk: &'a [u8],
+    pub(crate) chunk: &'a Piece,
 }
 
 impl Joined<'_> {
@@ -28,7 +28,7 @@ impl Joined<'_> {
         if at < self.held.len() {
             return self.held[at];
         }
-        self.chunk[at - self.held.len()]
+        self.chunk.as_slice()[at - self.held.len()]
     }
 
     /// A copy of the bytes from place `start` to before place `end`.
@@ -41,8 +41,21 @@ impl Joined<'_> {
         let held_end = end.min(self.held.len());
         let mut bytes = Vec::with_capacity(alloc, end - start)?;
         bytes.extend_from_slice(&self.held[held_start..held_end])?;
-        bytes.extend_from_slice(&self.chunk[start - held_start..end - held_end])?;
+        bytes.extend_from_slice(&self.chunk.as_slice()[start - held_start..end - held_end])?;
         Ok(bytes)
+    }
+
+    /// Those bytes as a piece: a part of the chunk where they lie in it, and else a copy.
+    fn piece(&self, alloc: Global, start: usize, end: usize) -> Result<Piece, NoMemory>
+        requires ordered { start ≤ end }
+        requires within { end ≤ length (bytes_of self.now) }
+        ensures { IfOk result (λ piece. piece ≡ slice_range (bytes_of self.now) start end) }
+    {
+        let held = self.held.len();
+        if held <= start {
+            return self.chunk.part(start - held, end - held);
+        }
+        Piece::of_vec(self.copy(alloc, start, end)?)
     }
 
     /// A message of those bytes.
@@ -58,9 +71,7 @@ impl Joined<'_> {
         ensures flag { IfOk result (λ m. m.flag ≡ flag) }
         ensures bytes { IfOk result (λ m. m.bytes ≡ slice_range (bytes_of self.now) start end) }
     {
-        Ok(Message {
-            flag,
-            bytes: Piece::of_vec(self.copy(alloc, start, end)?)?,
-        })
+        let bytes = self.piece(alloc, start, end)?;
+        Ok(Message { flag, bytes })
     }
 }

@@ -50,7 +50,7 @@ fn read_line(
     ensures within { IfOk result (λ next. next ≤ length (bytes_of joined.now)) }
 {
     let held = joined.held.len();
-    let end = held + line_end(joined.chunk, at - held);
+    let end = held + line_end(joined.chunk.as_slice(), at - held);
     cut_pieces(alloc, limit, joined, end, reading)?;
     if end == joined.len() {
         return Ok(end);

@@ -21,6 +21,7 @@ pub(crate) fn read_packets(
     ensures within { IfOk result (λ r. r.rest ≤ length (bytes_of joined.now)) }
     ensures fault { IfErr result (ReadsOversize mode (bytes_of joined.now)) }
 {
+    let size = joined.len();
     let mut reading = Reading {
         messages: Vec::new(alloc),
         rest: 0,
@@ -28,6 +29,7 @@ pub(crate) fn read_packets(
     while let Some(message) = first_packet(alloc, mode, joined, reading.rest)? {
         reading.rest += mode.header_len() + message.bytes.len();
         reading.messages.push(message)?;
+        prove!(reading.rest <= size);
     }
     Ok(reading)
 }
@@ -70,6 +72,8 @@ fn told_len(mode: Mode, joined: &Joined, at: usize) -> u32
     ensures value { take (header_len mode) (drop at (bytes_of joined.now)) ≡ header mode result }
     ensures below { result < header_limit mode }
 {
+    let size = joined.len();
+    prove!(at <= size);
     match mode {
         Mode::Packet1 => joined.byte(at) as u32,
         Mode::Packet2 => u16::from_be_bytes([joined.byte(at), joined.byte(at + 1)]) as u32,

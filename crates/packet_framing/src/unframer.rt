@@ -57,11 +57,11 @@ impl Unframer {
         }
     }
 
-    /// The messages that the chunk makes whole.
+    /// The messages that the chunk makes whole. Those that lie in it share its bytes.
     ///
     /// A header that tells more than 262,143 bytes is refused, with the messages before it in the
     /// same chunk, and so is every later call. Want of memory leaves the unframer as it was.
-    pub fn feed(&mut self, chunk: &[u8]) -> Result<Vec<Message>, UnframeFault>
+    pub fn feed(&mut self, chunk: &Piece) -> Result<Vec<Message>, UnframeFault>
         ensures served { OnOk result (self.old.oversize ≡ None) }
         ensures messages { IfOk result (λ told. Unframes self.old.mode (self.old.held ++ chunk.now) told.items self.new.held) }
         ensures new { OnOk result (self.new ≡ record self.old { held = rest_of self.old.mode (self.old.held ++ chunk.now) }) }
@@ -144,13 +144,13 @@ fn read_stream(alloc: Global, joined: &Joined) -> Result<Reading, NoMemory>
 }
 
 /// Holds the bytes back from a place on, of those that are held and the chunk.
-fn hold(alloc: Global, held: &mut Vec<u8>, chunk: &[u8], from: usize) -> Result<(), NoMemory>
+fn hold(alloc: Global, held: &mut Vec<u8>, chunk: &Piece, from: usize) -> Result<(), NoMemory>
     requires { from ≤ length (held.old.items ++ chunk.now) }
     ensures ok { OnOk result (held.new.items ≡ drop from (held.old.items ++ chunk.now)) }
     ensures err { OnErr result (held.new.items ≡ held.old.items) }
 {
     if from == 0 {
-        held.extend_from_slice(chunk)?;
+        held.extend_from_slice(chunk.as_slice())?;
         return Ok(());
     }
     let joined = Joined {
@@ -178,7 +178,7 @@ pub fn unframe_so_far(
     let mut unframer = Unframer::new(alloc, mode);
     let mut messages = Vec::new(alloc);
     for chunk in chunks {
-        messages.append(&mut unframer.feed(chunk.as_slice())?)?;
+        messages.append(&mut unframer.feed(chunk)?)?;
     }
     Ok((unframer, messages))
 }

@@ -90,7 +90,7 @@ impl Kept {
                 let found = self.cut(alloc, bytes, row)?;
                 report(ctx, &found)
             }
-            _ => self.take(ctx, bytes.as_slice()),
+            _ => self.take(ctx, bytes),
         }
     }
 

@@ -19,12 +19,12 @@ impl Kept {
         ensures ok { OnOk result (Receives bytes self.old self.new ctx.old ctx.new) }
         ensures adds { Adds 131001 ctx.old ctx.new }
     {
-        self.take(ctx, bytes.as_slice())?;
+        self.take(ctx, &bytes)?;
         ctx.answered(Outside::Got(bytes))
     }
 
     /// Sends the messages that these bytes make whole.
-    pub(crate) fn take(&mut self, ctx: &mut DriverCtx, bytes: &[u8]) -> Result<(), NoMemory>
+    pub(crate) fn take(&mut self, ctx: &mut DriverCtx, bytes: &Piece) -> Result<(), NoMemory>
         requires { length ctx.old.effects ≤ 524288 }
         ensures served { IsServed self.old.config.mode }
         ensures ok { OnOk result (Receives bytes.now self.old self.new ctx.old (with_answers ctx.new (Got bytes.now ∷ []))) }

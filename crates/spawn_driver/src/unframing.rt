@@ -9,7 +9,7 @@ use crate::failures::fail;
 use crate::kept::Kept;
 use packet_framing::{Message, UnframeFault};
 use port_driver::DriverCtx;
-use port_model::NoMemory;
+use port_model::{NoMemory, Piece};
 
 /// The most bytes that are taken from one program.
 pub(crate) const MOST_TAKEN: u64 = 33_554_432;
@@ -55,7 +55,7 @@ pub(crate) fn report(ctx: &mut DriverCtx, found: &Found) -> Result<(), NoMemory>
 
 impl Kept {
     /// Finds the messages that these bytes make whole, which `taken` counts already.
-    pub(crate) fn find(&mut self, bytes: &[u8]) -> Result<Found, NoMemory>
+    pub(crate) fn find(&mut self, bytes: &Piece) -> Result<Found, NoMemory>
         ensures found { IfOk result (Finds self.old self.new bytes.now) }
         ensures few { IfOk result (λ found. length (effects_in found) ≤ 131000) }
     {

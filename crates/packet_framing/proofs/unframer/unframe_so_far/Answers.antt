@@ -11,13 +11,13 @@ pub returns-in_err-feed-clause-fault : goal.returns-in_err-feed-clause-fault
 returns-in_err-feed-clause-fault c =
     let p = err_from_is_err_and c.from_residual.result c.from_residual.ensures.1 in
     rw (p.1, p.2)
-    (run_fails c.args.mode c.args.chunks.now c.loop-chunk.chunk-index c.as_slice.result.now c.loop-chunk.unframer c.feed.new.self
-    c.loop-chunk.messages.items _ (omega arith) (c.as_slice.ensures ∙ get_or_read c.args.chunks.now c.loop-chunk.chunk-index _ (omega arith) c.chunk-item.is []) c.loop-chunk.invariant c.in_err-feed.ensures.fault)
+    (run_fails c.args.mode c.args.chunks.now c.loop-chunk.chunk-index _ c.loop-chunk.unframer c.feed.new.self
+    c.loop-chunk.messages.items _ (omega arith) (get_or_read c.args.chunks.now c.loop-chunk.chunk-index _ (omega arith) c.chunk-item.is []) c.loop-chunk.invariant c.in_err-feed.ensures.fault)
 
 pub loop-chunk-preserved : goal.loop-chunk-preserved
 loop-chunk-preserved c =
-    running_more c.args.mode c.args.chunks.now c.loop-chunk.chunk-index c.as_slice.result.now c.loop-chunk.unframer c.feed.new.self
-    c.loop-chunk.messages.items _ _ (omega arith) (c.as_slice.ensures ∙ get_or_read c.args.chunks.now c.loop-chunk.chunk-index _ (omega arith) c.chunk-item.is []) c.loop-chunk.invariant c.in_ok-feed.ensures.messages c.in_ok-feed.ensures.new
+    running_more c.args.mode c.args.chunks.now c.loop-chunk.chunk-index _ c.loop-chunk.unframer c.feed.new.self
+    c.loop-chunk.messages.items _ _ (omega arith) (get_or_read c.args.chunks.now c.loop-chunk.chunk-index _ (omega arith) c.chunk-item.is []) c.loop-chunk.invariant c.in_ok-feed.ensures.messages c.in_ok-feed.ensures.new
     c.in_ok-append.ensures.items
 
 pub returns-clause-served : goal.returns-clause-served

@@ -10,6 +10,7 @@ returns c =
     c.in_ok-extend_from_slice.ensures.items
     ∙ ap (λ xs. xs ++ slice_range c.args.self.now.held.now c.min-held_start.result c.min-held_end.result) c.in_ok-bytes.ensures.items in
     c.in_ok-extend_from_slice-2.ensures.items
+    ∙ ap (λ chunk. c.extend_from_slice.new.self.items ++ slice_range chunk (c.args.start - c.min-held_start.result) (c.args.end - c.min-held_end.result)) c.as_slice.ensures
     ∙ ap (λ xs. xs ++ slice_range c.args.self.now.chunk.now (c.args.start - c.min-held_start.result) (c.args.end - c.min-held_end.result)) front
     ∙ sym (range-append c.args.self.now.held.now c.args.self.now.chunk.now c.args.start c.args.end c.min-held_start.result c.min-held_end.result
     c.requires.ordered within c.min-held_start.ensures c.min-held_end.ensures)
