@@ -3,7 +3,7 @@ ghost use Rattle.std.specs.Prelude.{◌<◌, ◌≤◌, length};
 ghost use Rattle.outside_programs.specs.Ends.{Gives, Takes};
 
 use crate::counts::Counts;
-use crate::threads::{CHUNK, Output};
+use crate::threads::{CHUNK, OutputPart};
 use crossbeam_channel::{Receiver, Sender, TryRecvError};
 use outside::{Fetched, Offered};
 use std::alloc::Global;
@@ -12,7 +12,7 @@ use std::sync::Wait;
 /// What was read of a child's output.
 #[derive(Drop)]
 pub(crate) struct OutputEnd {
-    messages: Option<Receiver<Output>>,
+    messages: Option<Receiver<OutputPart>>,
     chunk: Vec<u8>,
     used: usize,
     counts: Counts,
@@ -22,7 +22,7 @@ pub(crate) struct OutputEnd {
 impl OutputEnd {
     pub(crate) fn new(
         alloc: Global,
-        messages: Receiver<Output>,
+        messages: Receiver<OutputPart>,
         counts: Counts,
         event: u32,
     ) -> Self {
@@ -47,16 +47,16 @@ impl OutputEnd {
             return Fetched::Failed;
         };
         match messages.try_recv(rt) {
-            Ok(Output::Chunk(chunk)) => {
+            Ok(OutputPart::Chunk(chunk)) => {
                 self.chunk = chunk;
                 self.used = 0;
                 self.begin(alloc, max)
             }
-            Ok(Output::End) => {
+            Ok(OutputPart::End) => {
                 self.counts.lower(self.event);
                 Fetched::End
             }
-            Ok(Output::Failed) => {
+            Ok(OutputPart::Failed) => {
                 self.counts.lower(self.event);
                 Fetched::Failed
             }

@@ -4,7 +4,7 @@ use crate::counts::Counts;
 use crate::ends::{InputEnd, OutputEnd};
 use crate::pipe_server::PipeServer;
 use crate::real_child::{Piped, RealChild};
-use crate::threads::{Pipes, Reading, Writing};
+use crate::threads::{InputPipe, OutputPipe, Pipes};
 use crossbeam_channel::{bounded, unbounded};
 use outside::{ByteLog, FaultCount, NoMemory, SpawnFault, Spawner};
 use std::alloc::Global;
@@ -92,12 +92,12 @@ fn serve<R: Wait>(
     let input = InputEnd::new(pieces, share(server)?, events.1);
     server.counts().set(events.0, 0);
     server.counts().set(events.1, PIECES);
-    let reading = Reading {
+    let reading = OutputPipe {
         stdout,
         messages,
         event: events.0,
     };
-    let writing = Writing {
+    let writing = InputPipe {
         stdin,
         pieces: inputs,
         event: events.1,

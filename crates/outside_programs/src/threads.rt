@@ -14,7 +14,7 @@ pub(crate) const CHUNK: usize = 65_536;
 
 /// What a reading thread tells of a child's output. Want of memory for a chunk is a failure.
 #[derive(Drop)]
-pub(crate) enum Output {
+pub(crate) enum OutputPart {
     Chunk(Vec<u8>),
     End,
     Failed,
@@ -22,15 +22,15 @@ pub(crate) enum Output {
 
 /// The output of a child that is to be read, and where what it gives goes.
 #[derive(Drop)]
-pub(crate) struct Reading {
+pub(crate) struct OutputPipe {
     pub(crate) stdout: ChildStdout,
-    pub(crate) messages: Sender<Output>,
+    pub(crate) messages: Sender<OutputPart>,
     pub(crate) event: u32,
 }
 
 /// The input of a child that is to be written, and where the pieces come from.
 #[derive(Drop)]
-pub(crate) struct Writing {
+pub(crate) struct InputPipe {
     pub(crate) stdin: ChildStdin,
     pub(crate) pieces: Receiver<Vec<u8>>,
     pub(crate) event: u32,
@@ -39,29 +39,29 @@ pub(crate) struct Writing {
 /// Both pipes of a child, and where it is told whether they are served.
 #[derive(Drop)]
 pub(crate) struct Pipes {
-    pub(crate) reading: Reading,
-    pub(crate) writing: Writing,
+    pub(crate) reading: OutputPipe,
+    pub(crate) writing: InputPipe,
     pub(crate) served: Sender<bool>,
 }
 
 /// The next bytes of an output, or why there are none. They are read into the buffer, and copied out of it, so that they take no more memory than they have bytes.
-fn read_chunk(alloc: Global, stdout: &mut ChildStdout, buffer: &mut [u8]) -> Output {
+fn read_chunk(alloc: Global, stdout: &mut ChildStdout, buffer: &mut [u8]) -> OutputPart {
     match stdout.read(buffer) {
-        Ok(0) => Output::End,
+        Ok(0) => OutputPart::End,
         Ok(count) => match buffer.get(..count) {
             Some(bytes) => match Vec::from_slice(alloc, bytes) {
-                Ok(chunk) => Output::Chunk(chunk),
-                Err(_) => Output::Failed,
+                Ok(chunk) => OutputPart::Chunk(chunk),
+                Err(_) => OutputPart::Failed,
             },
-            None => Output::Failed,
+            None => OutputPart::Failed,
         },
-        Err(_) => Output::Failed,
+        Err(_) => OutputPart::Failed,
     }
 }
 
 /// Reads one output to its end, or until nobody takes it any more.
-fn read_output<R: Wait>(rt: &R, alloc: Global, counts: &Counts, reading: Reading) {
-    let Reading {
+fn read_output<R: Wait>(rt: &R, alloc: Global, counts: &Counts, reading: OutputPipe) {
+    let OutputPipe {
         mut stdout,
         messages,
         event,
@@ -74,7 +74,7 @@ fn read_output<R: Wait>(rt: &R, alloc: Global, counts: &Counts, reading: Reading
     };
     for _ in rt.forever() {
         let output = read_chunk(alloc, &mut stdout, buffer.as_mut_slice());
-        let is_last = !matches!(&output, Output::Chunk(_));
+        let is_last = !matches!(&output, OutputPart::Chunk(_));
         if messages.send(rt, output).is_err() {
             return;
         }
@@ -86,8 +86,8 @@ fn read_output<R: Wait>(rt: &R, alloc: Global, counts: &Counts, reading: Reading
 }
 
 /// Writes one child's pieces until no more come, or until it takes none: its pieces have no receiver then.
-fn write_input<R: Wait>(rt: &R, counts: &Counts, writing: Writing) {
-    let Writing {
+fn write_input<R: Wait>(rt: &R, counts: &Counts, writing: InputPipe) {
+    let InputPipe {
         mut stdin,
         pieces,
         event,
@@ -131,8 +131,8 @@ fn serve<R: Threads + Wait + Copy + Send + Sync + Drop + 'static>(
     rt: R,
     alloc: Global,
     counts: &Counts,
-    reading: Reading,
-    writing: Writing,
+    reading: OutputPipe,
+    writing: InputPipe,
 ) -> Result<(), NoMemory> {
     let reads = counts.share()?;
     let writes = counts.share()?;
