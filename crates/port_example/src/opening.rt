@@ -2,7 +2,7 @@
 ghost use Rattle.std.specs.Prelude.{◌≡◌, length, IfOk};
 ghost use Rattle.run_lanes.specs.Opened.{CanBegin, CanOpen};
 
-use anyhow::{Result, anyhow, bail, ensure};
+use anyhow::{Result, bail, ensure};
 use port_body::{Body, BodyParts, Driver, PortEnds, PortOutlets, PortParts, PortPlace};
 use port_config::{Config, DEFAULT_HIGH, DEFAULT_LOW};
 use port_driver::Life;
@@ -82,7 +82,8 @@ pub(crate) fn open_port<D: Driver, R: Wait>(
         lane: lanes.lane,
         workers: 1,
     };
-    Body::open(rt, alloc, place, parts).map_err(|(_, refusal)| anyhow!(
-        "the port was not opened: {refusal:?}"
-    ))
+    match Body::open(rt, alloc, place, parts) {
+        Ok(body) => Ok(body),
+        Err((_, refusal)) => bail!("the port was not opened: {refusal:?}"),
+    }
 }
