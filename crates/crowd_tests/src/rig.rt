@@ -86,43 +86,70 @@ fn table(
     Ok((seat, seats))
 }
 
-/// A port with so many senders: end 0 of its lane, the seats, and the port's side.
+/// What the processes of a port have of it before each has its own: end 0 of its lane, and the seats of so many senders.
+#[derive(Drop)]
+pub(crate) struct CrowdSides {
+    lane: SendEnd<Parcel>,
+    seats: Vec<SendSeat>,
+    senders: u32,
+    ghost first: { lane.number ≡ 0 },
+    ghost unsent: { lane.sent ≡ [] },
+    ghost processes: { lane.key.processes ≡ senders },
+    ghost fresh: { AreFreshSeats lane.key.table seats.items },
+}
+
+impl CrowdSides {
+    /// The side of the next process behind the first.
+    pub(crate) fn split(&mut self) -> Option<CrowdSide> {
+        let lane = self.lane.split().ok()?;
+        let seat = self.seats.pop()?;
+        if lane.number() >= self.senders {
+            return None;
+        }
+        Some(CrowdSide {
+            lane,
+            seat,
+            soft: false,
+        })
+    }
+
+    /// The side of the first process.
+    pub(crate) fn into_first(self) -> Option<CrowdSide> {
+        let CrowdSides {
+            lane,
+            mut seats,
+            senders,
+        } = self;
+        let seat = seats.pop()?;
+        if lane.number() >= senders {
+            return None;
+        }
+        Some(CrowdSide {
+            lane,
+            seat,
+            soft: false,
+        })
+    }
+}
+
+/// A port with so many senders, and their sides.
 pub(crate) fn open(
     alloc: Global,
     limits: QueueLimits,
     senders: u32,
-) -> Result<(SendEnd<Parcel>, Vec<SendSeat>, CrowdPort), Fail>
+) -> Result<(CrowdSides, CrowdPort), Fail>
     requires senders { (0 < senders) × (senders ≤ 32) }
     requires limits { InRange limits.on limits.low limits.high }
-    ensures lane { IfOk result (λ r. (r.0.number ≡ 0) × (r.0.made ≡ 1) × (r.0.sent ≡ []) × (r.0.key.processes ≡ senders)) }
-    ensures table { IfOk result (λ r. r.0.key.table ≡ r.2.seat.table) }
-    ensures seats { IfOk result (λ r. AreFreshSeats r.2.seat.table r.1.items) }
 {
     let (seat, seats) = table(alloc, limits, senders)?;
     let key = LaneKey::new(senders, 0, &seat);
-    let (put, take) = lane::<Parcel>(alloc, Snapshot::of(&key))?;
-    Ok((put, seats, CrowdPort { seat, lane: take }))
-}
-
-/// What the process with this end has of the port: the end, and one of the seats.
-pub(crate) fn side_of(
-    port: &CrowdPort,
-    lane: SendEnd<Parcel>,
-    seats: &mut Vec<SendSeat>,
-) -> Result<CrowdSide, Fail>
-    requires lane { (lane.number < lane.key.processes) × (lane.sent ≡ []) × (lane.key.table ≡ port.now.seat.table) }
-    requires seats { AreFreshSeats port.now.seat.table seats.old.items }
-    ensures lane { IfOk result (λ side. side.lane ≡ lane) }
-    ensures seats { AreFreshSeats port.now.seat.table seats.new.items }
-{
-    let Some(seat) = seats.pop() else {
-        return Err("no seat".into());
-    };
-    Ok(CrowdSide {
+    let (lane, take) = lane::<Parcel>(alloc, Snapshot::of(&key))?;
+    let sides = CrowdSides {
         lane,
-        seat,
-        soft: false,
-    })
+        seats,
+        senders,
+    };
+    Ok((sides, CrowdPort { seat, lane: take }))
 }
 
 /// The mailbox of a process, of which nothing was taken, and the end that puts mail there.
@@ -133,19 +160,14 @@ pub(crate) fn mailbox(alloc: Global) -> Result<(SendEnd<Mail>, TakeEnd<Mail>), F
     Ok((put, take))
 }
 
-/// The process of this number, with one port.
+/// The process of this side and mailbox.
 #[tactic(auto, using(crate::proofs::Parts::one_part))]
-pub(crate) fn process(
-    alloc: Global,
-    number: u32,
-    mailbox: TakeEnd<Mail>,
-    side: CrowdSide,
-) -> Result<Proc, Fail>
-    requires number { side.lane.number ≡ number }
-    requires untaken { mailbox.taken ≡ [] }
+pub(crate) fn process(alloc: Global, mailbox: TakeEnd<Mail>, side: CrowdSide) -> Result<Proc, Fail>
+    requires { mailbox.taken ≡ [] }
     ensures { IfOk result (λ proc. length proc.lanes ≡ 1) }
 {
     let CrowdSide { lane, seat, soft } = side;
+    let number = lane.number();
     let mut lanes = Vec::new(alloc);
     let mut seats = Vec::new(alloc);
     lanes.reserve(1)?;
@@ -162,10 +184,14 @@ pub(crate) fn process(
     Ok(Proc::new(alloc, parts))
 }
 
+/// A piece of so many bytes.
+pub(crate) fn piece(alloc: Global, bytes: usize) -> Option<Piece> {
+    Piece::of_vec(vec![in alloc; 0u8; bytes].ok()?).ok()
+}
+
 /// A payload of so many bytes.
 pub(crate) fn payload(alloc: Global, bytes: usize) -> Option<IoVec> {
-    let piece = Piece::of_vec(vec![in alloc; 0u8; bytes].ok()?).ok()?;
-    Some(IoVec::of_piece(alloc, piece))
+    Some(IoVec::of_piece(alloc, piece(alloc, bytes)?))
 }
 
 /// The resume of this command of port 0.

@@ -12,6 +12,16 @@ const RUNS: AfterTask = AfterTask {
     stops: false,
 };
 
+const CLOSES: AfterTask = AfterTask {
+    closed: true,
+    stops: false,
+};
+
+const STOPS: AfterTask = AfterTask {
+    closed: true,
+    stops: true,
+};
+
 fn selection(event: u32, dir: Dir) -> Effect {
     Effect::Select {
         event,
@@ -32,6 +42,10 @@ fn arm(event: u32, dir: Dir) -> PollAsk {
     }
 }
 
+fn drop_ask(event: u32) -> PollAsk {
+    PollAsk::Drop { port: 3, event }
+}
+
 /// The asks that lie in the lane, eight at most.
 fn asked<R: Wait>(
     rt: &R,
@@ -47,73 +61,117 @@ fn asked<R: Wait>(
     Ok(asks)
 }
 
+/// The events of port 3, and the poller's end of their lane.
+#[derive(Drop)]
+struct PolledPort {
+    alloc: Global,
+    events: PortEvents,
+    lane: TakeEnd<PollAsk>,
+}
+
+impl PolledPort {
+    fn new(alloc: Global) -> Result<PolledPort, NoMemory> {
+        let (end, lane) = lane::<PollAsk>(alloc, Snapshot::of(&()))?;
+        Ok(PolledPort {
+            alloc,
+            events: PortEvents::new(3, end),
+            lane,
+        })
+    }
+
+    /// Why a start with these effects is refused, if it is.
+    fn start_fault<R: Wait>(&mut self, rt: &R, effects: &[Effect]) -> Option<StartFault> {
+        self.events.start(rt, self.alloc, effects).err()
+    }
+
+    /// Whether the asks that lie in the lane are these.
+    fn asks<R: Wait>(&mut self, rt: &R, wanted: &[PollAsk]) -> bool {
+        matches!(&asked(rt, self.alloc, &mut self.lane), Ok(asks) if asks.as_slice() == wanted)
+    }
+
+    /// Whether a handled task gives these events back.
+    fn gives_back<R: Wait>(
+        &mut self,
+        rt: &R,
+        signal: &Signal,
+        effects: &[Effect],
+        ending: AfterTask,
+        wanted: &[u32],
+    ) -> bool {
+        let given_back = self
+            .events
+            .note_handled(rt, self.alloc, signal, effects, ending);
+        matches!(&given_back, Ok(events) if events.as_slice() == wanted)
+    }
+
+    /// Why a handled task is refused, if it is. The driver runs on, and the signal is a close.
+    fn fault<R: Wait>(&mut self, rt: &R, effects: &[Effect]) -> Option<EventFault> {
+        self.events
+            .note_handled(rt, self.alloc, &Signal::Close, effects, RUNS)
+            .err()
+    }
+
+    /// Whether the events that are held are these.
+    fn holds(&self, wanted: &[u32]) -> bool {
+        self.events.held().as_slice() == wanted
+    }
+
+    fn is_ready(&self, event: u32, dir: Dir) -> bool {
+        self.events.is_ready(event, dir)
+    }
+
+    fn is_waiting(&self, event: u32) -> bool {
+        self.events.is_waiting(event)
+    }
+
+    fn is_given_back(&self) -> bool {
+        self.events.is_given_back()
+    }
+
+    fn note_late(&mut self, signal: &Signal) {
+        self.events.note_late(signal);
+    }
+}
+
 #[test]
 fn an_event_that_is_given_up_while_it_is_armed_waits_for_the_poller(
     rt: HostRuntime,
 ) -> Result<(), Fail> {
-    let alloc = rt.alloc();
-    let (end, mut lane) = lane::<PollAsk>(alloc, Snapshot::of(&()))?;
-    let mut events = PortEvents::new(3, end);
+    let mut port = PolledPort::new(rt.alloc())?;
     let start = [
         selection(2, Dir::Read),
         selection(1, Dir::Write),
         selection(1, Dir::Read),
     ];
-    assert!(rt; events.start(&rt, alloc, &start).is_ok());
+    assert!(rt; port.start_fault(&rt, &start).is_none());
     let armed = [arm(1, Dir::Read), arm(1, Dir::Write), arm(2, Dir::Read)];
-    assert!(rt; asked(&rt, alloc, &mut lane)?.as_slice() == armed.as_slice());
+    assert!(rt; port.asks(&rt, &armed));
 
-    let effects = [Effect::Unuse(1)];
-    match events.note_handled(&rt, alloc, &ready(1, Dir::Read), &effects, RUNS) {
-        Ok(given_back) => assert!(rt; given_back.is_empty()),
-        Err(_) => assert!(rt; false),
-    }
-    let dropped = [PollAsk::Drop { port: 3, event: 1 }];
-    assert!(rt; asked(&rt, alloc, &mut lane)?.as_slice() == dropped.as_slice());
-    assert!(rt; events.is_waiting(1));
-    assert!(rt; events.held().as_slice() == [2].as_slice());
+    let gives_up = [Effect::Unuse(1)];
+    assert!(rt; port.gives_back(&rt, &ready(1, Dir::Read), &gives_up, RUNS, &[]));
+    assert!(rt; port.asks(&rt, &[drop_ask(1)]));
+    assert!(rt; port.is_waiting(1) && port.holds(&[2]));
 
-    match events.note_handled(&rt, alloc, &Signal::Dropped(1), &[], RUNS) {
-        Ok(given_back) => assert!(rt; given_back.as_slice() == [1].as_slice()),
-        Err(_) => assert!(rt; false),
-    }
-    assert!(rt; asked(&rt, alloc, &mut lane)?.is_empty());
-    assert!(rt; !events.is_waiting(1));
+    assert!(rt; port.gives_back(&rt, &Signal::Dropped(1), &[], RUNS, &[1]));
+    assert!(rt; port.asks(&rt, &[]));
+    assert!(rt; !port.is_waiting(1));
     Ok(())
 }
 
 #[test]
 fn a_close_ends_reading_and_the_stop_ends_what_is_left(rt: HostRuntime) -> Result<(), Fail> {
-    let alloc = rt.alloc();
-    let (end, mut lane) = lane::<PollAsk>(alloc, Snapshot::of(&()))?;
-    let mut events = PortEvents::new(3, end);
+    let mut port = PolledPort::new(rt.alloc())?;
     let start = [selection(5, Dir::Write), selection(4, Dir::Read)];
-    assert!(rt; events.start(&rt, alloc, &start).is_ok());
-    let armed = [arm(4, Dir::Read), arm(5, Dir::Write)];
-    assert!(rt; asked(&rt, alloc, &mut lane)?.as_slice() == armed.as_slice());
+    assert!(rt; port.start_fault(&rt, &start).is_none());
+    assert!(rt; port.asks(&rt, &[arm(4, Dir::Read), arm(5, Dir::Write)]));
 
-    let closed = AfterTask {
-        closed: true,
-        stops: false,
-    };
-    match events.note_handled(&rt, alloc, &Signal::Close, &[], closed) {
-        Ok(given_back) => assert!(rt; given_back.is_empty()),
-        Err(_) => assert!(rt; false),
-    }
-    assert!(rt; !events.is_ready(4, Dir::Read) && events.is_ready(5, Dir::Write));
-    events.note_late(&ready(4, Dir::Read));
+    assert!(rt; port.gives_back(&rt, &Signal::Close, &[], CLOSES, &[]));
+    assert!(rt; !port.is_ready(4, Dir::Read) && port.is_ready(5, Dir::Write));
+    port.note_late(&ready(4, Dir::Read));
 
-    let stopped = AfterTask {
-        closed: true,
-        stops: true,
-    };
-    match events.note_handled(&rt, alloc, &ready(5, Dir::Write), &[], stopped) {
-        Ok(given_back) => assert!(rt; given_back.as_slice() == [4].as_slice()),
-        Err(_) => assert!(rt; false),
-    }
-    let last = [arm(5, Dir::Write), PollAsk::Drop { port: 3, event: 5 }];
-    assert!(rt; asked(&rt, alloc, &mut lane)?.as_slice() == last.as_slice());
-    assert!(rt; events.held().is_empty() && !events.is_given_back());
+    assert!(rt; port.gives_back(&rt, &ready(5, Dir::Write), &[], STOPS, &[4]));
+    assert!(rt; port.asks(&rt, &[arm(5, Dir::Write), drop_ask(5)]));
+    assert!(rt; port.holds(&[]) && !port.is_given_back());
     Ok(())
 }
 
@@ -121,18 +179,13 @@ fn a_close_ends_reading_and_the_stop_ends_what_is_left(rt: HostRuntime) -> Resul
 fn a_start_that_gives_up_and_a_selection_while_waiting_are_refused(
     rt: HostRuntime,
 ) -> Result<(), Fail> {
-    let alloc = rt.alloc();
-    let (end, _lane) = lane::<PollAsk>(alloc, Snapshot::of(&()))?;
-    let mut events = PortEvents::new(3, end);
+    let mut port = PolledPort::new(rt.alloc())?;
     let gives_up = [selection(1, Dir::Read), Effect::Unuse(1)];
-    assert!(rt; events.start(&rt, alloc, &gives_up) == Err(StartFault::GaveUp));
-    assert!(rt; events.start(&rt, alloc, &[selection(1, Dir::Read)]).is_ok());
+    assert!(rt; port.start_fault(&rt, &gives_up) == Some(StartFault::GaveUp));
+    assert!(rt; port.start_fault(&rt, &[selection(1, Dir::Read)]).is_none());
 
     let again = [Effect::Unuse(1), selection(1, Dir::Read)];
-    match events.note_handled(&rt, alloc, &Signal::Close, &again, RUNS) {
-        Ok(_) => assert!(rt; false),
-        Err(fault) => assert!(rt; fault == EventFault::NoRoom),
-    }
+    assert!(rt; port.fault(&rt, &again) == Some(EventFault::NoRoom));
     Ok(())
 }
 
@@ -145,22 +198,24 @@ fn selections(alloc: Global, count: u32) -> Result<Vec<Effect>, NoMemory> {
     Ok(effects)
 }
 
+/// The port, and why its start with so many events is refused, if it is.
+fn start_with<R: Wait>(
+    rt: &R,
+    alloc: Global,
+    count: u32,
+) -> Result<(PolledPort, Option<StartFault>), NoMemory> {
+    let mut port = PolledPort::new(alloc)?;
+    let effects = selections(alloc, count)?;
+    let fault = port.start_fault(rt, effects.as_slice());
+    Ok((port, fault))
+}
+
 #[test]
 fn a_port_has_at_most_64_events(rt: HostRuntime) -> Result<(), Fail> {
-    let alloc = rt.alloc();
-    let (end, _lane) = lane::<PollAsk>(alloc, Snapshot::of(&()))?;
-    let too_many = selections(alloc, 65)?;
-    let mut events = PortEvents::new(3, end);
-    assert!(rt; events.start(&rt, alloc, too_many.as_slice()) == Err(StartFault::NoRoom));
-
-    let (end, _lane) = lane::<PollAsk>(alloc, Snapshot::of(&()))?;
-    let most = selections(alloc, 64)?;
-    let mut events = PortEvents::new(3, end);
-    assert!(rt; events.start(&rt, alloc, most.as_slice()).is_ok());
-    let next = [selection(64, Dir::Read)];
-    match events.note_handled(&rt, alloc, &Signal::Close, &next, RUNS) {
-        Ok(_) => assert!(rt; false),
-        Err(fault) => assert!(rt; fault == EventFault::NoRoom),
-    }
+    let (_, fault) = start_with(&rt, rt.alloc(), 65)?;
+    assert!(rt; fault == Some(StartFault::NoRoom));
+    let (mut port, fault) = start_with(&rt, rt.alloc(), 64)?;
+    assert!(rt; fault.is_none());
+    assert!(rt; port.fault(&rt, &[selection(64, Dir::Read)]) == Some(EventFault::NoRoom));
     Ok(())
 }

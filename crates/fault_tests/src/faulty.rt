@@ -23,10 +23,16 @@ pub enum FailingCall {
 }
 
 /// Files that hold this script under the name `s`, and five bytes under the name `five`.
-pub fn files(alloc: Global, script: &str, failing: FailingCall) -> Result<MemFiles, Fail> {
+fn holding(alloc: Global, script: &str) -> Result<MemFiles, Fail> {
     let mut files = MemFiles::new(alloc);
     files.hold("s", script.as_bytes())?;
     files.hold("five", b"abcde")?;
+    Ok(files)
+}
+
+/// The files of a run of this script.
+pub fn files(alloc: Global, script: &str, failing: FailingCall) -> Result<MemFiles, Fail> {
+    let mut files = holding(alloc, script)?;
     match failing {
         FailingCall::Read(number) => files.fail_read(number)?,
         FailingCall::Write(number) => files.fail_write(number)?,
@@ -45,14 +51,17 @@ pub fn sink(alloc: Global, failing: FailingCall) -> Result<MemSink, Fail> {
 }
 
 /// Three rounds of the write event of the program, and three of its read event.
-pub fn poll(alloc: Global, failing: FailingCall) -> Result<MemPoll, Fail> {
+fn rounds(alloc: Global) -> Result<MemPoll, Fail> {
     let mut poll = MemPoll::new(alloc);
-    for _ in 0..3 {
-        poll.add_round(&[1])?;
+    for event in [1, 1, 1, 0, 0, 0] {
+        poll.add_round(&[event])?;
     }
-    for _ in 0..3 {
-        poll.add_round(&[0])?;
-    }
+    Ok(poll)
+}
+
+/// The poll set of a run.
+pub fn poll(alloc: Global, failing: FailingCall) -> Result<MemPoll, Fail> {
+    let mut poll = rounds(alloc)?;
     if let FailingCall::Wait(number) = failing {
         poll.fail_wait(number)?;
     }
@@ -66,14 +75,19 @@ pub struct FailingSpawner {
     failing: FailingCall,
 }
 
-/// What starts a program that takes two bytes of an offer, gives `xy` and `z`, and ends with the status 3. Its events are 0 for its output, and 1 for its input.
-pub fn spawner(alloc: Global, failing: FailingCall) -> Result<FailingSpawner, Fail> {
+/// A program that takes two bytes of an offer, gives `xy` and `z`, and ends with the status 3.
+fn program(alloc: Global) -> Result<MemProgram, Fail> {
     let mut program = MemProgram::new(alloc, 2);
     program.give(b"xy")?;
     program.give(b"z")?;
     program.end(3);
+    Ok(program)
+}
+
+/// What starts that program. Its events are 0 for its output, and 1 for its input.
+pub fn spawner(alloc: Global, failing: FailingCall) -> Result<FailingSpawner, Fail> {
     let mut spawner = MemSpawner::new(alloc, 0);
-    spawner.add(program)?;
+    spawner.add(program(alloc)?)?;
     if let FailingCall::Start(number) = failing {
         spawner.fail_start(number)?;
     }

@@ -69,14 +69,21 @@ impl RunOutcome {
     }
 }
 
+/// How many of the bytes `xyz` these are.
+fn count_of(bytes: &[u8]) -> Result<usize, Fail> {
+    for front in ["", "xy", "xyz"] {
+        if front.as_bytes() == bytes {
+            return Ok(front.len());
+        }
+    }
+    Err("other bytes were saved".into())
+}
+
 /// How many of the bytes `xyz` were saved, where a file was written.
 fn saved(files: &MemFiles) -> Result<Option<usize>, Fail> {
     match files.held("saved") {
         None => Ok(None),
-        Some(b"") => Ok(Some(0)),
-        Some(b"xy") => Ok(Some(2)),
-        Some(b"xyz") => Ok(Some(3)),
-        Some(_) => Err("other bytes were saved".into()),
+        Some(bytes) => Ok(Some(count_of(bytes)?)),
     }
 }
 
@@ -84,7 +91,7 @@ fn saved(files: &MemFiles) -> Result<Option<usize>, Fail> {
 fn status_sent(files: &MemFiles) -> Result<Option<bool>, Fail> {
     match files.held("j") {
         None => Ok(None),
-        Some(journal) => Ok(Some(str::from_utf8(journal)?.find("xstatus 3").is_some())),
+        Some(journal) => Ok(Some(str::from_utf8(journal)?.contains("xstatus 3"))),
     }
 }
 
@@ -94,29 +101,33 @@ fn port_end(out: &MemSink) -> Result<Option<ReportedEnd>, Fail> {
     if report.is_empty() {
         return Ok(None);
     }
-    if report.find(" end=normal\n").is_some() {
+    if report.contains(" end=normal\n") {
         return Ok(Some(ReportedEnd::Normal));
     }
-    if report.find(" end=eio\n").is_some() {
+    if report.contains(" end=eio\n") {
         return Ok(Some(ReportedEnd::Eio));
     }
     Err("the port has another end".into())
 }
 
 /// How the driver in this place came back.
-fn life_at(drivers: &[Hosted], place: usize) -> Result<Life, Fail> {
-    let Some(host) = drivers.get(place) else {
-        return Err("a place is gone".into());
-    };
-    match &host.driver {
-        Some(driver) => Ok(driver.life()),
-        None => Err("a driver is gone".into()),
+fn life_at(drivers: &[Hosted], place: usize) -> Option<Life> {
+    match drivers.get(place) {
+        Some(
+            Hosted {
+                driver: Some(driver),
+                ..
+            },
+        ) => Some(driver.life()),
+        _ => None,
     }
 }
 
-/// Whether all drivers came back.
+/// Whether all drivers came back, and the one without a port as it was handed in.
 fn are_back(drivers: &[Hosted]) -> bool {
-    drivers.len() == 4 && drivers.iter().all(|host| host.driver.is_some())
+    drivers.len() == 4
+        && drivers.iter().all(|host| host.driver.is_some())
+        && life_at(drivers, 1) == Some(Life::Fresh)
 }
 
 /// What a run comes to that ended so, and left these files and this sink.
@@ -129,11 +140,11 @@ pub fn outcome_of(
         return Err("the poll set is gone".into());
     }
     if !are_back(ended.drivers.as_slice()) {
-        return Err("a driver is gone".into());
+        return Err("a driver is gone, or one without a port was started".into());
     }
-    if life_at(ended.drivers.as_slice(), 1)? != Life::Fresh {
-        return Err("a driver without a port was started".into());
-    }
+    let Some(program) = life_at(ended.drivers.as_slice(), 0) else {
+        return Err("the driver of the program is gone".into());
+    };
     Ok(RunOutcome {
         status: ended.status,
         cause: ended.cause,
@@ -141,6 +152,6 @@ pub fn outcome_of(
         saved: saved(files)?,
         status_sent: status_sent(files)?,
         end: port_end(out)?,
-        program: life_at(ended.drivers.as_slice(), 0)?,
+        program,
     })
 }

@@ -2,14 +2,13 @@
 
 use crate::faulty::FailingCall;
 use crate::outcome::{ReportedEnd, RunOutcome};
-use crate::runs::{run_script_with, run_with};
+use crate::runs::{comes_to, script_comes_to};
 use gateway::{Cause, StartRefusal};
 use port_driver::Life;
 use std::test::Fail;
 
 #[test]
 fn a_run_without_a_fault_saves_all_and_ends_its_port(rt: HostRuntime) -> Result<(), Fail> {
-    let outcome = run_with(&rt, rt.alloc(), FailingCall::Nothing)?;
     let wanted = RunOutcome {
         status: 0,
         cause: Cause::Done,
@@ -19,33 +18,30 @@ fn a_run_without_a_fault_saves_all_and_ends_its_port(rt: HostRuntime) -> Result<
         end: Some(ReportedEnd::Normal),
         program: Life::Stopped,
     };
-    assert!(rt; outcome == wanted);
+    assert!(rt; comes_to(&rt, rt.alloc(), FailingCall::Nothing, wanted)?);
     Ok(())
 }
 
 #[test]
 fn a_script_that_is_not_read_starts_nothing(rt: HostRuntime) -> Result<(), Fail> {
-    let outcome = run_with(&rt, rt.alloc(), FailingCall::Read(0))?;
     let wanted = RunOutcome::without_output(3, Cause::ReadFault { line: 0 }, Life::Fresh);
-    assert!(rt; outcome == wanted);
+    assert!(rt; comes_to(&rt, rt.alloc(), FailingCall::Read(0), wanted)?);
     Ok(())
 }
 
 #[test]
 fn a_file_that_is_not_read_starts_nothing(rt: HostRuntime) -> Result<(), Fail> {
-    let outcome = run_with(&rt, rt.alloc(), FailingCall::Read(1))?;
     let wanted = RunOutcome::without_output(3, Cause::ReadFault { line: 3 }, Life::Fresh);
-    assert!(rt; outcome == wanted);
+    assert!(rt; comes_to(&rt, rt.alloc(), FailingCall::Read(1), wanted)?);
     Ok(())
 }
 
 #[test]
 fn a_program_that_is_not_started_refuses_its_port(rt: HostRuntime) -> Result<(), Fail> {
-    let outcome = run_with(&rt, rt.alloc(), FailingCall::Start(0))?;
     let refusal = StartRefusal::StartFault;
     let cause = Cause::StartRefused { line: 2, refusal };
     let wanted = RunOutcome::without_output(6, cause, Life::Stopped);
-    assert!(rt; outcome == wanted);
+    assert!(rt; comes_to(&rt, rt.alloc(), FailingCall::Start(0), wanted)?);
     Ok(())
 }
 
@@ -64,19 +60,22 @@ const REFUSED: [(&str, StartRefusal); 2] = [
 #[test]
 fn a_program_is_stopped_where_a_later_port_is_refused(rt: HostRuntime) -> Result<(), Fail> {
     for (script, refusal) in REFUSED {
-        let outcome = run_script_with(&rt, rt.alloc(), script, FailingCall::Nothing)?;
         let cause = Cause::StartRefused { line: 3, refusal };
         let wanted = RunOutcome::without_output(6, cause, Life::Stopped);
-        assert!(rt; outcome == wanted, "{script}");
+        assert!(rt;
+            script_comes_to(&rt, rt.alloc(), script, wanted)?,
+            "{script}"
+        );
     }
     Ok(())
 }
 
 #[test]
 fn each_offer_that_fails_closes_the_port(rt: HostRuntime) -> Result<(), Fail> {
+    let wanted = RunOutcome::with_eio(0);
     for number in 0..3 {
-        let outcome = run_with(&rt, rt.alloc(), FailingCall::Offer(number))?;
-        assert!(rt; outcome == RunOutcome::with_eio(0), "offer {number}");
+        let offer = FailingCall::Offer(number);
+        assert!(rt; comes_to(&rt, rt.alloc(), offer, wanted)?, "offer {number}");
     }
     Ok(())
 }
@@ -84,16 +83,17 @@ fn each_offer_that_fails_closes_the_port(rt: HostRuntime) -> Result<(), Fail> {
 #[test]
 fn each_fetch_that_fails_closes_the_port_behind_what_came(rt: HostRuntime) -> Result<(), Fail> {
     for (number, saved) in [(0, 0), (1, 2), (2, 3)] {
-        let outcome = run_with(&rt, rt.alloc(), FailingCall::Fetch(number))?;
-        assert!(rt; outcome == RunOutcome::with_eio(saved), "fetch {number}");
+        let wanted = RunOutcome::with_eio(saved);
+        let fetch = FailingCall::Fetch(number);
+        assert!(rt; comes_to(&rt, rt.alloc(), fetch, wanted)?, "fetch {number}");
     }
     Ok(())
 }
 
 #[test]
 fn a_status_that_fails_closes_the_port_and_is_not_sent(rt: HostRuntime) -> Result<(), Fail> {
-    let outcome = run_with(&rt, rt.alloc(), FailingCall::Status(0))?;
-    assert!(rt; outcome == RunOutcome::with_eio(3));
+    let wanted = RunOutcome::with_eio(3);
+    assert!(rt; comes_to(&rt, rt.alloc(), FailingCall::Status(0), wanted)?);
     Ok(())
 }
 
@@ -101,29 +101,29 @@ fn a_status_that_fails_closes_the_port_and_is_not_sent(rt: HostRuntime) -> Resul
 fn each_wait_that_fails_ends_the_run_without_a_report(rt: HostRuntime) -> Result<(), Fail> {
     let wanted = RunOutcome::without_output(7, Cause::PollFault, Life::Stopped);
     for number in 0..6 {
-        let outcome = run_with(&rt, rt.alloc(), FailingCall::Wait(number))?;
-        assert!(rt; outcome == wanted, "wait {number}");
+        let wait = FailingCall::Wait(number);
+        assert!(rt; comes_to(&rt, rt.alloc(), wait, wanted)?, "wait {number}");
     }
     Ok(())
 }
 
 #[test]
 fn nothing_is_written_behind_a_save_that_fails(rt: HostRuntime) -> Result<(), Fail> {
-    let outcome = run_with(&rt, rt.alloc(), FailingCall::Write(0))?;
-    assert!(rt; outcome == RunOutcome::cut(None, None));
+    let wanted = RunOutcome::cut(None, None);
+    assert!(rt; comes_to(&rt, rt.alloc(), FailingCall::Write(0), wanted)?);
     Ok(())
 }
 
 #[test]
 fn nothing_is_put_behind_a_journal_that_fails(rt: HostRuntime) -> Result<(), Fail> {
-    let outcome = run_with(&rt, rt.alloc(), FailingCall::Write(1))?;
-    assert!(rt; outcome == RunOutcome::cut(Some(3), None));
+    let wanted = RunOutcome::cut(Some(3), None);
+    assert!(rt; comes_to(&rt, rt.alloc(), FailingCall::Write(1), wanted)?);
     Ok(())
 }
 
 #[test]
 fn all_files_are_written_before_a_report_that_fails(rt: HostRuntime) -> Result<(), Fail> {
-    let outcome = run_with(&rt, rt.alloc(), FailingCall::Put(0))?;
-    assert!(rt; outcome == RunOutcome::cut(Some(3), Some(true)));
+    let wanted = RunOutcome::cut(Some(3), Some(true));
+    assert!(rt; comes_to(&rt, rt.alloc(), FailingCall::Put(0), wanted)?);
     Ok(())
 }

@@ -1,33 +1,12 @@
 //! Runs that aren't made, and runs that the outside fails.
 
-use crate::runs::{ABC, holding, run, standing};
-use gateway::{CallEnd, Cause, ScriptFault, StartRefusal};
-use outside::{MemFiles, MemPoll, MemSink};
-use std::alloc::Global;
+use crate::runs::{ABC, Ran, Setting, run, run_script};
+use gateway::{Cause, ScriptFault, StartRefusal};
+use outside::MemFiles;
+use std::alloc::{AllocError, Global};
 use std::sync::Wait;
 use std::test::Fail;
 use std::thread::Threads;
-
-/// How a run of these words over the files ends, where it writes nothing: its status, its cause, and how its drivers stand.
-fn end_of<R: Sync + Threads + Wait>(
-    rt: &R,
-    alloc: Global,
-    words: &[&str],
-    files: &mut MemFiles,
-) -> Result<(u8, Cause, String), Fail> {
-    let mut out = MemSink::new(alloc);
-    let ended = run(rt, words, files, &mut out, MemPoll::new(alloc), alloc)?;
-    let CallEnd {
-        status,
-        cause,
-        drivers,
-        ..
-    } = ended;
-    if !out.bytes().is_empty() {
-        return Err("something was written".into());
-    }
-    Ok((status, cause, standing(alloc, drivers.as_slice())?))
-}
 
 /// No driver was touched.
 const UNTOUCHED: &str = "fresh;fresh;fresh;fresh;fresh;fresh;fresh;fresh;fresh;fresh;";
@@ -84,71 +63,106 @@ const NOT_RUN: [(&str, u8, Cause); 8] = [
     ),
 ];
 
+/// Whether the run ended so, put nothing out, and touched no driver.
+fn is_unmade(alloc: Global, ran: &Ran, status: u8, cause: Cause) -> Result<bool, Fail> {
+    Ok(ran.ended_silently(status, cause) && ran.stands(alloc, UNTOUCHED)?)
+}
+
 #[test]
 fn scripts_that_are_not_run_tell_why(rt: HostRuntime) -> Result<(), Fail> {
     let alloc = rt.alloc();
-    for (script, status, cause) in NOT_RUN {
-        let mut files = holding(alloc, script.as_bytes())?;
-        let (told, why, drivers) = end_of(&rt, alloc, &["run", "s"], &mut files)?;
-        assert_eq!(rt; (told, why), (status, cause));
-        assert_eq!(rt; drivers.as_str(), UNTOUCHED);
+    for (script, status, cause) in NOT_RUN.as_slice() {
+        let ran = run_script(&rt, alloc, &["run", "s"], script.as_bytes())?;
+        assert!(rt; is_unmade(alloc, &ran, *status, *cause)?, "{script}");
     }
     Ok(())
 }
 
+/// Words that aren't served, and the place that is told.
+const UNSERVED: [(&[&str], u32); 13] = [
+    (&[], 1),
+    (&["walk", "s"], 1),
+    (&["run"], 2),
+    (&["run", "-s"], 2),
+    (&["run", "s", "0"], 3),
+    (&["run", "s", "17"], 3),
+    (&["run", "s", "4", "9"], 4),
+    (&["run", "s", "4", "2", "t"], 5),
+    (&["load"], 2),
+    (&["load", "x"], 2),
+    (&["load", "18446744073709551616"], 2),
+    (&["load", "7", "17"], 3),
+    (&["load", "7", "4", "2", "t"], 5),
+];
+
 #[test]
 fn words_that_are_not_served_are_told_by_place(rt: HostRuntime) -> Result<(), Fail> {
     let alloc = rt.alloc();
-    for (words, at) in [
-        ([].as_slice(), 1),
-        (["walk", "s"].as_slice(), 1),
-        (["run"].as_slice(), 2),
-        (["run", "-s"].as_slice(), 2),
-        (["run", "s", "0"].as_slice(), 3),
-        (["run", "s", "17"].as_slice(), 3),
-        (["run", "s", "4", "9"].as_slice(), 4),
-        (["run", "s", "4", "2", "t"].as_slice(), 5),
-        (["load"].as_slice(), 2),
-        (["load", "x"].as_slice(), 2),
-        (["load", "18446744073709551616"].as_slice(), 2),
-        (["load", "7", "17"].as_slice(), 3),
-        (["load", "7", "4", "2", "t"].as_slice(), 5),
-    ] {
-        let mut files = holding(alloc, ABC.as_bytes())?;
-        let (status, cause, drivers) = end_of(&rt, alloc, words, &mut files)?;
-        assert_eq!(rt; (status, cause), (1, Cause::Usage { at }));
-        assert_eq!(rt; drivers.as_str(), UNTOUCHED);
+    for (words, at) in UNSERVED.as_slice() {
+        let cause = Cause::Usage { at: *at };
+        let ran = run_script(&rt, alloc, words, ABC.as_bytes())?;
+        assert!(rt; is_unmade(alloc, &ran, 1, cause)?, "{words:?}");
     }
     Ok(())
+}
+
+/// Why a script isn't read.
+const UNREAD: Cause = Cause::ReadFault { line: 0 };
+
+/// These files, where their second read fails.
+fn with_one_read(files: MemFiles) -> Result<MemFiles, Fail> {
+    let mut files = files;
+    files.fail_read(1)?;
+    Ok(files)
 }
 
 #[test]
 fn a_script_that_is_not_read_is_a_read_fault(rt: HostRuntime) -> Result<(), Fail> {
     let alloc = rt.alloc();
-    let mut files = holding(alloc, ABC.as_bytes())?;
-    let (status, cause, _) = end_of(&rt, alloc, &["run", "t"], &mut files)?;
-    assert_eq!(rt; (status, cause), (3, Cause::ReadFault { line: 0 }));
-    files.fail_read(1)?;
-    let (status, cause, _) = end_of(&rt, alloc, &["run", "s"], &mut files)?;
-    assert_eq!(rt; (status, cause), (3, Cause::ReadFault { line: 0 }));
+    let ran = run_script(&rt, alloc, &["run", "t"], ABC.as_bytes())?;
+    assert!(rt; ran.ended_silently(3, UNREAD));
+    let files = with_one_read(ran.into_files())?;
+    let ran = run(&rt, alloc, &["run", "s"], Setting::over(alloc, files))?;
+    assert!(rt; ran.ended_silently(3, UNREAD));
     Ok(())
+}
+
+/// A script of so many empty lines.
+fn lines(alloc: Global, count: usize) -> Result<Vec<u8>, AllocError> {
+    Ok(vec![in alloc; b'\n'; count]?)
+}
+
+/// A script of so many processes.
+fn processes(alloc: Global, count: u32) -> Result<String, Fail> {
+    let mut script = String::new(alloc);
+    for number in 0..count {
+        write!(script, "process a{number}\n")?;
+    }
+    Ok(script)
+}
+
+/// Whether a run of this script ends so, and puts nothing out.
+fn ends_silently<R: Sync + Threads + Wait>(
+    rt: &R,
+    alloc: Global,
+    script: &[u8],
+    status: u8,
+    cause: Cause,
+) -> Result<bool, Fail> {
+    let ran = run_script(rt, alloc, &["run", "s"], script)?;
+    Ok(ran.ended_silently(status, cause))
 }
 
 #[test]
 fn scripts_have_limits(rt: HostRuntime) -> Result<(), Fail> {
     let alloc = rt.alloc();
-    let script = vec![in alloc; b'\n'; 1_048_577]?;
-    let mut files = holding(alloc, script.as_slice())?;
-    let (status, cause, _) = end_of(&rt, alloc, &["run", "s"], &mut files)?;
-    assert_eq!(rt; (status, cause), (10, Cause::Limit { line: 0 }));
-    let mut script = String::new(alloc);
-    for number in 0..33 {
-        write!(script, "process a{number}\n")?;
-    }
-    let mut files = holding(alloc, script.as_bytes())?;
-    let (status, cause, _) = end_of(&rt, alloc, &["run", "s"], &mut files)?;
+    let script = lines(alloc, 1_048_577)?;
+    let cause = Cause::Limit { line: 0 };
+    assert!(rt; ends_silently(&rt, alloc, script.as_slice(), 10, cause)?);
+    let script = processes(alloc, 33)?;
     let fault = ScriptFault::Limit { line: 33, which: 1 };
-    assert_eq!(rt; (status, cause), (2, Cause::Script { fault }));
+    let cause = Cause::Script { fault };
+    assert!(rt; ends_silently(&rt, alloc, script.as_bytes(), 2, cause)?);
     Ok(())
 }
 
@@ -158,17 +172,11 @@ fn a_port_that_was_opened_is_ended_where_a_later_one_is_refused(
 ) -> Result<(), Fail> {
     let alloc = rt.alloc();
     let script = b"process a\nport p a echo\nport q a refuse2\n";
-    let mut files = holding(alloc, script)?;
-    let (status, cause, drivers) = end_of(&rt, alloc, &["run", "s"], &mut files)?;
+    let ran = run_script(&rt, alloc, &["run", "s"], script)?;
     let refusal = StartRefusal::Errno;
-    assert_eq!(rt;
-        (status, cause),
-        (6, Cause::StartRefused { line: 3, refusal })
-    );
-    assert_eq!(rt;
-        drivers.as_str(),
-        "stopped 0;fresh;fresh;fresh;fresh;fresh;fresh;stopped;fresh;fresh;"
-    );
+    assert!(rt; ran.ended_silently(6, Cause::StartRefused { line: 3, refusal }));
+    let drivers = "stopped 0;fresh;fresh;fresh;fresh;fresh;fresh;stopped;fresh;fresh;";
+    assert!(rt; ran.stands(alloc, drivers)?);
     Ok(())
 }
 
@@ -176,14 +184,10 @@ fn a_port_that_was_opened_is_ended_where_a_later_one_is_refused(
 fn a_wait_that_fails_ends_the_run(rt: HostRuntime) -> Result<(), Fail> {
     let alloc = rt.alloc();
     let script = b"process a\nport c a spawn run \"first\"\na expect c 1\n";
-    let mut files = holding(alloc, script)?;
-    let mut out = MemSink::new(alloc);
-    let mut poll = MemPoll::new(alloc);
-    poll.fail_wait(0)?;
-    let ended = run(&rt, &["run", "s"], &mut files, &mut out, poll, alloc)?;
-    assert_eq!(rt; (ended.status, ended.cause), (7, Cause::PollFault));
-    assert!(rt; out.bytes().is_empty());
-    assert!(rt; ended.report.is_none());
-    assert!(rt; ended.poll.is_some());
+    let setting = Setting::of_script(alloc, script)?.without_wait()?;
+    let ran = run(&rt, alloc, &["run", "s"], setting)?;
+    assert!(rt; ran.ended_silently(7, Cause::PollFault));
+    assert!(rt; ran.end.report.is_none());
+    assert!(rt; ran.end.poll.is_some());
     Ok(())
 }

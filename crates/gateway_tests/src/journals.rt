@@ -2,53 +2,60 @@
 
 use crate::outputs::SAVES;
 use crate::reports::RUNS;
-use crate::runs::{holding, owned_words, run};
-use outside::{MemPoll, MemSink};
+use crate::runs::{owned_words, run_script};
+use outside::{MemFiles, MemSink};
 use plain_command::plain_command;
 use std::alloc::Global;
 use std::sync::Wait;
 use std::test::Fail;
 use std::thread::Threads;
 
-/// How a replay of the journal of this script ends, and what it prints.
-fn replayed<R: Sync + Threads + Wait>(
+/// A script with a line before it that asks for a journal `j`.
+fn journaled(alloc: Global, script: &str) -> Result<String, Fail> {
+    let mut journaled = String::from_str(alloc, "journal \"j\"\n")?;
+    journaled.push_str(script)?;
+    Ok(journaled)
+}
+
+/// The status of a replay of the journal `j`, which puts its line to the sink.
+fn replay(alloc: Global, files: &mut MemFiles, out: &mut MemSink) -> Result<u8, Fail> {
+    let words = owned_words(alloc, &["replay", "j"])?;
+    let plain = plain_command(alloc, words.as_slice(), files, out);
+    Ok(plain.status)
+}
+
+/// Whether a replay tells the journal `j` to be legal, by a line with this front.
+fn is_legal(alloc: Global, files: &mut MemFiles, front: &str) -> Result<bool, Fail> {
+    let mut out = MemSink::new(alloc);
+    let status = replay(alloc, files, &mut out)?;
+    Ok(status == 0 && str::from_utf8(out.bytes())?.starts_with(front))
+}
+
+/// Whether this script has a legal journal under so many schedulers, of which a replay prints a line with this front.
+fn is_journaled<R: Sync + Threads + Wait>(
     rt: &R,
     alloc: Global,
     script: &str,
     schedulers: &str,
-) -> Result<(u8, String), Fail> {
-    let mut journaled = String::from_str(alloc, "journal \"j\"\n")?;
-    journaled.push_str(script)?;
-    let mut files = holding(alloc, journaled.as_bytes())?;
-    let mut out = MemSink::new(alloc);
-    let words = ["run", "s", schedulers];
-    run(rt, &words, &mut files, &mut out, MemPoll::new(alloc), alloc)?;
-    let words = owned_words(alloc, &["replay", "j"])?;
-    let mut told = MemSink::new(alloc);
-    let plain = plain_command(alloc, words.as_slice(), &mut files, &mut told);
-    Ok((
-        plain.status,
-        String::from_str(alloc, str::from_utf8(told.bytes())?)?,
-    ))
+    front: &str,
+) -> Result<bool, Fail> {
+    let script = journaled(alloc, script)?;
+    let ran = run_script(rt, alloc, &["run", "s", schedulers], script.as_bytes())?;
+    let mut files = ran.into_files();
+    is_legal(alloc, &mut files, front)
 }
 
 #[test]
 fn each_journal_of_a_run_is_legal(rt: HostRuntime) -> Result<(), Fail> {
     let alloc = rt.alloc();
     for schedulers in ["1", "4"] {
-        for (script, _) in RUNS {
-            let (status, line) = replayed(&rt, alloc, script, schedulers)?;
-            assert_eq!(rt;
-                (status, line.starts_with("legal ports=")),
-                (0, true),
+        for (script, _) in RUNS.as_slice() {
+            assert!(rt;
+                is_journaled(&rt, alloc, script, schedulers, "legal ports=")?,
                 "{script}"
             );
         }
     }
-    let (status, line) = replayed(&rt, alloc, SAVES, "2")?;
-    assert_eq!(rt;
-        (status, line.starts_with("legal ports=2 rows=")),
-        (0, true)
-    );
+    assert!(rt; is_journaled(&rt, alloc, SAVES, "2", "legal ports=2 rows=")?);
     Ok(())
 }

@@ -1,24 +1,21 @@
 //! What runs write: the report, the data that is saved, and the journal.
 
-use crate::runs::{ABC, holding, run, standing};
+use crate::runs::{ABC, Ran, Setting, run, run_script};
 use gateway::Cause;
-use outside::{MemPoll, MemSink};
+use std::alloc::Global;
+use std::sync::Wait;
 use std::test::Fail;
+use std::thread::Threads;
 
 #[test]
 fn a_driver_comes_back_stopped_in_its_place(rt: HostRuntime) -> Result<(), Fail> {
     let alloc = rt.alloc();
-    let mut files = holding(alloc, ABC.as_bytes())?;
-    let mut out = MemSink::new(alloc);
-    let poll = MemPoll::new(alloc);
-    let ended = run(&rt, &["run", "s"], &mut files, &mut out, poll, alloc)?;
-    assert_eq!(rt; (ended.status, ended.cause), (0, Cause::Done));
-    assert!(rt; ended.report.is_some());
-    assert!(rt; ended.poll.is_some());
-    assert_eq!(rt;
-        standing(alloc, ended.drivers.as_slice())?.as_str(),
-        "stopped 0;fresh;fresh;fresh;fresh;fresh;fresh;fresh;fresh;fresh;"
-    );
+    let ran = run_script(&rt, alloc, &["run", "s"], ABC.as_bytes())?;
+    assert!(rt; ran.ended(0, Cause::Done));
+    assert!(rt; ran.end.report.is_some());
+    assert!(rt; ran.end.poll.is_some());
+    let drivers = "stopped 0;fresh;fresh;fresh;fresh;fresh;fresh;fresh;fresh;fresh;";
+    assert!(rt; ran.stands(alloc, drivers)?);
     Ok(())
 }
 
@@ -29,14 +26,10 @@ pub const SAVES: &str =
 
 #[test]
 fn data_is_saved_by_process_and_port(rt: HostRuntime) -> Result<(), Fail> {
-    let alloc = rt.alloc();
-    let mut files = holding(alloc, SAVES.as_bytes())?;
-    let mut out = MemSink::new(alloc);
-    let poll = MemPoll::new(alloc);
-    let ended = run(&rt, &["run", "s", "2"], &mut files, &mut out, poll, alloc)?;
-    assert_eq!(rt; (ended.status, ended.cause), (0, Cause::Done));
-    assert!(rt; matches!(files.held("lines"), Some(b"hi\n")));
-    assert!(rt; matches!(files.held("bytes"), Some(b"xyz")));
+    let ran = run_script(&rt, rt.alloc(), &["run", "s", "2"], SAVES.as_bytes())?;
+    assert!(rt; ran.ended(0, Cause::Done));
+    assert!(rt; ran.holds("lines", b"hi\n"));
+    assert!(rt; ran.holds("bytes", b"xyz"));
     Ok(())
 }
 
@@ -44,43 +37,40 @@ fn data_is_saved_by_process_and_port(rt: HostRuntime) -> Result<(), Fail> {
 const JOURNAL: &str =
     "process a\njournal \"j\"\nport p a echo\na command p \"abc\"\na expect p 1\na die done\n";
 
+/// The journal of that script.
+const ROWS: &str = "journal 1\n\
+    processes a\n\
+    port p 0 echo msgq 4096 8192\n\
+    h p0 0 command - 616263 ; ; data plain 616263\n\
+    h p0 1 gone done ; ;\n\
+    m closed\n\
+    end\n";
+
 #[test]
 fn the_journal_tells_the_rows_of_each_port(rt: HostRuntime) -> Result<(), Fail> {
-    let alloc = rt.alloc();
-    let mut files = holding(alloc, JOURNAL.as_bytes())?;
-    let mut out = MemSink::new(alloc);
-    let poll = MemPoll::new(alloc);
-    run(&rt, &["run", "s"], &mut files, &mut out, poll, alloc)?;
-    let Some(journal) = files.held("j") else {
-        panic!(rt; "the journal was written");
-    };
-    assert_eq!(rt;
-        str::from_utf8(journal)?,
-        "journal 1\n\
-         processes a\n\
-         port p 0 echo msgq 4096 8192\n\
-         h p0 0 command - 616263 ; ; data plain 616263\n\
-         h p0 1 gone done ; ;\n\
-         m closed\n\
-         end\n"
-    );
+    let ran = run_script(&rt, rt.alloc(), &["run", "s"], JOURNAL.as_bytes())?;
+    assert!(rt; ran.holds("j", ROWS.as_bytes()));
     Ok(())
+}
+
+/// A run of the script with a journal where the first put fails, once it took so many bytes.
+fn run_with_failing_put<R: Sync + Threads + Wait>(
+    rt: &R,
+    alloc: Global,
+    count: usize,
+) -> Result<Ran, Fail> {
+    let setting = Setting::of_script(alloc, JOURNAL.as_bytes())?.with_put_of(count)?;
+    run(rt, alloc, &["run", "s"], setting)
 }
 
 #[test]
 fn a_put_that_fails_is_a_write_fault_behind_the_files(rt: HostRuntime) -> Result<(), Fail> {
-    let alloc = rt.alloc();
     for (count, written) in [(0, ""), (6, "report")] {
-        let mut files = holding(alloc, JOURNAL.as_bytes())?;
-        let mut out = MemSink::new(alloc);
-        out.fail_put(0)?;
-        out.take_before_failing(count);
-        let poll = MemPoll::new(alloc);
-        let ended = run(&rt, &["run", "s"], &mut files, &mut out, poll, alloc)?;
-        assert_eq!(rt; (ended.status, ended.cause), (4, Cause::WriteFault));
-        assert!(rt; ended.report.is_some());
-        assert_eq!(rt; str::from_utf8(out.bytes())?, written);
-        assert!(rt; files.held("j").is_some());
+        let ran = run_with_failing_put(&rt, rt.alloc(), count)?;
+        assert!(rt; ran.ended(4, Cause::WriteFault));
+        assert!(rt; ran.end.report.is_some());
+        assert!(rt; ran.put(written));
+        assert!(rt; ran.files.held("j").is_some());
     }
     Ok(())
 }
@@ -88,14 +78,10 @@ fn a_put_that_fails_is_a_write_fault_behind_the_files(rt: HostRuntime) -> Result
 #[test]
 fn a_write_that_fails_is_a_write_fault_before_the_report(rt: HostRuntime) -> Result<(), Fail> {
     let alloc = rt.alloc();
-    let mut files = holding(alloc, SAVES.as_bytes())?;
-    files.fail_write(1)?;
-    let mut out = MemSink::new(alloc);
-    let poll = MemPoll::new(alloc);
-    let ended = run(&rt, &["run", "s"], &mut files, &mut out, poll, alloc)?;
-    assert_eq!(rt; (ended.status, ended.cause), (4, Cause::WriteFault));
-    assert!(rt; out.bytes().is_empty());
-    assert!(rt; matches!(files.held("lines"), Some(b"hi\n")));
-    assert!(rt; files.held("bytes").is_none());
+    let setting = Setting::of_script(alloc, SAVES.as_bytes())?.with_one_write()?;
+    let ran = run(&rt, alloc, &["run", "s"], setting)?;
+    assert!(rt; ran.ended_silently(4, Cause::WriteFault));
+    assert!(rt; ran.holds("lines", b"hi\n"));
+    assert!(rt; ran.files.held("bytes").is_none());
     Ok(())
 }

@@ -1,7 +1,6 @@
 //! Scripts beside the texts that they are reported with. What a row says is so for every schedule: its processes wait for each other by replies and by data.
 
-use crate::runs::{holding, run};
-use outside::{MemPoll, MemSink};
+use crate::runs::run_script;
 use std::alloc::Global;
 use std::sync::Wait;
 use std::test::Fail;
@@ -335,50 +334,63 @@ fn written_by<R: Sync + Threads + Wait>(
     script: &[u8],
     schedulers: &str,
 ) -> Result<String, Fail> {
-    let mut files = holding(alloc, script)?;
-    let mut out = MemSink::new(alloc);
-    let words = ["run", "s", schedulers];
-    run(rt, &words, &mut files, &mut out, MemPoll::new(alloc), alloc)?;
-    Ok(String::from_str(alloc, str::from_utf8(out.bytes())?)?)
+    let ran = run_script(rt, alloc, &["run", "s", schedulers], script)?;
+    Ok(String::from_str(alloc, str::from_utf8(ran.out.bytes())?)?)
 }
 
-/// The first script that is reported with another text than it may be, and that text.
-fn first_wrong<R: Sync + Threads + Wait>(
-    rt: &R,
-    alloc: Global,
-    schedulers: &str,
-) -> Result<String, Fail> {
-    for (script, wanted) in RUNS {
-        let written = written_by(rt, alloc, script.as_bytes(), schedulers)?;
-        if !wanted.iter().any(|text| *text == written.as_str()) {
-            return Ok(format!(in alloc; "{script}reports under {schedulers}:\n{written}")?);
+/// Whether the text is one of these.
+fn is_one_of(text: &str, wanted: &[&str]) -> bool {
+    for each in wanted {
+        if *each == text {
+            return true;
         }
     }
-    Ok(String::new(alloc))
+    false
+}
+
+/// A script with what it is reported with under so many schedulers, if that is none of these texts, and nothing otherwise.
+fn wrong_report<R: Sync + Threads + Wait>(
+    rt: &R,
+    alloc: Global,
+    script: &str,
+    schedulers: &str,
+    wanted: &[&str],
+) -> Result<String, Fail> {
+    let written = written_by(rt, alloc, script.as_bytes(), schedulers)?;
+    if is_one_of(written.as_str(), wanted) {
+        return Ok(String::new(alloc));
+    }
+    Ok(format!(in alloc; "{script}reports under {schedulers}:\n{written}")?)
 }
 
 #[test]
 fn scripts_are_reported_under_any_number_of_schedulers(rt: HostRuntime) -> Result<(), Fail> {
     for schedulers in ["1", "2", "4", "16"] {
-        let wrong = first_wrong(&rt, rt.alloc(), schedulers)?;
-        assert_eq!(rt; wrong.as_str(), "");
+        for (script, wanted) in RUNS.as_slice() {
+            let wrong = wrong_report(&rt, rt.alloc(), script, schedulers, wanted)?;
+            assert!(rt; wrong.is_empty(), "{wrong}");
+        }
     }
     Ok(())
 }
 
-#[test]
-fn a_command_has_at_most_262143_bytes(rt: HostRuntime) -> Result<(), Fail> {
-    let alloc = rt.alloc();
+/// A script with a command of so many bytes.
+fn commanding(alloc: Global, count: usize) -> Result<String, Fail> {
     let mut script = String::from_str(alloc, "process a\nport p a echo msgq off\na command p \"")?;
-    for _ in 0..262_143 {
+    for _ in 0..count {
         script.push('x')?;
     }
     script.push_str("\"\n")?;
-    assert_eq!(rt;
-        written_by(&rt, alloc, script.as_bytes(), "2")?.as_str(),
-        "report processes=1 ports=1\n\
+    Ok(script)
+}
+
+#[test]
+fn a_command_has_at_most_262143_bytes(rt: HostRuntime) -> Result<(), Fail> {
+    let script = commanding(rt.alloc(), 262_143)?;
+    let written = written_by(&rt, rt.alloc(), script.as_bytes(), "2")?;
+    let report = "report processes=1 ports=1\n\
          port p driver=echo commands=1 late=0 bytes=262143 end=normal\n\
-         process a commands=1 dropped=0 suspended=0 data=1 sha256=69dbf0273ec892997c5c9ab8d595c8ce79d7656db64a88a0c38304de37f5f2d8\n"
-    );
+         process a commands=1 dropped=0 suspended=0 data=1 sha256=69dbf0273ec892997c5c9ab8d595c8ce79d7656db64a88a0c38304de37f5f2d8\n";
+    assert!(rt; written.as_str() == report, "{written}");
     Ok(())
 }

@@ -1,13 +1,11 @@
 //! Runs over files, a sink, a poll set and programs of memory.
-ghost use Rattle.std.specs.Prelude.{All, IfOk};
-ghost use Rattle.gateway.specs.driver_hosts.Hosts.{IsUnused};
 
-use gateway::{CallEnd, Hosted, gateway, host_drivers};
+use gateway::{CallEnd, Cause, Hosted, gateway, host_drivers};
 use outside::{MemFiles, MemPoll, MemProgram, MemSink, MemSpawner, OpenGate};
 use port_driver::{Driver, Life};
 use sample_drivers::{Digest, Echo, Refuse, Refused, Store, Tally, Valve};
 use spawn_driver::spawn_driver;
-use std::alloc::Global;
+use std::alloc::{AllocError, Global};
 use std::sync::Wait;
 use std::test::Fail;
 use std::thread::Threads;
@@ -15,42 +13,12 @@ use std::thread::Threads;
 /// A process that hands three bytes to its port and closes it.
 pub const ABC: &str = "process a\nport p a echo\na command p \"abc\"\na close p\n";
 
-/// A program that answers three bytes with three others.
-fn answering(alloc: Global) -> Result<MemSpawner, Fail> {
-    let mut program = MemProgram::new(alloc, 16);
-    program.need(3);
-    program.give(b"xyz")?;
-    let mut spawner = MemSpawner::new(alloc, 0);
-    spawner.add(program)?;
-    Ok(spawner)
-}
-
-/// A program that gives a line and ends.
-fn ending(alloc: Global) -> Result<MemSpawner, Fail> {
-    let mut program = MemProgram::new(alloc, 16);
-    program.give(b"hi\n")?;
-    program.end(3);
-    let mut spawner = MemSpawner::new(alloc, 2);
-    spawner.add(program)?;
-    Ok(spawner)
-}
-
-/// Fresh drivers: two of echo, one each of the other samples that start, one that refuses to start with an error of the system, and two of programs.
-fn hosts(alloc: Global) -> Result<Vec<Hosted>, Fail>
-    ensures { IfOk result (λ hosts. All (IsUnused (λ b. stage b)) hosts.items) }
-{
-    let mut drivers: Vec<Box<dyn Driver + Send>> = Vec::new(alloc);
-    drivers.push(Box::new(alloc, Echo::new())?)?;
-    drivers.push(Box::new(alloc, Echo::new())?)?;
-    drivers.push(Box::new(alloc, Tally::new())?)?;
-    drivers.push(Box::new(alloc, Store::new())?)?;
-    drivers.push(Box::new(alloc, Valve::new())?)?;
-    drivers.push(Box::new(alloc, Valve::soft())?)?;
-    drivers.push(Box::new(alloc, Digest::new())?)?;
-    drivers.push(Box::new(alloc, Refuse::new(Refused::Errno))?)?;
-    drivers.push(Box::new(alloc, spawn_driver(answering(alloc)?))?)?;
-    drivers.push(Box::new(alloc, spawn_driver(ending(alloc)?))?)?;
-    Ok(host_drivers(alloc, drivers)?)
+/// What a run stands on.
+#[derive(Drop)]
+pub struct Setting {
+    pub files: MemFiles,
+    pub out: MemSink,
+    pub poll: MemPoll,
 }
 
 /// Files that hold this script, under the name `s`, and five bytes under the name `five`.
@@ -61,8 +29,170 @@ pub fn holding(alloc: Global, script: &[u8]) -> Result<MemFiles, Fail> {
     Ok(files)
 }
 
+impl Setting {
+    /// These files, an empty sink, and a poll set without rounds.
+    pub fn over(alloc: Global, files: MemFiles) -> Setting {
+        Setting {
+            files,
+            out: MemSink::new(alloc),
+            poll: MemPoll::new(alloc),
+        }
+    }
+
+    /// Files that hold this script, an empty sink, and a poll set without rounds.
+    pub fn of_script(alloc: Global, script: &[u8]) -> Result<Setting, Fail> {
+        Ok(Setting::over(alloc, holding(alloc, script)?))
+    }
+
+    /// The same, where the first wait fails.
+    pub fn without_wait(self) -> Result<Setting, Fail> {
+        let mut setting = self;
+        setting.poll.fail_wait(0)?;
+        Ok(setting)
+    }
+
+    /// The same, where the first put fails once it took so many bytes.
+    pub fn with_put_of(self, count: usize) -> Result<Setting, Fail> {
+        let mut setting = self;
+        setting.out.fail_put(0)?;
+        setting.out.take_before_failing(count);
+        Ok(setting)
+    }
+
+    /// The same, where the second write fails.
+    pub fn with_one_write(self) -> Result<Setting, Fail> {
+        let mut setting = self;
+        setting.files.fail_write(1)?;
+        Ok(setting)
+    }
+}
+
+/// What a run left, and how it ended.
+#[derive(Drop)]
+pub struct Ran {
+    pub files: MemFiles,
+    pub out: MemSink,
+    pub end: CallEnd<MemPoll>,
+}
+
+impl Ran {
+    /// The files alone.
+    pub fn into_files(self) -> MemFiles {
+        let Ran { files, .. } = self;
+        files
+    }
+
+    /// Whether the run ended with this status and this cause.
+    pub fn ended(&self, status: u8, cause: Cause) -> bool {
+        self.end.status == status && self.end.cause == cause
+    }
+
+    /// Whether the run ended with this status and this cause, and put nothing out.
+    pub fn ended_silently(&self, status: u8, cause: Cause) -> bool {
+        self.ended(status, cause) && self.out.bytes().is_empty()
+    }
+
+    /// Whether this was put out.
+    pub fn put(&self, text: &str) -> bool {
+        self.out.bytes() == text.as_bytes()
+    }
+
+    /// Whether the file of this name holds these bytes.
+    pub fn holds(&self, name: &str, bytes: &[u8]) -> bool {
+        match self.files.held(name) {
+            Some(held) => held == bytes,
+            None => false,
+        }
+    }
+
+    /// Whether the drivers stand so.
+    pub fn stands(&self, alloc: Global, text: &str) -> Result<bool, Fail> {
+        let standing = standing(alloc, self.end.drivers.as_slice())?;
+        Ok(standing.as_str() == text)
+    }
+}
+
+/// A program that answers three bytes with three others.
+fn answering(alloc: Global) -> Result<MemProgram, Fail> {
+    let mut program = MemProgram::new(alloc, 16);
+    program.need(3);
+    program.give(b"xyz")?;
+    Ok(program)
+}
+
+/// A program that gives a line and ends.
+fn ending(alloc: Global) -> Result<MemProgram, Fail> {
+    let mut program = MemProgram::new(alloc, 16);
+    program.give(b"hi\n")?;
+    program.end(3);
+    Ok(program)
+}
+
+/// What starts this program, with its events from this one on.
+fn starting(alloc: Global, event: u32, program: MemProgram) -> Result<MemSpawner, Fail> {
+    let mut spawner = MemSpawner::new(alloc, event);
+    spawner.add(program)?;
+    Ok(spawner)
+}
+
+/// The kinds of drivers that need no program.
+#[derive(Clone, Copy)]
+pub enum TestDriver {
+    Echo,
+    Tally,
+    Store,
+    Valve,
+    ValveSoft,
+    Digest,
+    RefuseErrno,
+}
+
+/// Two drivers of echo, one each of the other samples that start, and one that refuses to start with an error of the system.
+const SAMPLES: [TestDriver; 8] = [
+    TestDriver::Echo,
+    TestDriver::Echo,
+    TestDriver::Tally,
+    TestDriver::Store,
+    TestDriver::Valve,
+    TestDriver::ValveSoft,
+    TestDriver::Digest,
+    TestDriver::RefuseErrno,
+];
+
+/// A fresh driver of this kind.
+pub fn fresh(alloc: Global, sample: TestDriver) -> Result<Box<dyn Driver + Send>, AllocError> {
+    let driver: Box<dyn Driver + Send> = match sample {
+        TestDriver::Echo => Box::new(alloc, Echo::new())?,
+        TestDriver::Tally => Box::new(alloc, Tally::new())?,
+        TestDriver::Store => Box::new(alloc, Store::new())?,
+        TestDriver::Valve => Box::new(alloc, Valve::new())?,
+        TestDriver::ValveSoft => Box::new(alloc, Valve::soft())?,
+        TestDriver::Digest => Box::new(alloc, Digest::new())?,
+        TestDriver::RefuseErrno => Box::new(alloc, Refuse::new(Refused::Errno))?,
+    };
+    Ok(driver)
+}
+
+/// A fresh driver of the programs that this starts.
+fn fresh_spawn(alloc: Global, spawner: MemSpawner) -> Result<Box<dyn Driver + Send>, AllocError> {
+    Ok(Box::new(alloc, spawn_driver(spawner))?)
+}
+
+/// Fresh drivers: those of the samples, and two of programs.
+fn fresh_drivers(alloc: Global) -> Result<Vec<Box<dyn Driver + Send>>, Fail> {
+    let mut drivers = Vec::new(alloc);
+    for sample in SAMPLES.as_slice() {
+        drivers.push(fresh(alloc, *sample)?)?;
+    }
+    let first = starting(alloc, 0, answering(alloc)?)?;
+    drivers.push(fresh_spawn(alloc, first)?)?;
+    let second = starting(alloc, 2, ending(alloc)?)?;
+    drivers.push(fresh_spawn(alloc, second)?)?;
+    Ok(drivers)
+}
+
 /// The words as a run takes them.
-pub fn owned_words(alloc: Global, words: &[&str]) -> Result<Vec<String>, Fail> {
+pub fn owned_words(alloc: Global, words: &[&str]) -> Result<Vec<String>, AllocError> {
     let mut owned = Vec::new(alloc);
     for word in words {
         owned.push(String::from_str(alloc, word)?)?;
@@ -70,45 +200,70 @@ pub fn owned_words(alloc: Global, words: &[&str]) -> Result<Vec<String>, Fail> {
     Ok(owned)
 }
 
-/// Runs the words over the files, the sink and the poll set, with the drivers of these tests.
+/// Runs the words over the setting, with fresh drivers of these.
+pub fn run_with<R: Sync + Threads + Wait>(
+    rt: &R,
+    alloc: Global,
+    words: &[String],
+    drivers: Vec<Box<dyn Driver + Send>>,
+    setting: Setting,
+) -> Result<Ran, Fail> {
+    let Setting {
+        mut files,
+        mut out,
+        poll,
+    } = setting;
+    let hosts = host_drivers(alloc, drivers)?;
+    let end = gateway(
+        rt, alloc, words, &mut files, &mut out, hosts, poll, &OpenGate,
+    );
+    Ok(Ran { files, out, end })
+}
+
+/// Runs the words over the setting, with the drivers of these tests.
 pub fn run<R: Sync + Threads + Wait>(
     rt: &R,
-    words: &[&str],
-    files: &mut MemFiles,
-    out: &mut MemSink,
-    poll: MemPoll,
     alloc: Global,
-) -> Result<CallEnd<MemPoll>, Fail> {
-    let owned = owned_words(alloc, words)?;
-    let drivers = hosts(alloc)?;
-    Ok(gateway(
-        rt,
-        alloc,
-        owned.as_slice(),
-        files,
-        out,
-        drivers,
-        poll,
-        &OpenGate,
-    ))
+    words: &[&str],
+    setting: Setting,
+) -> Result<Ran, Fail> {
+    let words = owned_words(alloc, words)?;
+    let drivers = fresh_drivers(alloc)?;
+    run_with(rt, alloc, words.as_slice(), drivers, setting)
+}
+
+/// Runs the words over files that hold this script.
+pub fn run_script<R: Sync + Threads + Wait>(
+    rt: &R,
+    alloc: Global,
+    words: &[&str],
+    script: &[u8],
+) -> Result<Ran, Fail> {
+    let setting = Setting::of_script(alloc, script)?;
+    run(rt, alloc, words, setting)
+}
+
+/// How a driver stands.
+fn life_of(host: &Hosted) -> &'static str {
+    match &host.driver {
+        None => "gone",
+        Some(driver) => match driver.life() {
+            Life::Fresh => "fresh",
+            Life::Started => "started",
+            Life::Stopped => "stopped",
+        },
+    }
 }
 
 /// How each driver stands, with the port that it served.
-pub fn standing(alloc: Global, hosts: &[Hosted]) -> Result<String, Fail> {
+fn standing(alloc: Global, hosts: &[Hosted]) -> Result<String, Fail> {
     let mut text = String::new(alloc);
     for host in hosts {
-        let life = match &host.driver {
-            None => "gone",
-            Some(driver) => match driver.life() {
-                Life::Fresh => "fresh",
-                Life::Started => "started",
-                Life::Stopped => "stopped",
-            },
-        };
-        match host.port {
-            Some(port) => write!(text, "{life} {port};")?,
-            None => write!(text, "{life};")?,
+        text.push_str(life_of(host))?;
+        if let Some(port) = host.port {
+            write!(text, " {port}")?;
         }
+        text.push(';')?;
     }
     Ok(text)
 }

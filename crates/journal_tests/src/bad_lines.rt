@@ -1,7 +1,7 @@
 //! A journal of which one line is changed, and the place that is told of it.
 
-use journal_text::{JournalFault, read_journal};
-use std::alloc::Global;
+use crate::texts::{is_bad_at, is_journal};
+use std::alloc::{AllocError, Global};
 use std::test::Fail;
 
 /// The lines of a journal with each part of the grammar.
@@ -222,33 +222,54 @@ const OTHERS: [Change; 41] = [
     (18, "end\n", "end \n"),
 ];
 
-/// The journal with this change, and the place of the line that is changed.
-fn changed(alloc: Global, change: Change) -> Result<(String, u64), Fail> {
+/// Adds these parts.
+fn push_all(text: &mut String, parts: &[&str]) -> Result<(), AllocError> {
+    for part in parts {
+        text.push_str(part)?;
+    }
+    Ok(())
+}
+
+/// Adds a line with a part of it replaced, or as it is, and so not bad, where it has no such part.
+fn push_changed(text: &mut String, line: &str, good: &str, bad: &str) -> Result<(), AllocError> {
+    match line.split_once(good) {
+        Some((front, back)) => push_all(text, &[front, bad, back]),
+        None => push_all(text, &[line]),
+    }
+}
+
+/// The journal with this change.
+fn changed(alloc: Global, change: Change) -> Result<String, Fail> {
     let (number, good, bad) = change;
     let mut text = String::new(alloc);
+    for (at, line) in LINES.iter().enumerate() {
+        if at == number {
+            push_changed(&mut text, line, good, bad)?;
+        } else {
+            text.push_str(line)?;
+        }
+    }
+    Ok(text)
+}
+
+/// Where the line of this number begins.
+fn place_of(number: usize) -> usize {
+    let mut place = 0usize;
     for line in LINES.iter().take(number) {
-        text.push_str(line)?;
+        place = place.saturating_add(line.len());
     }
-    let at = text.len() as u64;
-    let Some((front, back)) = LINES
-        .iter()
-        .nth(number)
-        .and_then(|line| line.split_once(good))
-    else {
-        return Err("no such part of a line".into());
-    };
-    text.push_str(front)?;
-    text.push_str(bad)?;
-    text.push_str(back)?;
-    for line in LINES.iter().skip(number).skip(1) {
-        text.push_str(line)?;
-    }
-    Ok((text, at))
+    place
+}
+
+/// Whether the journal with this change is bad where the changed line begins.
+fn is_told(alloc: Global, change: Change) -> Result<bool, Fail> {
+    let (number, _, _) = change;
+    let text = changed(alloc, change)?;
+    Ok(is_bad_at(alloc, text.as_str(), place_of(number) as u64))
 }
 
 #[test]
 fn a_changed_line_is_bad_where_it_begins(rt: HostRuntime) -> Result<(), Fail> {
-    let alloc = rt.alloc();
     for changes in [
         HEADS.as_slice(),
         PORTS.as_slice(),
@@ -256,51 +277,50 @@ fn a_changed_line_is_bad_where_it_begins(rt: HostRuntime) -> Result<(), Fail> {
         OTHERS.as_slice(),
     ] {
         for change in changes {
-            let (text, at) = changed(alloc, *change)?;
-            let told = read_journal(alloc, text.as_bytes()).err();
-            assert_eq!(rt; told, Some(JournalFault::NotAJournal { at }), "{change:?}");
+            assert!(rt; is_told(rt.alloc(), *change)?, "{change:?}");
         }
     }
     Ok(())
 }
 
+/// Whether the text is bad where these further bytes begin.
+fn is_bad_behind(alloc: Global, text: &str, more: &str) -> Result<bool, Fail> {
+    let longer = format!(in alloc; "{text}{more}")?;
+    Ok(is_bad_at(alloc, longer.as_str(), text.len() as u64))
+}
+
 #[test]
 fn the_lines_are_a_journal_and_no_line_stands_behind_the_last(rt: HostRuntime) -> Result<(), Fail> {
-    let alloc = rt.alloc();
-    let mut text = String::new(alloc);
-    for line in LINES {
-        text.push_str(line)?;
-    }
-    read_journal(alloc, text.as_bytes())?;
-    let at = text.len() as u64;
+    let mut text = String::new(rt.alloc());
+    push_all(&mut text, LINES.as_slice())?;
+    assert!(rt; is_journal(rt.alloc(), text.as_str()));
     for more in ["end\n", "\n", "m busy\n", "#\n", "x"] {
-        let mut longer = text.clone()?;
-        longer.push_str(more)?;
-        let told = read_journal(alloc, longer.as_bytes()).err();
-        assert_eq!(rt; told, Some(JournalFault::NotAJournal { at }), "{more:?}");
+        assert!(rt; is_bad_behind(rt.alloc(), text.as_str(), more)?, "{more:?}");
     }
     Ok(())
+}
+
+/// A journal with so many names and ports.
+fn with_counts(alloc: Global, names: usize, ports: usize) -> Result<String, Fail> {
+    let mut text = String::from_str(alloc, "journal 1\nprocesses")?;
+    for _ in 0..names {
+        text.push_str(" a")?;
+    }
+    text.push_str("\n")?;
+    for _ in 0..ports {
+        text.push_str("port p 31 echo msgq off\nend\n")?;
+    }
+    Ok(text)
 }
 
 #[test]
 fn a_journal_has_at_most_32_names_and_32_ports(rt: HostRuntime) -> Result<(), Fail> {
     let alloc = rt.alloc();
-    let mut names = String::from_str(alloc, "journal 1\nprocesses")?;
-    for _ in 0..32 {
-        names.push_str(" a")?;
-    }
-    let mut text = names.clone()?;
-    text.push_str("\n")?;
-    for _ in 0..32 {
-        text.push_str("port p 31 echo msgq off\nend\n")?;
-    }
-    read_journal(alloc, text.as_bytes())?;
-    let at = text.len() as u64;
-    text.push_str("port p 31 echo msgq off\nend\n")?;
-    let told = read_journal(alloc, text.as_bytes()).err();
-    assert_eq!(rt; told, Some(JournalFault::NotAJournal { at }));
-    names.push_str(" a\n")?;
-    let told = read_journal(alloc, names.as_bytes()).err();
-    assert_eq!(rt; told, Some(JournalFault::NotAJournal { at: 10 }));
+    let full = with_counts(alloc, 32, 32)?;
+    assert!(rt; is_journal(alloc, full.as_str()));
+    let with_a_port_more = with_counts(alloc, 32, 33)?;
+    assert!(rt; is_bad_at(alloc, with_a_port_more.as_str(), full.len() as u64));
+    let with_a_name_more = with_counts(alloc, 33, 0)?;
+    assert!(rt; is_bad_at(alloc, with_a_name_more.as_str(), 10));
     Ok(())
 }

@@ -1,4 +1,6 @@
-use journal_text::{JournalFault, each_book_has_one_text, print_journal, read_journal};
+use journal_text::{
+    Book, JournalFault, PortReport, each_book_has_one_text, print_journal, read_journal,
+};
 use std::alloc::{AllocError, Global};
 use std::test::Fail;
 
@@ -55,39 +57,50 @@ port s 0 spawn msgq off run - stream noeof nostatus busy 2 3 events 0 1
 end
 ";
 
-/// What reading a text and printing its book gives, or the place of its fault.
-fn printed(alloc: Global, text: &str) -> Result<Vec<u8>, JournalFault> {
-    let book = read_journal(alloc, text.as_bytes())?;
-    match print_journal(alloc, &book) {
-        Ok(text) => Ok(text),
-        Err(_) => Err(JournalFault::NoMemory),
+/// Whether the book is printed as this text.
+fn is_printed_as(alloc: Global, book: &Book, text: &str) -> bool {
+    matches!(&print_journal(alloc, book), Ok(again) if again.as_slice() == text.as_bytes())
+}
+
+/// Whether the text is a journal that is printed as it was read.
+fn is_printed_again(alloc: Global, text: &str) -> bool {
+    match read_journal(alloc, text.as_bytes()) {
+        Ok(book) => is_printed_as(alloc, &book, text),
+        Err(_) => false,
     }
 }
 
 #[test]
-fn a_journal_is_printed_as_it_was_read(rt: HostRuntime) -> Result<(), Fail> {
+fn a_journal_is_printed_as_it_was_read(rt: HostRuntime) {
     each_book_has_one_text();
     for text in ["journal 1\nprocesses\n", ECHO, VALVE, SPAWN] {
-        match printed(rt.alloc(), text) {
-            Ok(again) => assert_eq!(rt; again.as_slice(), text.as_bytes()),
-            Err(fault) => panic!(rt; "{fault:?}"),
-        }
+        assert!(rt; is_printed_again(rt.alloc(), text), "{text}");
     }
-    Ok(())
+}
+
+/// Whether these are the ports of the journal of a valve, with all its rows.
+fn are_of_valve(ports: &[PortReport]) -> bool {
+    match ports {
+        [port] => port.driver.as_str() == "valve" && port.journal.rows.as_slice().len() == 7,
+        _ => false,
+    }
 }
 
 #[test]
 fn a_book_tells_its_names_and_ports(rt: HostRuntime) -> Result<(), Fail> {
     let book = read_journal(rt.alloc(), VALVE.as_bytes())?;
-    assert_eq!(rt; book.names().len(), 2);
-    assert_eq!(rt; book.ports().len(), 1);
-    assert_eq!(rt; book.ports()[0].driver.as_str(), "valve");
-    assert_eq!(rt; book.ports()[0].journal.rows.as_slice().len(), 7);
+    assert!(rt; book.names().len() == 2);
+    assert!(rt; are_of_valve(book.ports()));
     Ok(())
 }
 
+/// Whether the text is a journal.
+pub fn is_journal(alloc: Global, text: &str) -> bool {
+    read_journal(alloc, text.as_bytes()).is_ok()
+}
+
 /// Whether the text has its first bad line at this place.
-fn is_bad_at(alloc: Global, text: &str, at: u64) -> bool {
+pub fn is_bad_at(alloc: Global, text: &str, at: u64) -> bool {
     match read_journal(alloc, text.as_bytes()) {
         Ok(_) => false,
         Err(fault) => fault == JournalFault::NotAJournal { at },

@@ -18,6 +18,7 @@ m closed
 end
 ";
 
+/// The words as a command takes them.
 fn owned(alloc: Global, words: &[&str]) -> Result<Vec<String>, Fail> {
     let mut owned = Vec::new(alloc);
     for word in words {
@@ -33,32 +34,73 @@ fn holding(alloc: Global, bytes: &[u8]) -> Result<MemFiles, Fail> {
     Ok(files)
 }
 
-/// How the words end over the files, and what they put out.
-fn end_of(alloc: Global, words: &[&str], files: &mut MemFiles) -> Result<(Plain, String), Fail> {
+/// Does what the words ask for, over files and a sink of memory.
+fn run(alloc: Global, words: &[String], files: &mut MemFiles, out: &mut MemSink) -> Plain {
+    plain_command(alloc, words, files, out)
+}
+
+/// Whether the words end so over the files, and put out this text.
+fn ends(
+    alloc: Global,
+    words: &[&str],
+    files: &mut MemFiles,
+    end: Plain,
+    text: &str,
+) -> Result<bool, Fail> {
     let words = owned(alloc, words)?;
     let mut out = MemSink::new(alloc);
-    let plain = plain_command(alloc, words.as_slice(), files, &mut out);
-    Ok((
-        plain,
-        String::from_str(alloc, str::from_utf8(out.bytes())?)?,
-    ))
+    let plain = run(alloc, words.as_slice(), files, &mut out);
+    Ok(plain == end && out.bytes() == text.as_bytes())
 }
+
+/// Whether the words end so over a file `s` of these bytes, and put out this text.
+fn ends_over(
+    alloc: Global,
+    words: &[&str],
+    bytes: &[u8],
+    end: Plain,
+    text: &str,
+) -> Result<bool, Fail> {
+    let mut files = holding(alloc, bytes)?;
+    ends(alloc, words, &mut files, end, text)
+}
+
+/// The end of a command that did its work.
+const DONE: Plain = Plain {
+    status: 0,
+    cause: Cause::Done,
+};
+
+/// The end of a command whose input wasn't read.
+const UNREAD: Plain = Plain {
+    status: 3,
+    cause: Cause::ReadFault { line: 0 },
+};
+
+/// The end of a command whose line wasn't put out.
+const UNPUT: Plain = Plain {
+    status: 4,
+    cause: Cause::WriteFault,
+};
+
+/// Scripts, and the lines of their checks.
+const CHECKED: [(&str, &str); 3] = [
+    ("", "ok processes=0 ports=0 steps=0\n"),
+    (ABC, "ok processes=1 ports=1 steps=2\n"),
+    (
+        "process a\nprocess b\nport p a nosuch\nport q b spawn\nport r b echo\na die done\n",
+        "ok processes=2 ports=3 steps=1\n",
+    ),
+];
 
 #[test]
 fn a_check_prints_how_much_a_script_has(rt: HostRuntime) -> Result<(), Fail> {
-    let alloc = rt.alloc();
-    for (script, line) in [
-        ("", "ok processes=0 ports=0 steps=0\n"),
-        (ABC, "ok processes=1 ports=1 steps=2\n"),
-        (
-            "process a\nprocess b\nport p a nosuch\nport q b spawn\nport r b echo\na die done\n",
-            "ok processes=2 ports=3 steps=1\n",
-        ),
-    ] {
-        let mut files = holding(alloc, script.as_bytes())?;
-        let (plain, text) = end_of(alloc, &["check", "s"], &mut files)?;
-        assert_eq!(rt; (plain.status, plain.cause), (0, Cause::Done));
-        assert_eq!(rt; text.as_str(), line);
+    let words = ["check", "s"];
+    for (script, line) in CHECKED {
+        assert!(rt;
+            ends_over(rt.alloc(), &words, script.as_bytes(), DONE, line)?,
+            "{script}"
+        );
     }
     Ok(())
 }
@@ -67,10 +109,9 @@ fn a_check_prints_how_much_a_script_has(rt: HostRuntime) -> Result<(), Fail> {
 fn a_check_touches_no_file_that_the_script_names(rt: HostRuntime) -> Result<(), Fail> {
     let alloc = rt.alloc();
     let script = "process a\njournal \"j\"\nport p a echo\nsave a p \"d\"\na file p 2 \"f\"\n";
+    let line = "ok processes=1 ports=1 steps=1\n";
     let mut files = holding(alloc, script.as_bytes())?;
-    let (plain, text) = end_of(alloc, &["check", "s"], &mut files)?;
-    assert_eq!(rt; (plain.status, plain.cause), (0, Cause::Done));
-    assert_eq!(rt; text.as_str(), "ok processes=1 ports=1 steps=1\n");
+    assert!(rt; ends(alloc, &["check", "s"], &mut files, DONE, line)?);
     assert!(rt; files.held("j").is_none());
     assert!(rt; files.held("d").is_none());
     Ok(())
@@ -92,81 +133,94 @@ const FAULTY: [(&str, ScriptFault); 4] = [
 
 #[test]
 fn a_fault_of_the_script_is_told_with_its_line(rt: HostRuntime) -> Result<(), Fail> {
-    let alloc = rt.alloc();
+    let words = ["check", "s"];
     for (script, fault) in FAULTY {
-        let mut files = holding(alloc, script.as_bytes())?;
-        let (plain, text) = end_of(alloc, &["check", "s"], &mut files)?;
-        assert_eq!(rt; (plain.status, plain.cause), (2, Cause::Script { fault }));
-        assert_eq!(rt; text.as_str(), "");
+        let end = Plain {
+            status: 2,
+            cause: Cause::Script { fault },
+        };
+        assert!(rt;
+            ends_over(rt.alloc(), &words, script.as_bytes(), end, "")?,
+            "{script}"
+        );
     }
     Ok(())
+}
+
+/// Whether a command reads neither a file that isn't there nor one whose read fails.
+fn fails_to_read(alloc: Global, word: &str, text: &str) -> Result<bool, Fail> {
+    let mut files = holding(alloc, text.as_bytes())?;
+    files.fail_read(1)?;
+    Ok(
+        ends(alloc, &[word, "t"], &mut files, UNREAD, "")?
+            && ends(alloc, &[word, "s"], &mut files, UNREAD, "")?,
+    )
 }
 
 #[test]
 fn a_script_that_is_not_read_is_a_read_fault(rt: HostRuntime) -> Result<(), Fail> {
-    let alloc = rt.alloc();
-    let mut files = holding(alloc, ABC.as_bytes())?;
-    files.fail_read(1)?;
-    for name in ["t", "s"] {
-        let (plain, text) = end_of(alloc, &["check", name], &mut files)?;
-        assert_eq!(rt;
-            (plain.status, plain.cause),
-            (3, Cause::ReadFault { line: 0 }),
-            "{name}"
-        );
-        assert_eq!(rt; text.as_str(), "");
-    }
+    assert!(rt; fails_to_read(rt.alloc(), "check", ABC)?);
     Ok(())
+}
+
+/// Whether the check of a comment of so many bytes ends so, and puts out this line.
+fn check_ends(alloc: Global, count: usize, end: Plain, line: &str) -> Result<bool, Fail> {
+    let script = vec![in alloc; b'#'; count]?;
+    ends_over(alloc, &["check", "s"], script.as_slice(), end, line)
 }
 
 #[test]
 fn a_script_has_at_most_2_to_the_20th_bytes(rt: HostRuntime) -> Result<(), Fail> {
-    let alloc = rt.alloc();
-    for (len, status, cause, line) in [
-        (
-            1_048_576,
-            0,
-            Cause::Done,
-            "ok processes=0 ports=0 steps=0\n",
-        ),
-        (1_048_577, 10, Cause::Limit { line: 0 }, ""),
-    ] {
-        let script = vec![in alloc; b'#'; len]?;
-        let mut files = holding(alloc, script.as_slice())?;
-        let (plain, text) = end_of(alloc, &["check", "s"], &mut files)?;
-        assert_eq!(rt; (plain.status, plain.cause), (status, cause));
-        assert_eq!(rt; text.as_str(), line);
-    }
+    let line = "ok processes=0 ports=0 steps=0\n";
+    let over = Plain {
+        status: 10,
+        cause: Cause::Limit { line: 0 },
+    };
+    assert!(rt; check_ends(rt.alloc(), 1_048_576, DONE, line)?);
+    assert!(rt; check_ends(rt.alloc(), 1_048_577, over, "")?);
     Ok(())
+}
+
+/// A sink whose first put fails once it took so many bytes.
+fn failing(alloc: Global, count: usize) -> Result<MemSink, Fail> {
+    let mut out = MemSink::new(alloc);
+    out.fail_put(0)?;
+    out.take_before_failing(count);
+    Ok(out)
+}
+
+/// Whether the words end as a write fault over a file `s` of this text where a put fails once it took these bytes.
+fn fails_to_put(alloc: Global, words: &[&str], text: &str, taken: &str) -> Result<bool, Fail> {
+    let words = owned(alloc, words)?;
+    let mut files = holding(alloc, text.as_bytes())?;
+    let mut out = failing(alloc, taken.len())?;
+    let plain = run(alloc, words.as_slice(), &mut files, &mut out);
+    Ok(plain == UNPUT && out.bytes() == taken.as_bytes())
 }
 
 #[test]
 fn a_put_that_fails_is_a_write_fault(rt: HostRuntime) -> Result<(), Fail> {
-    let alloc = rt.alloc();
-    let words = owned(alloc, &["check", "s"])?;
-    for (count, written) in [(0, ""), (6, "ok pro")] {
-        let mut files = holding(alloc, ABC.as_bytes())?;
-        let mut out = MemSink::new(alloc);
-        out.fail_put(0)?;
-        out.take_before_failing(count);
-        let plain = plain_command(alloc, words.as_slice(), &mut files, &mut out);
-        assert_eq!(rt; (plain.status, plain.cause), (4, Cause::WriteFault));
-        assert_eq!(rt; str::from_utf8(out.bytes())?, written);
+    let words = ["check", "s"];
+    for taken in ["", "ok pro"] {
+        assert!(rt; fails_to_put(rt.alloc(), &words, ABC, taken)?, "{taken}");
     }
     Ok(())
 }
 
+/// Legal journals, and the lines of their replays.
+const LEGAL: [(&str, &str); 2] = [
+    ("journal 1\nprocesses\n", "legal ports=0 rows=0\n"),
+    (JOURNAL, "legal ports=1 rows=3\n"),
+];
+
 #[test]
 fn a_replay_of_a_legal_journal_prints_how_much_it_has(rt: HostRuntime) -> Result<(), Fail> {
-    let alloc = rt.alloc();
-    for (journal, line) in [
-        ("journal 1\nprocesses\n", "legal ports=0 rows=0\n"),
-        (JOURNAL, "legal ports=1 rows=3\n"),
-    ] {
-        let mut files = holding(alloc, journal.as_bytes())?;
-        let (plain, text) = end_of(alloc, &["replay", "s"], &mut files)?;
-        assert_eq!(rt; (plain.status, plain.cause), (0, Cause::Done));
-        assert_eq!(rt; text.as_str(), line);
+    let words = ["replay", "s"];
+    for (journal, line) in LEGAL {
+        assert!(rt;
+            ends_over(rt.alloc(), &words, journal.as_bytes(), DONE, line)?,
+            "{journal}"
+        );
     }
     Ok(())
 }
@@ -200,15 +254,16 @@ end
 
 #[test]
 fn a_broken_law_is_told_with_its_row(rt: HostRuntime) -> Result<(), Fail> {
-    let alloc = rt.alloc();
+    let words = ["replay", "s"];
     for (journal, row, law) in ILLEGAL {
-        let mut files = holding(alloc, journal.as_bytes())?;
-        let (plain, text) = end_of(alloc, &["replay", "s"], &mut files)?;
-        assert_eq!(rt;
-            (plain.status, plain.cause),
-            (9, Cause::Illegal { port: 0, row, law })
+        let end = Plain {
+            status: 9,
+            cause: Cause::Illegal { port: 0, row, law },
+        };
+        assert!(rt;
+            ends_over(rt.alloc(), &words, journal.as_bytes(), end, "")?,
+            "{journal}"
         );
-        assert_eq!(rt; text.as_str(), "");
     }
     Ok(())
 }
@@ -236,78 +291,76 @@ m closed
 
 #[test]
 fn a_text_that_is_no_journal_is_told_with_its_byte(rt: HostRuntime) -> Result<(), Fail> {
-    let alloc = rt.alloc();
+    let words = ["replay", "s"];
     for (text, at) in NO_JOURNALS {
-        let mut files = holding(alloc, text.as_bytes())?;
-        let (plain, text) = end_of(alloc, &["replay", "s"], &mut files)?;
-        assert_eq!(rt;
-            (plain.status, plain.cause),
-            (11, Cause::JournalText { at })
+        let end = Plain {
+            status: 11,
+            cause: Cause::JournalText { at },
+        };
+        assert!(rt;
+            ends_over(rt.alloc(), &words, text.as_bytes(), end, "")?,
+            "{text}"
         );
-        assert_eq!(rt; text.as_str(), "");
     }
     Ok(())
 }
 
 #[test]
 fn a_journal_that_is_not_read_is_a_read_fault(rt: HostRuntime) -> Result<(), Fail> {
-    let alloc = rt.alloc();
-    let mut files = holding(alloc, JOURNAL.as_bytes())?;
-    files.fail_read(1)?;
-    for name in ["t", "s"] {
-        let (plain, text) = end_of(alloc, &["replay", name], &mut files)?;
-        assert_eq!(rt;
-            (plain.status, plain.cause),
-            (3, Cause::ReadFault { line: 0 }),
-            "{name}"
-        );
-        assert_eq!(rt; text.as_str(), "");
-    }
+    assert!(rt; fails_to_read(rt.alloc(), "replay", JOURNAL)?);
     Ok(())
 }
 
 #[test]
 fn a_put_of_a_replay_that_fails_is_a_write_fault(rt: HostRuntime) -> Result<(), Fail> {
-    let alloc = rt.alloc();
-    let words = owned(alloc, &["replay", "s"])?;
-    for (count, written) in [(0, ""), (6, "legal ")] {
-        let mut files = holding(alloc, JOURNAL.as_bytes())?;
-        let mut out = MemSink::new(alloc);
-        out.fail_put(0)?;
-        out.take_before_failing(count);
-        let plain = plain_command(alloc, words.as_slice(), &mut files, &mut out);
-        assert_eq!(rt; (plain.status, plain.cause), (4, Cause::WriteFault));
-        assert_eq!(rt; str::from_utf8(out.bytes())?, written);
+    let words = ["replay", "s"];
+    for taken in ["", "legal "] {
+        assert!(rt;
+            fails_to_put(rt.alloc(), &words, JOURNAL, taken)?,
+            "{taken}"
+        );
     }
     Ok(())
 }
 
+/// Words that aren't served, whether the first of them is that of a command which runs nothing, and the place that is told.
+const UNSERVED: [(&[&str], bool, u32); 16] = [
+    (&[], false, 1),
+    (&["run", "s"], false, 1),
+    (&["checks", "s"], false, 1),
+    (&["check"], true, 2),
+    (&["check", ""], true, 2),
+    (&["check", "-x"], true, 2),
+    (&["check", "-", "s"], true, 2),
+    (&["check", "s", "t"], true, 3),
+    (&["check", "s", "", "t"], true, 3),
+    (&["replays", "s"], false, 1),
+    (&["replay"], true, 2),
+    (&["replay", ""], true, 2),
+    (&["replay", "-x"], true, 2),
+    (&["replay", "-", "s"], true, 2),
+    (&["replay", "s", "t"], true, 3),
+    (&["replay", "s", "", "t"], true, 3),
+];
+
+/// Whether the words are for `plain_command`.
+fn are_plain(alloc: Global, words: &[&str]) -> Result<bool, Fail> {
+    let words = owned(alloc, words)?;
+    Ok(is_plain(words.as_slice()))
+}
+
 #[test]
 fn words_that_are_not_served_are_told_by_place(rt: HostRuntime) -> Result<(), Fail> {
-    let alloc = rt.alloc();
-    for (words, plain, at) in [
-        ([].as_slice(), false, 1),
-        (["run", "s"].as_slice(), false, 1),
-        (["checks", "s"].as_slice(), false, 1),
-        (["check"].as_slice(), true, 2),
-        (["check", ""].as_slice(), true, 2),
-        (["check", "-x"].as_slice(), true, 2),
-        (["check", "-", "s"].as_slice(), true, 2),
-        (["check", "s", "t"].as_slice(), true, 3),
-        (["check", "s", "", "t"].as_slice(), true, 3),
-        (["replays", "s"].as_slice(), false, 1),
-        (["replay"].as_slice(), true, 2),
-        (["replay", ""].as_slice(), true, 2),
-        (["replay", "-x"].as_slice(), true, 2),
-        (["replay", "-", "s"].as_slice(), true, 2),
-        (["replay", "s", "t"].as_slice(), true, 3),
-        (["replay", "s", "", "t"].as_slice(), true, 3),
-    ] {
-        assert_eq!(rt; is_plain(owned(alloc, words)?.as_slice()), plain);
-        let mut files = holding(alloc, ABC.as_bytes())?;
-        let (ended, text) = end_of(alloc, words, &mut files)?;
-        assert_eq!(rt; (ended.status, ended.cause), (1, Cause::Usage { at }));
-        assert_eq!(rt; text.as_str(), "");
+    for (words, plain, at) in UNSERVED {
+        let end = Plain {
+            status: 1,
+            cause: Cause::Usage { at },
+        };
+        assert!(rt; are_plain(rt.alloc(), words)? == plain, "{words:?}");
+        assert!(rt;
+            ends_over(rt.alloc(), words, ABC.as_bytes(), end, "")?,
+            "{words:?}"
+        );
     }
     Ok(())
 }

@@ -10,4 +10,6 @@ mod limits;
 #[cfg(test)]
 mod rig;
 #[cfg(test)]
+mod sender;
+#[cfg(test)]
 mod suspending;

@@ -1,7 +1,5 @@
-use crate::rig::{
-    PERIOD, WatchedPort, begins, no_limits, resume, sent, set_up, small_limits, suspend, wait_on,
-    wake,
-};
+use crate::rig::{WatchedPort, no_limits, small_limits};
+use crate::sender::{PERIOD, PortSender, SendAnswer, sent, set_up};
 use port_model::Mail;
 use process_end::{How, NotYet, Outcome, Receipt};
 use std::sync::Wait;
@@ -16,22 +14,43 @@ fn suspends<R: Wait>(rt: &R, port: &mut WatchedPort, msgq: u64) -> bool {
     }
 }
 
+/// Whether the process waits on, since its mailbox was empty.
+fn finds_none<R: Wait>(rt: &R, sender: &mut PortSender) -> bool {
+    matches!(&sender.try_resume(rt), Some(NotYet::Empty))
+}
+
+/// Whether the process waits on, since the resume of command 1 came.
+fn finds_other<R: Wait>(rt: &R, sender: &mut PortSender) -> bool {
+    matches!(
+        &sender.try_resume(rt),
+        Some(NotYet::Other(Mail::Resume { seq: 1, .. }))
+    )
+}
+
+/// Whether the process waits on, since the period of its command goes on with this word.
+fn finds_period<R: Wait>(rt: &R, sender: &mut PortSender, wanted: u64) -> bool {
+    matches!(&sender.try_resume(rt), Some(NotYet::SamePeriod { word }) if *word == wanted)
+}
+
+/// Whether the next mail of the process is the resume of command 0.
+fn has_resume<R: Wait>(rt: &R, sender: &mut PortSender) -> bool {
+    matches!(&sender.mail(rt), Some(Mail::Resume { seq: 0, .. }))
+}
+
 #[test]
 fn a_busy_port_suspends_a_sender_until_its_own_resume(rt: HostRuntime) -> Result<(), Fail> {
-    let mut rig = set_up(rt.alloc(), no_limits(), false)?;
-    assert!(rt; rig.port.seat.mark(true) == 5);
-    let stopped = suspend(&rt, rt.alloc(), rig.proc, sent(3, 1, How::Plain))?;
+    let mut sender = set_up(rt.alloc(), no_limits(), false)?;
+    assert!(rt; sender.port.marks_busy());
+    assert!(rt; sender.send(&rt, sent(3, 1, How::Plain)) == SendAnswer::Suspended);
     let note = StopNote {
         port: 0,
         seq: 0,
         msgq: 1,
     };
-    assert!(rt; stopped.note() == note);
-    assert!(rt; rig.mail.put(&rt, resume(1, 0)).is_ok());
-    assert!(rt; rig.mail.put(&rt, resume(0, 0)).is_ok());
-    let (stopped, why) = wait_on(&rt, stopped)?;
-    assert!(rt; matches!(why, NotYet::Other(Mail::Resume { seq: 1, .. })));
-    let proc = wake(&rt, stopped)?;
+    assert!(rt; sender.note() == Some(note));
+    assert!(rt; sender.puts_resume(&rt, 1, 0) && sender.puts_resume(&rt, 0, 0));
+    assert!(rt; finds_other(&rt, &mut sender));
+    assert!(rt; sender.goes_on(&rt));
     let receipt = Receipt {
         line: 3,
         port: 0,
@@ -40,22 +59,21 @@ fn a_busy_port_suspends_a_sender_until_its_own_resume(rt: HostRuntime) -> Result
         msgq: Some(1),
         outcome: Outcome::Suspended,
     };
-    assert!(rt; begins(&rt, proc, &receipt) && suspends(&rt, &mut rig.port, 0));
+    assert!(rt; sender.begins(&rt, &receipt));
+    assert!(rt; suspends(&rt, &mut sender.port, 0));
     Ok(())
 }
 
 #[test]
 fn a_resumed_sender_waits_for_the_end_of_its_busy_period(rt: HostRuntime) -> Result<(), Fail> {
-    let mut rig = set_up(rt.alloc(), small_limits(), false)?;
-    let stopped = suspend(&rt, rt.alloc(), rig.proc, sent(1, 8, How::Owner))?;
-    let (stopped, why) = wait_on(&rt, stopped)?;
-    assert!(rt; matches!(why, NotYet::Empty));
-    assert!(rt; rig.mail.put(&rt, resume(0, PERIOD + 8)).is_ok());
-    let (stopped, why) = wait_on(&rt, stopped)?;
-    assert!(rt; matches!(why, NotYet::SamePeriod { word } if word == PERIOD + 8));
-    assert!(rt; rig.mail.put(&rt, resume(0, PERIOD + 8)).is_ok());
-    assert!(rt; suspends(&rt, &mut rig.port, 2 * PERIOD));
-    let mut proc = wake(&rt, stopped)?;
-    assert!(rt; matches!(proc.mail(&rt), Some(Mail::Resume { seq: 0, .. })));
+    let mut sender = set_up(rt.alloc(), small_limits(), false)?;
+    assert!(rt; sender.send(&rt, sent(1, 8, How::Owner)) == SendAnswer::Suspended);
+    assert!(rt; finds_none(&rt, &mut sender));
+    assert!(rt; sender.puts_resume(&rt, 0, PERIOD + 8));
+    assert!(rt; finds_period(&rt, &mut sender, PERIOD + 8));
+    assert!(rt; sender.puts_resume(&rt, 0, PERIOD + 8));
+    assert!(rt; suspends(&rt, &mut sender.port, 2 * PERIOD));
+    assert!(rt; sender.goes_on(&rt));
+    assert!(rt; has_resume(&rt, &mut sender));
     Ok(())
 }

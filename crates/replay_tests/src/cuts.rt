@@ -1,7 +1,7 @@
 //! Journals that are cut behind each of their lines, and in each.
 
-use history_replay::{Verdict, replay};
-use journal_text::{JournalFault, read_journal};
+use crate::judged::{is_bad_at, is_judged};
+use history_replay::Verdict;
 use std::alloc::Global;
 use std::test::Fail;
 
@@ -57,32 +57,33 @@ const RUN: [Line; 17] = [
     ("end\n", Some(Verdict::Legal)),
 ];
 
-/// What is told of a text, or the place up to which it is the front of a journal.
-fn told(alloc: Global, text: &[u8]) -> Result<Result<Verdict, u64>, Fail> {
-    match read_journal(alloc, text) {
-        Ok(book) => Ok(Ok(replay(alloc, &book)?)),
-        Err(JournalFault::NotAJournal { at }) => Ok(Err(at)),
-        Err(JournalFault::NoMemory) => Err("no memory".into()),
+/// Adds a line, and tells whether the text is bad where the line begins if it is cut before the line's end, and is judged so behind it.
+fn is_told_with(
+    alloc: Global,
+    text: &mut String,
+    line: &str,
+    verdict: Option<Verdict>,
+) -> Result<bool, Fail> {
+    let begin = text.len() as u64;
+    text.push_str(line.trim_end())?;
+    if !is_bad_at(alloc, text.as_bytes(), begin) {
+        return Ok(false);
     }
+    text.push('\n')?;
+    Ok(match verdict {
+        Some(verdict) => is_judged(alloc, text.as_bytes(), verdict),
+        None => is_bad_at(alloc, text.as_bytes(), text.len() as u64),
+    })
 }
 
 #[test]
 fn a_journal_that_is_cut_is_told_by_the_place_of_the_cut(rt: HostRuntime) -> Result<(), Fail> {
     let alloc = rt.alloc();
+    assert!(rt; is_bad_at(alloc, b"", 0));
     for lines in [VALVE.as_slice(), RUN.as_slice()] {
         let mut text = String::new(alloc);
-        assert_eq!(rt; told(alloc, b"")?, Err(0));
         for (line, verdict) in lines {
-            let begin = text.len() as u64;
-            text.push_str(line.trim_end())?;
-            assert_eq!(rt; told(alloc, text.as_bytes())?, Err(begin), "{line:?}");
-            text.push('\n')?;
-            let end = text.len() as u64;
-            assert_eq!(rt;
-                told(alloc, text.as_bytes())?,
-                verdict.ok_or(end),
-                "{line:?}"
-            );
+            assert!(rt; is_told_with(alloc, &mut text, line, *verdict)?, "{line:?}");
         }
     }
     Ok(())

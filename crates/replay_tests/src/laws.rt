@@ -1,7 +1,7 @@
 //! Small histories, and what a replay tells of each.
 
-use history_replay::{Verdict, replay};
-use journal_text::read_journal;
+use crate::judged::is_judged;
+use history_replay::Verdict;
 use std::alloc::Global;
 use std::test::Fail;
 
@@ -184,50 +184,53 @@ const ILLEGAL: [(&str, &str, u64, u32); 30] = [
     ),
 ];
 
-/// What is told of a journal of two processes whose ports have these texts.
-fn verdict_on(alloc: Global, ports: &[(&str, &str)]) -> Result<Verdict, Fail> {
+/// A journal of two processes whose ports have these texts.
+fn journal_of(alloc: Global, ports: &[(&str, &str)]) -> Result<String, Fail> {
     let mut text = String::from_str(alloc, "journal 1\nprocesses a b\n")?;
     for (line, rows) in ports {
         text.push_str(line)?;
         text.push_str(rows)?;
         text.push_str("end\n")?;
     }
-    let book = read_journal(alloc, text.as_bytes())?;
-    Ok(replay(alloc, &book)?)
+    Ok(text)
+}
+
+/// Whether a replay of the journal with these ports tells this.
+fn are_judged(alloc: Global, ports: &[(&str, &str)], verdict: Verdict) -> Result<bool, Fail> {
+    let text = journal_of(alloc, ports)?;
+    Ok(is_judged(alloc, text.as_bytes(), verdict))
 }
 
 #[test]
 fn histories_that_keep_the_laws_are_legal(rt: HostRuntime) -> Result<(), Fail> {
-    for (line, rows) in LEGAL {
-        assert_eq!(rt;
-            verdict_on(rt.alloc(), &[(line, rows)])?,
-            Verdict::Legal,
-            "{line}{rows}"
-        );
+    for (line, rows) in LEGAL.as_slice() {
+        let ports = [(*line, *rows)];
+        let wanted = Verdict::Legal;
+        assert!(rt; are_judged(rt.alloc(), &ports, wanted)?, "{line}{rows}");
     }
     Ok(())
 }
 
 #[test]
 fn each_law_is_told_at_the_first_row_that_breaks_it(rt: HostRuntime) -> Result<(), Fail> {
-    for (line, rows, row, law) in ILLEGAL {
-        let told = verdict_on(rt.alloc(), &[(line, rows)])?;
-        assert_eq!(rt;
-            told,
-            Verdict::Illegal { port: 0, row, law },
-            "{line}{rows}"
-        );
+    for (line, rows, row, law) in ILLEGAL.as_slice() {
+        let ports = [(*line, *rows)];
+        let wanted = Verdict::Illegal {
+            port: 0,
+            row: *row,
+            law: *law,
+        };
+        assert!(rt; are_judged(rt.alloc(), &ports, wanted)?, "{line}{rows}");
     }
     Ok(())
 }
 
 #[test]
 fn the_first_port_that_breaks_a_law_is_told(rt: HostRuntime) -> Result<(), Fail> {
-    let alloc = rt.alloc();
-    let (line, rows) = LEGAL[0];
-    let (other, broken, row, law) = ILLEGAL[4];
+    let (line, rows) = *LEGAL.as_slice().first().ok_or("no legal history")?;
+    let (other, broken, row, law) = *ILLEGAL.as_slice().get(4).ok_or("no such history")?;
     let ports = [(line, rows), (other, broken), (ECHO, "m free\n")];
-    let told = verdict_on(alloc, &ports)?;
-    assert_eq!(rt; told, Verdict::Illegal { port: 1, row, law });
+    let wanted = Verdict::Illegal { port: 1, row, law };
+    assert!(rt; are_judged(rt.alloc(), &ports, wanted)?);
     Ok(())
 }

@@ -10,24 +10,51 @@ fn number_of(text: &str) -> Option<(u64, usize)> {
 }
 
 /// Whether the TEXT in front has these bytes, with so many bytes behind it.
-fn is_text(alloc: Global, text: &[u8], wanted: &[u8], behind: usize) -> Result<bool, PartFault> {
-    let (content, rest) = read_text(alloc, text)?;
-    Ok(content.as_slice() == wanted && rest.len() == behind)
+fn is_text(alloc: Global, text: &[u8], wanted: &[u8], behind: usize) -> bool {
+    matches!(
+        read_text(alloc, text),
+        Ok((content, rest)) if content.as_slice() == wanted && rest.len() == behind
+    )
+}
+
+/// Why no TEXT is read, if none is.
+fn text_fault(alloc: Global, text: &str) -> Option<PartFault> {
+    read_text(alloc, text.as_bytes()).err()
+}
+
+fn is_io_list(alloc: Global, text: &str) -> bool {
+    read_io_list(alloc, text.as_bytes()).is_ok()
+}
+
+fn is_term(alloc: Global, text: &str) -> bool {
+    read_term(alloc, text.as_bytes()).is_ok()
+}
+
+/// Bytes that were read, with the number of those behind them.
+fn shown(alloc: Global, bytes: &[u8], rest: &[u8]) -> Result<String, AllocError> {
+    format!(in alloc; "{bytes:?} {}", rest.len())
+}
+
+fn shown_fault(alloc: Global, fault: &PartFault) -> Result<String, AllocError> {
+    let text = match fault {
+        PartFault::Bad => "bad",
+        PartFault::NoMemory => "no memory",
+    };
+    String::from_str(alloc, text)
 }
 
 /// The bytes of the IOLIST in front, with what stands behind it.
 fn shown_io_list(alloc: Global, text: &str) -> Result<String, AllocError> {
     match read_io_list(alloc, text.as_bytes()) {
         Ok((list, rest)) => shown_bytes(alloc, &list, rest),
-        Err(PartFault::Bad) => format!(in alloc; "bad"),
-        Err(PartFault::NoMemory) => format!(in alloc; "no memory"),
+        Err(fault) => shown_fault(alloc, &fault),
     }
 }
 
 fn shown_bytes(alloc: Global, list: &IoList, rest: &[u8]) -> Result<String, AllocError> {
     match flatten(alloc, list) {
-        Ok(bytes) => format!(in alloc; "{:?} {}", bytes.as_slice(), rest.len()),
-        Err(_) => format!(in alloc; "no memory"),
+        Ok(bytes) => shown(alloc, bytes.as_slice(), rest),
+        Err(_) => Err(AllocError),
     }
 }
 
@@ -35,18 +62,17 @@ fn shown_bytes(alloc: Global, list: &IoList, rest: &[u8]) -> Result<String, Allo
 fn shown_term(alloc: Global, text: &str) -> Result<String, AllocError> {
     match read_term(alloc, text.as_bytes()) {
         Ok((term, rest)) => shown_form(alloc, &term, rest),
-        Err(PartFault::Bad) => format!(in alloc; "bad"),
-        Err(PartFault::NoMemory) => format!(in alloc; "no memory"),
+        Err(fault) => shown_fault(alloc, &fault),
     }
 }
 
 fn shown_form(alloc: Global, term: &Term, rest: &[u8]) -> Result<String, AllocError> {
     if term_depth(term) > 64 {
-        return format!(in alloc; "deep");
+        return String::from_str(alloc, "deep");
     }
     match encode(alloc, term) {
-        Ok(bytes) => format!(in alloc; "{:?} {}", bytes.as_slice(), rest.len()),
-        Err(_) => format!(in alloc; "no memory"),
+        Ok(bytes) => shown(alloc, bytes.as_slice(), rest),
+        Err(_) => Err(AllocError),
     }
 }
 
@@ -58,14 +84,9 @@ fn nested(
     inner: &str,
     close: &str,
 ) -> Result<String, AllocError> {
-    let mut text = String::new(alloc);
-    for _ in 0..levels {
-        text.push_str(open)?;
-    }
+    let mut text = open.repeat(alloc, levels)?;
     text.push_str(inner)?;
-    for _ in 0..levels {
-        text.push_str(close)?;
-    }
+    text.push_str(close.repeat(alloc, levels)?.as_str())?;
     Ok(text)
 }
 
@@ -89,11 +110,11 @@ fn a_number_has_one_to_ten_digits(rt: HostRuntime) -> Result<(), Fail> {
 #[test]
 fn a_text_has_its_escapes(rt: HostRuntime) -> Result<(), Fail> {
     let alloc = rt.alloc();
-    assert!(rt; is_text(alloc, b"\"\"", b"", 0)?);
-    assert!(rt; is_text(alloc, b"\"a #~\" force", b"a #~", 6)?);
+    assert!(rt; is_text(alloc, b"\"\"", b"", 0));
+    assert!(rt; is_text(alloc, b"\"a #~\" force", b"a #~", 6));
     let escapes: &[u8] = b"\"\\n\\r\\t\\\\\\\"\\x00\\x7f\\xff\\x9a0\"\"";
     let bytes: &[u8] = b"\n\r\t\\\"\x00\x7f\xff\x9a0";
-    assert!(rt; is_text(alloc, escapes, bytes, 1)?);
+    assert!(rt; is_text(alloc, escapes, bytes, 1));
     for bad in [
         "",
         "a",
@@ -105,8 +126,10 @@ fn a_text_has_its_escapes(rt: HostRuntime) -> Result<(), Fail> {
         "\"\\xFF\"",
         "\"\\xg0\"",
     ] {
-        let read = read_text(alloc, bad.as_bytes());
-        assert!(rt; matches!(read, Err(PartFault::Bad)), "at {bad:?}");
+        assert!(rt;
+            text_fault(alloc, bad) == Some(PartFault::Bad),
+            "at {bad:?}"
+        );
     }
     Ok(())
 }
@@ -117,11 +140,8 @@ fn a_text_has_at_most_262143_bytes(rt: HostRuntime) -> Result<(), Fail> {
     for (len, is_read) in [(262_143, true), (262_144, false)] {
         let text = nested(alloc, len, "x", "\"", "")?;
         let quoted = format!(in alloc; "\"{text}")?;
-        assert_eq!(rt;
-            read_text(alloc, quoted.as_bytes()).is_ok(),
-            is_read,
-            "at {len}"
-        );
+        let fault = text_fault(alloc, quoted.as_str());
+        assert!(rt; fault.is_none() == is_read, "at {len}");
     }
     Ok(())
 }
@@ -212,22 +232,14 @@ fn data_has_at_most_64_levels(rt: HostRuntime) -> Result<(), Fail> {
         (63, "\"\"", true),
     ] {
         let text = nested(alloc, levels, "[", inner, "]")?;
-        assert_eq!(rt;
-            read_io_list(alloc, text.as_bytes()).is_ok(),
-            is_read,
-            "at {levels}"
-        );
-        assert_eq!(rt;
-            read_term(alloc, text.as_bytes()).is_ok(),
-            is_read,
-            "at {levels}"
-        );
+        assert!(rt; is_io_list(alloc, text.as_str()) == is_read, "at {levels}");
+        assert!(rt; is_term(alloc, text.as_str()) == is_read, "at {levels}");
     }
     // The items of a TEXT in a TERM are one level deeper.
     let text = nested(alloc, 63, "{", "\"a\"", "}")?;
-    assert!(rt; read_term(alloc, text.as_bytes()).is_err());
+    assert!(rt; !is_term(alloc, text.as_str()));
     let text = nested(alloc, 63, "[", "\"a\"", "]")?;
-    assert!(rt; read_io_list(alloc, text.as_bytes()).is_ok());
+    assert!(rt; is_io_list(alloc, text.as_str()));
     Ok(())
 }
 
@@ -237,16 +249,8 @@ fn a_list_has_at_most_262143_items(rt: HostRuntime) -> Result<(), Fail> {
     for (more, is_read) in [(262_142, true), (262_143, false)] {
         let items = nested(alloc, more, "1,", "1]", "")?;
         let text = format!(in alloc; "[{items}")?;
-        assert_eq!(rt;
-            read_io_list(alloc, text.as_bytes()).is_ok(),
-            is_read,
-            "at {more}"
-        );
-        assert_eq!(rt;
-            read_term(alloc, text.as_bytes()).is_ok(),
-            is_read,
-            "at {more}"
-        );
+        assert!(rt; is_io_list(alloc, text.as_str()) == is_read, "at {more}");
+        assert!(rt; is_term(alloc, text.as_str()) == is_read, "at {more}");
     }
     Ok(())
 }

@@ -1,8 +1,8 @@
 use port_terms::{
-    AtomFault, IoList, NoMemory, Term, TermFault, atom, decode, encode, flatten, octets, parts,
-    term_copy, term_depth, term_size, terms,
+    AtomFault, IoList, Term, TermFault, atom, decode, encode, flatten, octets, parts, term_copy,
+    term_depth, term_size, terms,
 };
-use std::alloc::Global;
+use std::alloc::{AllocError, Global};
 use std::test::Fail;
 
 /// `{1, "ab", -5}`
@@ -10,13 +10,51 @@ const TRIPLE: [u8; 15] = [
     131, 104, 3, 97, 1, 107, 0, 2, 97, 98, 98, 255, 255, 255, 251,
 ];
 
+/// Whether the term is written as these bytes.
+fn writes(alloc: Global, term: &Term, written: &[u8]) -> bool {
+    term_depth(term) <= 64
+        && term_size(term) == written.len() as u64
+        && matches!(encode(alloc, term), Ok(found) if found.as_slice() == written)
+}
+
 /// Whether the bytes are read, and the term is written as the others.
-fn is_written(alloc: Global, bytes: &[u8], written: &[u8]) -> Result<bool, TermFault> {
-    let term = decode(alloc, bytes)?;
-    match encode(alloc, &term) {
-        Ok(found) => Ok(found.as_slice() == written && term_size(&term) == written.len() as u64),
-        Err(NoMemory) => Err(TermFault::NoMemory),
+fn is_written(alloc: Global, bytes: &[u8], written: &[u8]) -> bool {
+    matches!(decode(alloc, bytes), Ok(term) if writes(alloc, &term, written))
+}
+
+/// Why the bytes aren't read, if they aren't.
+fn fault_of(alloc: Global, bytes: &[u8]) -> Option<TermFault> {
+    decode(alloc, bytes).err()
+}
+
+/// The integer that the bytes are read as.
+fn integer_of(alloc: Global, bytes: &[u8]) -> Option<i64> {
+    match decode(alloc, bytes) {
+        Ok(Term::Int(number)) => Some(number),
+        _ => None,
     }
+}
+
+/// The numbers of a tuple of an integer, a list of two and another integer.
+fn numbers_of(term: &Term) -> Option<[i64; 4]> {
+    let Term::Tuple(items) = term else {
+        return None;
+    };
+    let [Term::Int(first), Term::List(list), Term::Int(last)] = items.as_slice() else {
+        return None;
+    };
+    let [Term::Int(a), Term::Int(b)] = list.as_slice() else {
+        return None;
+    };
+    Some([*first, *a, *b, *last])
+}
+
+/// The bytes of a term: its version, a head, and so many times the same bytes.
+fn repeated(alloc: Global, head: &[u8], n: usize, item: &[u8]) -> Result<Vec<u8>, AllocError> {
+    let mut bytes = vec![in alloc; 131]?;
+    bytes.extend_from_slice(head)?;
+    bytes.extend_from_slice(item.repeat(alloc, n)?.as_slice())?;
+    Ok(bytes)
 }
 
 #[test]
@@ -25,58 +63,33 @@ fn a_triple_is_written(rt: HostRuntime) -> Result<(), Fail> {
     let text = vec![in alloc; Term::Int(97), Term::Int(98)]?;
     let items = vec![in alloc; Term::Int(1), Term::List(terms(text)), Term::Int(-5)]?;
     let triple = Term::Tuple(terms(items));
-    assert_eq!(rt; term_size(&triple), 15);
-    assert_eq!(rt; term_depth(&triple), 3);
-    assert!(rt; term_depth(&triple) <= 64);
-    assert_eq!(rt; encode(alloc, &triple)?.as_slice(), TRIPLE.as_slice());
-    assert!(rt; is_written(alloc, &TRIPLE, &TRIPLE)?);
+    assert!(rt; term_size(&triple) == 15);
+    assert!(rt; term_depth(&triple) == 3);
+    assert!(rt; writes(alloc, &triple, &TRIPLE));
+    assert!(rt; is_written(alloc, &TRIPLE, &TRIPLE));
     let copy = term_copy(alloc, &triple)?;
-    assert_eq!(rt; term_size(&copy), 15);
+    assert!(rt; term_size(&copy) == 15);
     Ok(())
 }
 
 #[test]
 fn a_triple_is_read(rt: HostRuntime) -> Result<(), Fail> {
-    let alloc = rt.alloc();
-    let Term::Tuple(items) = decode(alloc, &TRIPLE)? else {
-        return Err(Fail::from("a tuple"));
-    };
-    let [Term::Int(one), Term::List(text), Term::Int(five)] = items.as_slice() else {
-        return Err(Fail::from("three items"));
-    };
-    let [Term::Int(a), Term::Int(b)] = text.as_slice() else {
-        return Err(Fail::from("two characters"));
-    };
-    assert_eq!(rt; [*one, *a, *b, *five], [1, 97, 98, -5]);
+    let triple = decode(rt.alloc(), &TRIPLE)?;
+    assert!(rt; numbers_of(&triple) == Some([1, 97, 98, -5]));
     Ok(())
 }
 
 #[test]
 fn faults_have_their_places(rt: HostRuntime) -> Result<(), Fail> {
     let alloc = rt.alloc();
-    assert_eq!(rt;
-        decode(alloc, &TRIPLE[..13]).err(),
-        Some(TermFault::Cut { at: 13 })
-    );
+    assert!(rt; fault_of(alloc, &TRIPLE[..13]) == Some(TermFault::Cut { at: 13 }));
     let mut longer = Vec::from_slice(alloc, &TRIPLE)?;
     longer.push(0)?;
-    assert_eq!(rt;
-        decode(alloc, &longer).err(),
-        Some(TermFault::Trailing { at: 15 })
-    );
-    let mut deep = vec![in alloc; 131]?;
-    for _ in 0..65 {
-        deep.extend_from_slice(&[104, 1])?;
-    }
-    assert_eq!(rt;
-        decode(alloc, &deep).err(),
-        Some(TermFault::TooDeep { at: 129 })
-    );
+    assert!(rt; fault_of(alloc, &longer) == Some(TermFault::Trailing { at: 15 }));
+    let mut deep = repeated(alloc, &[], 65, &[104, 1])?;
+    assert!(rt; fault_of(alloc, &deep) == Some(TermFault::TooDeep { at: 129 }));
     deep.truncate(129);
-    assert_eq!(rt;
-        decode(alloc, &deep).err(),
-        Some(TermFault::TooDeep { at: 129 })
-    );
+    assert!(rt; fault_of(alloc, &deep) == Some(TermFault::TooDeep { at: 129 }));
     Ok(())
 }
 
@@ -85,14 +98,10 @@ fn faults_show_their_places(rt: HostRuntime) -> Result<(), Fail> {
     let alloc = rt.alloc();
     let long = AtomFault::TooLong { chars: 256 };
     let refused = TermFault::NotServed { at: 2, tag: 77 };
-    assert_eq!(rt;
-        format!(in alloc; "{long}")?.as_str(),
-        "a name of 256 characters"
-    );
-    assert_eq!(rt;
-        format!(in alloc; "{refused}")?.as_str(),
-        "tag 77 is not served, at byte 2"
-    );
+    let text = format!(in alloc; "{long}")?;
+    assert!(rt; text.as_str() == "a name of 256 characters");
+    let text = format!(in alloc; "{refused}")?;
+    assert!(rt; text.as_str() == "tag 77 is not served, at byte 2");
     Ok(())
 }
 
@@ -129,12 +138,12 @@ fn each_fault_is_told(rt: HostRuntime) {
         (&[131, 106, 106], TermFault::Trailing { at: 2 }),
     ];
     for (bytes, fault) in table {
-        assert_eq!(rt; decode(rt.alloc(), bytes).err(), Some(fault), "{bytes:?}");
+        assert!(rt; fault_of(rt.alloc(), bytes) == Some(fault), "{bytes:?}");
     }
 }
 
 #[test]
-fn integers_have_their_values(rt: HostRuntime) -> Result<(), Fail> {
+fn integers_have_their_values(rt: HostRuntime) {
     let table: [(&[u8], i64); 16] = [
         (&[131, 97, 0], 0),
         (&[131, 97, 255], 255),
@@ -157,16 +166,12 @@ fn integers_have_their_values(rt: HostRuntime) -> Result<(), Fail> {
         (&[131, 98, 0, 0, 0, 7], 7),
     ];
     for (bytes, value) in table {
-        let Term::Int(number) = decode(rt.alloc(), bytes)? else {
-            return Err(Fail::from("an integer"));
-        };
-        assert_eq!(rt; number, value);
+        assert!(rt; integer_of(rt.alloc(), bytes) == Some(value), "{bytes:?}");
     }
-    Ok(())
 }
 
 #[test]
-fn each_tag_is_read_and_written(rt: HostRuntime) -> Result<(), Fail> {
+fn each_tag_is_read_and_written(rt: HostRuntime) {
     let table: [(&[u8], &[u8]); 17] = [
         (&[131, 97, 255], &[131, 97, 255]),
         (&[131, 98, 0, 0, 0, 255], &[131, 97, 255]),
@@ -196,61 +201,39 @@ fn each_tag_is_read_and_written(rt: HostRuntime) -> Result<(), Fail> {
         ),
     ];
     for (bytes, written) in table {
-        assert!(rt; is_written(rt.alloc(), bytes, written)?);
+        assert!(rt; is_written(rt.alloc(), bytes, written), "{bytes:?}");
     }
-    Ok(())
 }
 
 #[test]
 fn lengths_at_the_borders_are_read_and_written(rt: HostRuntime) -> Result<(), Fail> {
     let alloc = rt.alloc();
-    for (n, head) in [(255, [104, 255].as_slice()), (256, &[105, 0, 0, 1, 0])] {
-        let mut tuple = vec![in alloc; 131]?;
-        tuple.extend_from_slice(head)?;
-        for _ in 0..n {
-            tuple.push(106)?;
-        }
-        assert!(rt; is_written(alloc, &tuple, &tuple)?);
+    let table: [(usize, &[u8], &[u8]); 5] = [
+        (255, &[104, 255], &[106]),
+        (256, &[105, 0, 0, 1, 0], &[106]),
+        (127, &[119, 254], &[195, 169]),
+        (128, &[118, 1, 0], &[195, 169]),
+        (255, &[118, 1, 254], &[195, 169]),
+    ];
+    for (n, head, item) in table {
+        let bytes = repeated(alloc, head, n, item)?;
+        assert!(rt; is_written(alloc, &bytes, &bytes), "{n} of {item:?}");
     }
-    for (n, head) in [
-        (127, [119, 254].as_slice()),
-        (128, &[118, 1, 0]),
-        (255, &[118, 1, 254]),
-    ] {
-        let mut name = vec![in alloc; 131]?;
-        name.extend_from_slice(head)?;
-        for _ in 0..n {
-            name.extend_from_slice(&[195, 169])?;
-        }
-        assert!(rt; is_written(alloc, &name, &name)?);
-    }
-    let mut long = vec![in alloc; 131, 100, 1, 0]?;
-    for _ in 0..256 {
-        long.push(97)?;
-    }
-    assert_eq!(rt;
-        decode(alloc, &long).err(),
-        Some(TermFault::BadText { at: 1 })
-    );
+    let long = repeated(alloc, &[100, 1, 0], 256, &[97])?;
+    assert!(rt; fault_of(alloc, &long) == Some(TermFault::BadText { at: 1 }));
     Ok(())
 }
 
 #[test]
 fn the_last_level_has_no_items(rt: HostRuntime) -> Result<(), Fail> {
     let alloc = rt.alloc();
-    let mut nested = vec![in alloc; 131]?;
-    for _ in 0..63 {
-        nested.extend_from_slice(&[104, 1])?;
-    }
+    let mut nested = repeated(alloc, &[], 63, &[104, 1])?;
     let outer = nested.len();
     nested.push(106)?;
-    assert!(rt; is_written(alloc, &nested, &nested)?);
+    assert!(rt; is_written(alloc, &nested, &nested));
     nested.truncate(outer);
     nested.extend_from_slice(&[107, 0, 1])?;
-    assert_eq!(rt;
-        decode(alloc, &nested).err(),
-        Some(TermFault::TooDeep { at: 127 })
-    );
+    assert!(rt; fault_of(alloc, &nested) == Some(TermFault::TooDeep { at: 127 }));
     Ok(())
 }
 
@@ -266,27 +249,29 @@ fn an_io_list_is_flattened(rt: HostRuntime) -> Result<(), Fail> {
         IoList::List(parts(inner)),
     ]?;
     let items = parts(items);
-    assert_eq!(rt; items.as_slice().len(), 3);
-    assert_eq!(rt;
-        flatten(alloc, &IoList::List(items))?.as_slice(),
-        b"abc".as_slice()
-    );
+    assert!(rt; items.as_slice().len() == 3);
+    let bytes = flatten(alloc, &IoList::List(items))?;
+    assert!(rt; bytes.as_slice() == b"abc".as_slice());
     Ok(())
+}
+
+/// Whether the text is read as a name, and lent again.
+fn is_lent(alloc: Global, text: &str) -> bool {
+    matches!(atom(alloc, text), Ok(name) if name.as_str() == text)
+}
+
+/// Why the text is no name, if it is none.
+fn atom_fault(alloc: Global, text: &str) -> Option<AtomFault> {
+    atom(alloc, text).err()
 }
 
 #[test]
 fn names_and_bytes_are_lent(rt: HostRuntime) -> Result<(), Fail> {
     let alloc = rt.alloc();
-    assert_eq!(rt; atom(alloc, "tally")?.as_str(), "tally");
+    assert!(rt; is_lent(alloc, "tally"));
     let bytes = octets(Vec::from_slice(alloc, &[1, 2])?);
-    assert_eq!(rt; bytes.as_slice(), [1, 2].as_slice());
-    let mut text = String::new(alloc);
-    for _ in 0..256 {
-        text.push('é')?;
-    }
-    assert_eq!(rt;
-        atom(alloc, &text).err(),
-        Some(AtomFault::TooLong { chars: 256 })
-    );
+    assert!(rt; bytes.as_slice() == [1, 2].as_slice());
+    let text = "é".repeat(alloc, 256)?;
+    assert!(rt; atom_fault(alloc, text.as_str()) == Some(AtomFault::TooLong { chars: 256 }));
     Ok(())
 }
