@@ -68,9 +68,9 @@ impl<B: Lodged> Play<Option<B>, HomeView<B>> for Withdrawing {
     ghost then = { λ step. Withdraws B.name step.first };
 }
 
-struct Ending;
+struct Concluding;
 
-impl<B: Lodged> Play<Option<B>, HomeView<B>> for Ending {
+impl<B: Lodged> Play<Option<B>, HomeView<B>> for Concluding {
     ghost then = { λ _. Ends };
 }
 
@@ -343,7 +343,7 @@ impl<B: Lodged> HomeSeat<B> {
         } = running;
         let shared = &self.words.shared;
         drop(shared.exchange(&mut self.seat, 0, Some(body)));
-        shared.swap::<Ending>(&mut self.seat, 0, 4 * (turn + 1));
+        shared.swap::<Concluding>(&mut self.seat, 0, 4 * (turn + 1));
     }
 
     /// Takes in another seat of the same home, which doesn't run. What its turns and tickets mean together, the next look tells.
