@@ -106,6 +106,12 @@ fn turn_words(turn: Turn, finished: bool) -> &'static str {
     }
 }
 
+/// Makes a turn, and tells what it came to.
+fn make_turn<D: Driver, R: Wait>(rt: &R, body: &mut Body<D>, max: u32) -> &'static str {
+    let turn = body.turn(rt, max);
+    turn_words(turn, body.is_finished())
+}
+
 /// Makes an act.
 fn act_one<D: Driver, R: Wait>(
     rt: &R,
@@ -115,9 +121,7 @@ fn act_one<D: Driver, R: Wait>(
     act: PortAct,
 ) -> Result<(), Fail> {
     if let PortAct::Turn(max) = act {
-        let turn = body.turn(rt, max);
-        let words = turn_words(turn, body.is_finished());
-        return put(&mut others.text, words, &[]);
+        return put(&mut others.text, make_turn(rt, body, max), &[]);
     }
     act_beside(rt, alloc, others, act)
 }

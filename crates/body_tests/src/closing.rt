@@ -1,8 +1,8 @@
 //! What closes a port, and what comes after.
 use crate::acts::PortAct;
-use crate::rig::{QueueChoice, limited, play};
+use crate::rig::{QueueChoice, Wanted, echo_shows, limited, shows, valve_shows};
 use process_end::How;
-use sample_drivers::{Echo, Store, Valve};
+use sample_drivers::Store;
 use std::test::Fail;
 
 #[test]
@@ -16,30 +16,21 @@ fn a_control_behind_a_close_is_late(rt: HostRuntime) -> Result<(), Fail> {
         PortAct::Mail(1),
         PortAct::Control(0, 1),
     ];
-    let told = play(
-        &rt,
-        rt.alloc(),
-        Echo::new(),
-        limited(QueueChoice::Usual),
-        &acts,
-    )?;
-    assert_eq!(rt;
-        told.rows.as_str(),
-        "h p1 0 close ; ;\nm closed\nl p0 0 control 1 -\n"
-    );
-    assert_eq!(rt;
-        told.acts.as_str(),
-        "p1 put 0\n\
-         p0 put 0\n\
-         finished\n\
-         p0 stat 6\n\
-         p0 exit normal\n\
-         p0 reply 0 badarg\n\
-         p1 reply 0 true\n\
-         p0 refused closed 1\n"
-    );
-    assert!(rt; told.stopped);
-    Ok(())
+    let wanted = [
+        Wanted::Rows("h p1 0 close ; ;\nm closed\nl p0 0 control 1 -\n"),
+        Wanted::Acts(
+            "p1 put 0\n\
+             p0 put 0\n\
+             finished\n\
+             p0 stat 6\n\
+             p0 exit normal\n\
+             p0 reply 0 badarg\n\
+             p1 reply 0 true\n\
+             p0 refused closed 1\n",
+        ),
+        Wanted::Stopped,
+    ];
+    echo_shows(&rt, rt.alloc(), &acts, &wanted)
 }
 
 #[test]
@@ -57,31 +48,24 @@ fn a_close_resumes_those_who_wait_and_finds_their_commands_late(
         PortAct::Resume(0),
         PortAct::Resume(2),
     ];
-    let told = play(
-        &rt,
-        rt.alloc(),
-        Valve::new(),
-        limited(QueueChoice::Usual),
-        &acts,
-    )?;
-    assert_eq!(rt;
-        told.rows.as_str(),
-        "h p1 0 control 1 - ; ; busy 1, reply -\n\
-         m busy\n\
-         s p0 0\n\
-         s p2 0\n\
-         h p1 1 close ; ;\n\
-         m closed\n\
-         r p0 0 2\n\
-         r p2 0 2\n\
-         l p0 0 command s 78\n\
-         l p2 0 command s 79\n"
-    );
-    assert_eq!(rt;
-        told.acts.as_str(),
-        "p1 put 0\nidle\np0 suspended\np2 suspended\np1 put 1\nfinished\np0 exit normal\np0 goes on\np2 goes on\n"
-    );
-    Ok(())
+    let wanted = [
+        Wanted::Rows(
+            "h p1 0 control 1 - ; ; busy 1, reply -\n\
+             m busy\n\
+             s p0 0\n\
+             s p2 0\n\
+             h p1 1 close ; ;\n\
+             m closed\n\
+             r p0 0 2\n\
+             r p2 0 2\n\
+             l p0 0 command s 78\n\
+             l p2 0 command s 79\n",
+        ),
+        Wanted::Acts(
+            "p1 put 0\nidle\np0 suspended\np2 suspended\np1 put 1\nfinished\np0 exit normal\np0 goes on\np2 goes on\n",
+        ),
+    ];
+    valve_shows(&rt, rt.alloc(), &acts, &wanted)
 }
 
 #[test]
@@ -93,24 +77,16 @@ fn a_control_waits_behind_the_command_of_its_sender(rt: HostRuntime) -> Result<(
         PortAct::Control(1, 2),
         PortAct::Turn(64),
     ];
-    let told = play(
-        &rt,
-        rt.alloc(),
-        Valve::new(),
-        limited(QueueChoice::Usual),
-        &acts,
-    )?;
-    assert_eq!(rt;
-        told.rows.as_str(),
+    let wanted = [Wanted::Rows(
         "h p1 0 control 1 - ; ; busy 1, reply -\n\
-         m busy\n\
-         h p1 1 control 2 - ; ; busy 0, reply -\n\
-         m free\n\
-         h p0 0 command - 78 ; ; data plain 78\n\
-         h p0 1 control 1 - ; ; busy 1, reply -\n\
-         m busy\n"
-    );
-    Ok(())
+             m busy\n\
+             h p1 1 control 2 - ; ; busy 0, reply -\n\
+             m free\n\
+             h p0 0 command - 78 ; ; data plain 78\n\
+             h p0 1 control 1 - ; ; busy 1, reply -\n\
+             m busy\n",
+    )];
+    valve_shows(&rt, rt.alloc(), &acts, &wanted)
 }
 
 #[test]
@@ -121,21 +97,19 @@ fn what_a_driver_has_queued_is_flushed_by_the_row_of_a_close(rt: HostRuntime) ->
         PortAct::Turn(64),
         PortAct::Mail(0),
     ];
-    let told = play(
+    let wanted = [
+        Wanted::Rows("h p0 0 command - 6162 ; ;\nh p0 1 close ; ; data plain 6162\nm closed\n"),
+        Wanted::Acts(
+            "p0 accepted 0\np0 put 1\nfinished\np0 data 6162\np0 reply 1 true\np0 exit normal\n",
+        ),
+        Wanted::Stopped,
+    ];
+    shows(
         &rt,
         rt.alloc(),
         Store::new(),
         limited(QueueChoice::Usual),
         &acts,
-    )?;
-    assert_eq!(rt;
-        told.rows.as_str(),
-        "h p0 0 command - 6162 ; ;\nh p0 1 close ; ; data plain 6162\nm closed\n"
-    );
-    assert_eq!(rt;
-        told.acts.as_str(),
-        "p0 accepted 0\np0 put 1\nfinished\np0 data 6162\np0 reply 1 true\np0 exit normal\n"
-    );
-    assert!(rt; told.stopped);
-    Ok(())
+        &wanted,
+    )
 }

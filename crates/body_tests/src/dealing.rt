@@ -94,18 +94,27 @@ fn poller(alloc: Global, lanes: PollerLanes, writes: u32) -> Result<HandPoller, 
 /// Those beside the port, of whom nothing was seen.
 fn others(
     alloc: Global,
-    peers: Vec<HandProcess>,
-    poller: HandPoller,
-    workers: Vec<HandWorker>,
-) -> OthersBeside {
-    OthersBeside {
+    processes: Vec<ProcessLanes>,
+    polling: PollerLanes,
+    working: Vec<WorkerLanes>,
+    soft: bool,
+    writes: u32,
+) -> Result<OthersBeside, Fail>
+    requires processes { CanServeEach processes.items }
+    requires poller { LastIs IsOfPoller polling.lanes.items }
+    requires workers { AreOfWorkers working.items }
+{
+    let peers = peers(alloc, processes, soft)?;
+    let poller = poller(alloc, polling, writes)?;
+    let workers = workers(alloc, working)?;
+    Ok(OthersBeside {
         peers,
         poller,
         workers,
         text: String::new(alloc),
         data: String::new(alloc),
         receipts: String::new(alloc),
-    }
+    })
 }
 
 /// The lanes of the port, and those beside it.
@@ -121,13 +130,11 @@ pub(crate) fn deal(
     let RunLanes {
         ports,
         processes,
-        workers: working,
-        poller: polling,
+        workers,
+        poller,
         ..
     } = opened(alloc, limits)?;
     let port = port(ports)?;
-    let peers = peers(alloc, processes, soft)?;
-    let poller = poller(alloc, polling, writes)?;
-    let workers = workers(alloc, working)?;
-    Ok((port, others(alloc, peers, poller, workers)))
+    let others = others(alloc, processes, poller, workers, soft, writes)?;
+    Ok((port, others))
 }

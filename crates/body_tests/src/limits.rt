@@ -1,6 +1,6 @@
 //! The words of a message queue, by what its senders and its port do.
 use crate::acts::PortAct;
-use crate::rig::{QueueChoice, limited, play};
+use crate::rig::{QueueChoice, Wanted, echo_shows, limited, shows};
 use crate::text::times;
 use process_end::How;
 use sample_drivers::Echo;
@@ -21,43 +21,42 @@ fn a_queue_is_busy_from_its_high_limit_and_free_below_its_low_one(
         PortAct::Turn(64),
         PortAct::Resume(2),
     ];
-    let told = play(
+    let wanted = [
+        Wanted::Acts(
+            "p0 accepted 0\n\
+             p1 accepted 0\n\
+             p2 suspended\n\
+             more\n\
+             p0 dropped msgq 1099511627780\n\
+             more\n\
+             idle\n\
+             p2 goes on\n",
+        ),
+        Wanted::Rows(
+            "h p0 0 command - 61616161 ; ; data plain 61616161\n\
+             h p1 0 command - 62 ; ; data plain 62\n\
+             s p2 0\n\
+             r p2 0 2199023255555\n\
+             h p2 0 command s 636363 ; ; data plain 636363\n",
+        ),
+        Wanted::Receipts(
+            "p0 accepted seq 0 stat 0 msgq 4\n\
+             p0 dropped stat 0 msgq 1099511627780\n\
+             p0 accepted seq 1 stat 0\n\
+             p1 accepted seq 0 stat 0 msgq 5\n\
+             p1 accepted seq 1 stat 0\n\
+             p2 suspended seq 0 stat 0 msgq 1099511627784\n\
+             p2 accepted seq 1 stat 0\n",
+        ),
+    ];
+    shows(
         &rt,
         rt.alloc(),
         Echo::new(),
         limited(QueueChoice::Small),
         &acts,
-    )?;
-    assert_eq!(rt;
-        told.acts.as_str(),
-        "p0 accepted 0\n\
-         p1 accepted 0\n\
-         p2 suspended\n\
-         more\n\
-         p0 dropped msgq 1099511627780\n\
-         more\n\
-         idle\n\
-         p2 goes on\n"
-    );
-    assert_eq!(rt;
-        told.rows.as_str(),
-        "h p0 0 command - 61616161 ; ; data plain 61616161\n\
-         h p1 0 command - 62 ; ; data plain 62\n\
-         s p2 0\n\
-         r p2 0 2199023255555\n\
-         h p2 0 command s 636363 ; ; data plain 636363\n"
-    );
-    assert_eq!(rt;
-        told.receipts.as_str(),
-        "p0 accepted seq 0 stat 0 msgq 4\n\
-         p0 dropped stat 0 msgq 1099511627780\n\
-         p0 accepted seq 1 stat 0\n\
-         p1 accepted seq 0 stat 0 msgq 5\n\
-         p1 accepted seq 1 stat 0\n\
-         p2 suspended seq 0 stat 0 msgq 1099511627784\n\
-         p2 accepted seq 1 stat 0\n"
-    );
-    Ok(())
+        &wanted,
+    )
 }
 
 /// The rows of a command of so many bytes that suspended its sender.
@@ -81,22 +80,11 @@ fn a_command_of_262_143_bytes_suspends_its_sender_until_it_is_handled(
         PortAct::Turn(64),
         PortAct::Resume(1),
     ];
-    let told = play(
-        &rt,
-        rt.alloc(),
-        Echo::new(),
-        limited(QueueChoice::Usual),
-        &acts,
-    )?;
-    assert_eq!(rt;
-        told.acts.as_str(),
-        "p1 refused length 262144\np1 suspended\nidle\np1 goes on\n"
-    );
-    assert!(rt; told.rows == long_rows(rt.alloc(), 262_143)?);
-    assert!(rt;
-        told.receipts.as_str().contains(
-            "p1 too long\np1 suspended seq 0 stat 0 msgq 1099511889919\n"
-        )
-    );
-    Ok(())
+    let rows = long_rows(rt.alloc(), 262_143)?;
+    let wanted = [
+        Wanted::Acts("p1 refused length 262144\np1 suspended\nidle\np1 goes on\n"),
+        Wanted::LongRows(rows.as_str()),
+        Wanted::SomeReceipts("p1 too long\np1 suspended seq 0 stat 0 msgq 1099511889919\n"),
+    ];
+    echo_shows(&rt, rt.alloc(), &acts, &wanted)
 }

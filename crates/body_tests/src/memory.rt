@@ -2,7 +2,7 @@
 ghost use Rattle.std.specs.Prelude.{◌≡◌, IfOk};
 
 use crate::acts::PortAct;
-use crate::rig::{PlayOptions, QueueChoice, framed, limited, play};
+use crate::rig::{PlayOptions, QueueChoice, Wanted, framed, limited, shows};
 use journal_text::{Config, Mode, Reason};
 use outside::{MemProgram, MemSpawner};
 use port_body::{Driver, NoMemory, StartRefusal};
@@ -12,6 +12,7 @@ use process_end::How;
 use sample_drivers::{Digest, Echo, Store, Tally};
 use spawn_driver::{SpawnDriver, spawn_driver};
 use std::alloc::Global;
+use std::process::Abort;
 use std::sync::Wait;
 use std::test::Fail;
 
@@ -181,20 +182,23 @@ impl<D: Driver> Driver for Wanting<D> {
     }
 }
 
-/// Whether the last two turns of these acts find no memory, the port has these rows, and its driver is stopped at the end.
-fn breaks<D: Driver, R: Wait>(
+/// Asserts that the last two turns of these acts find no memory, that the port has these rows, and that its driver is stopped at the end.
+fn breaks<D: Driver, R: Abort + Wait>(
     rt: &R,
     alloc: Global,
     driver: Wanting<D>,
     options: PlayOptions,
     acts: &[PortAct],
     rows: &str,
-) -> Result<bool, Fail>
+) -> Result<(), Fail>
     requires { D.stage driver.driver ≡ Life.Fresh }
 {
-    let told = play(rt, alloc, driver, options, acts)?;
-    let breaks = told.acts.as_str().ends_with("no memory\nno memory\n");
-    Ok(breaks && told.rows.as_str() == rows && told.stopped)
+    let wanted = [
+        Wanted::LastActs("no memory\nno memory\n"),
+        Wanted::Rows(rows),
+        Wanted::Stopped,
+    ];
+    shows(rt, alloc, driver, options, acts, &wanted)
 }
 
 #[test]
@@ -205,51 +209,42 @@ fn a_command_that_finds_no_memory_breaks_its_port(rt: HostRuntime) -> Result<(),
         PortAct::Turn(64),
     ];
     let options = limited(QueueChoice::Usual);
-    assert!(rt;
-        breaks(
-            &rt,
-            rt.alloc(),
-            without_memory(Echo::new(), WantingCallback::Outputv),
-            options,
-            &acts,
-            ""
-        )?
-    );
-    Ok(())
+    breaks(
+        &rt,
+        rt.alloc(),
+        without_memory(Echo::new(), WantingCallback::Outputv),
+        options,
+        &acts,
+        "",
+    )
 }
 
 #[test]
 fn a_control_that_finds_no_memory_breaks_its_port(rt: HostRuntime) -> Result<(), Fail> {
     let acts = [PortAct::Control(0, 1), PortAct::Turn(64), PortAct::Turn(64)];
     let options = limited(QueueChoice::Usual);
-    assert!(rt;
-        breaks(
-            &rt,
-            rt.alloc(),
-            without_memory(Echo::new(), WantingCallback::Control),
-            options,
-            &acts,
-            ""
-        )?
-    );
-    Ok(())
+    breaks(
+        &rt,
+        rt.alloc(),
+        without_memory(Echo::new(), WantingCallback::Control),
+        options,
+        &acts,
+        "",
+    )
 }
 
 #[test]
 fn a_call_that_finds_no_memory_breaks_its_port(rt: HostRuntime) -> Result<(), Fail> {
     let acts = [PortAct::Call(0, 1), PortAct::Turn(64), PortAct::Turn(64)];
     let options = limited(QueueChoice::Usual);
-    assert!(rt;
-        breaks(
-            &rt,
-            rt.alloc(),
-            without_memory(Echo::new(), WantingCallback::Call),
-            options,
-            &acts,
-            ""
-        )?
-    );
-    Ok(())
+    breaks(
+        &rt,
+        rt.alloc(),
+        without_memory(Echo::new(), WantingCallback::Call),
+        options,
+        &acts,
+        "",
+    )
 }
 
 #[test]
@@ -264,17 +259,14 @@ fn the_end_of_a_watched_process_that_finds_no_memory_breaks_its_port(
     ];
     let rows = "h p1 0 control 2 - ; ; watch 1, reply -\n";
     let options = limited(QueueChoice::Usual);
-    assert!(rt;
-        breaks(
-            &rt,
-            rt.alloc(),
-            without_memory(Tally::new(), WantingCallback::ProcessExit),
-            options,
-            &acts,
-            rows
-        )?
-    );
-    Ok(())
+    breaks(
+        &rt,
+        rt.alloc(),
+        without_memory(Tally::new(), WantingCallback::ProcessExit),
+        options,
+        &acts,
+        rows,
+    )
 }
 
 #[test]
@@ -287,17 +279,14 @@ fn a_flush_that_finds_no_memory_breaks_its_port(rt: HostRuntime) -> Result<(), F
     ];
     let rows = "h p0 0 command - 78 ; ;\n";
     let options = limited(QueueChoice::Usual);
-    assert!(rt;
-        breaks(
-            &rt,
-            rt.alloc(),
-            without_memory(Store::new(), WantingCallback::Flush),
-            options,
-            &acts,
-            rows
-        )?
-    );
-    Ok(())
+    breaks(
+        &rt,
+        rt.alloc(),
+        without_memory(Store::new(), WantingCallback::Flush),
+        options,
+        &acts,
+        rows,
+    )
 }
 
 #[test]
@@ -311,17 +300,14 @@ fn a_job_that_finds_no_memory_breaks_its_port(rt: HostRuntime) -> Result<(), Fai
     ];
     let rows = "h p0 0 command - 000178 ; ; async 0 0 1 78\n";
     let options = limited(QueueChoice::Usual);
-    assert!(rt;
-        breaks(
-            &rt,
-            rt.alloc(),
-            without_memory(Digest::new(), WantingCallback::ReadyAsync),
-            options,
-            &acts,
-            rows
-        )?
-    );
-    Ok(())
+    breaks(
+        &rt,
+        rt.alloc(),
+        without_memory(Digest::new(), WantingCallback::ReadyAsync),
+        options,
+        &acts,
+        rows,
+    )
 }
 
 /// A driver of a program that gives nothing.
@@ -338,17 +324,14 @@ fn a_readiness_that_finds_no_memory_breaks_its_port(rt: HostRuntime) -> Result<(
     let alloc = rt.alloc();
     let options = framed(Mode::Stream);
     let reads = [PortAct::Poll, PortAct::Turn(64), PortAct::Turn(64)];
-    assert!(rt;
-        breaks(
-            &rt,
-            alloc,
-            without_memory(program(alloc)?, WantingCallback::ReadyInput),
-            options,
-            &reads,
-            ""
-        )?
-    );
-    Ok(())
+    breaks(
+        &rt,
+        alloc,
+        without_memory(program(alloc)?, WantingCallback::ReadyInput),
+        options,
+        &reads,
+        "",
+    )
 }
 
 #[test]
@@ -366,15 +349,12 @@ fn room_that_finds_no_memory_breaks_its_port(rt: HostRuntime) -> Result<(), Fail
         ..framed(Mode::Stream)
     };
     let rows = "h p0 0 command - 78 ; ; select 1 w 1\n";
-    assert!(rt;
-        breaks(
-            &rt,
-            alloc,
-            without_memory(program(alloc)?, WantingCallback::ReadyOutput),
-            options,
-            &acts,
-            rows
-        )?
-    );
-    Ok(())
+    breaks(
+        &rt,
+        alloc,
+        without_memory(program(alloc)?, WantingCallback::ReadyOutput),
+        options,
+        &acts,
+        rows,
+    )
 }

@@ -4,7 +4,7 @@ ghost use Rattle.process_end.specs.Commanded.{proc_in, signal_of};
 ghost use Rattle.process_end.specs.port_lanes.Parcels.{names_below};
 ghost use Rattle.body_tests.specs.Beside.{CanServe, IsOfOnePort};
 
-use crate::text::{put_line, put_mail, put_receipt, put_refusal};
+use crate::text::{put_line, put_mail, put_receipts, put_refusal};
 use async_jobs::TakeEnd;
 use port_model::{IoVec, Mail, Piece, Reason};
 use process_end::{Ask, Commanded, How, NotYet, Proc, ProcParts, SendRefusal, Shown, Stopped};
@@ -94,24 +94,9 @@ impl SendingProcess {
         how: How,
         text: &mut String,
     ) -> Result<HandProcess, Fail> {
-        match self.put(rt, payload, how) {
-            Commanded::Accepted(proc, seq) => {
-                put_line(text, process, "accepted", &[seq])?;
-                Ok(HandProcess::Sending(SendingProcess { proc }))
-            }
-            Commanded::Suspended(stopped) => {
-                put_line(text, process, "suspended", &[])?;
-                Ok(HandProcess::Waiting(WaitingProcess { stopped }))
-            }
-            Commanded::Dropped(proc, shown) => {
-                put_shown(text, process, shown)?;
-                Ok(HandProcess::Sending(SendingProcess { proc }))
-            }
-            Commanded::Refused(proc, refusal) => {
-                put_refusal(text, process, refusal)?;
-                Ok(HandProcess::Sending(SendingProcess { proc }))
-            }
-        }
+        let commanded = self.put(rt, payload, how);
+        put_commanded(text, process, &commanded)?;
+        Ok(after_command(commanded))
     }
 
     /// Puts a signal that is no command.
@@ -157,10 +142,30 @@ impl SendingProcess {
         let Ok(end) = self.proc.exit_process(rt, reason) else {
             return Err("no memory".into());
         };
-        for receipt in end.receipts.as_slice() {
-            put_receipt(receipts, process, receipt)?;
-        }
+        put_receipts(receipts, process, end.receipts.as_slice())?;
         Ok(HandProcess::Ended(end.mailbox))
+    }
+}
+
+/// The process behind its command.
+fn after_command(commanded: Commanded) -> HandProcess
+    requires { IsOfOnePort (proc_in commanded) }
+{
+    match commanded {
+        Commanded::Accepted(proc, _) => HandProcess::Sending(SendingProcess { proc }),
+        Commanded::Suspended(stopped) => HandProcess::Waiting(WaitingProcess { stopped }),
+        Commanded::Dropped(proc, _) => HandProcess::Sending(SendingProcess { proc }),
+        Commanded::Refused(proc, _) => HandProcess::Sending(SendingProcess { proc }),
+    }
+}
+
+/// Puts the line of what a command came to.
+fn put_commanded(text: &mut String, process: u32, commanded: &Commanded) -> Result<(), Fail> {
+    match commanded {
+        Commanded::Accepted(_, seq) => put_line(text, process, "accepted", &[*seq]),
+        Commanded::Suspended(_) => put_line(text, process, "suspended", &[]),
+        Commanded::Dropped(_, shown) => put_shown(text, process, *shown),
+        Commanded::Refused(_, refusal) => put_refusal(text, process, *refusal),
     }
 }
 

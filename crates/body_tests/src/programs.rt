@@ -3,7 +3,7 @@ ghost use Rattle.std.specs.Prelude.{◌≡◌, IfOk};
 
 use crate::acts::PortAct;
 use crate::failing::FetchlessSpawner;
-use crate::rig::{PlayOptions, framed, play};
+use crate::rig::{PlayOptions, Wanted, framed, shows};
 use crate::text::times;
 use journal_text::Mode;
 use outside::{MemProgram, MemSpawner};
@@ -11,6 +11,8 @@ use port_driver::Life;
 use process_end::How;
 use spawn_driver::{SpawnDriver, spawn_driver};
 use std::alloc::Global;
+use std::process::Abort;
+use std::sync::Wait;
 use std::test::Fail;
 
 /// A port of a stream, where five waits of the poller find the write event alone.
@@ -47,6 +49,28 @@ fn giving(alloc: Global, chunks: &[&[u8]]) -> Result<SpawnDriver<MemSpawner>, Fa
     Ok(spawn_driver(spawner(alloc, program)?))
 }
 
+/// Asserts what comes of the acts on a port of a program that takes at most one byte of an offer.
+fn slow_shows<R: Abort + Wait>(
+    rt: &R,
+    alloc: Global,
+    acts: &[PortAct],
+    wanted: &[Wanted<'_>],
+) -> Result<(), Fail> {
+    shows(rt, alloc, slow(alloc)?, five_writes(), acts, wanted)
+}
+
+/// Asserts what comes of the acts on a port of a program that gives these chunks.
+fn giver_shows<R: Abort + Wait>(
+    rt: &R,
+    alloc: Global,
+    chunks: &[&[u8]],
+    options: PlayOptions,
+    acts: &[PortAct],
+    wanted: &[Wanted<'_>],
+) -> Result<(), Fail> {
+    shows(rt, alloc, giving(alloc, chunks)?, options, acts, wanted)
+}
+
 #[test]
 fn a_closing_port_gives_its_program_what_is_queued(rt: HostRuntime) -> Result<(), Fail> {
     let acts = [
@@ -68,25 +92,24 @@ fn a_closing_port_gives_its_program_what_is_queued(rt: HostRuntime) -> Result<()
         PortAct::Turn(64),
         PortAct::Mail(0),
     ];
-    let told = play(&rt, rt.alloc(), slow(rt.alloc())?, five_writes(), &acts)?;
-    assert_eq!(rt;
-        told.rows.as_str(),
-        "h p0 0 command - 68656c6c6f ; ; select 1 w 1\n\
-         h p0 1 close ; ;\n\
-         m closed\n\
-         h e 0 output 1 ; took 1 ;\n\
-         h e 1 output 1 ; took 1 ;\n\
-         h e 2 output 1 ; took 1 ;\n\
-         h e 3 output 1 ; took 1 ;\n\
-         h e 4 output 1 ; took 1 ; select 1 w 0\n\
-         h e 5 dropped 0 ; ;\n"
-    );
-    assert_eq!(rt;
-        told.acts.as_str(),
-        "p0 accepted 0\np0 put 1\nidle\nidle\nidle\nidle\nidle\nidle\nfinished\np0 reply 1 true\np0 exit normal\n"
-    );
-    assert!(rt; told.stopped);
-    Ok(())
+    let wanted = [
+        Wanted::Rows(
+            "h p0 0 command - 68656c6c6f ; ; select 1 w 1\n\
+             h p0 1 close ; ;\n\
+             m closed\n\
+             h e 0 output 1 ; took 1 ;\n\
+             h e 1 output 1 ; took 1 ;\n\
+             h e 2 output 1 ; took 1 ;\n\
+             h e 3 output 1 ; took 1 ;\n\
+             h e 4 output 1 ; took 1 ; select 1 w 0\n\
+             h e 5 dropped 0 ; ;\n",
+        ),
+        Wanted::Acts(
+            "p0 accepted 0\np0 put 1\nidle\nidle\nidle\nidle\nidle\nidle\nfinished\np0 reply 1 true\np0 exit normal\n",
+        ),
+        Wanted::Stopped,
+    ];
+    slow_shows(&rt, rt.alloc(), &acts, &wanted)
 }
 
 #[test]
@@ -99,20 +122,17 @@ fn a_kill_gives_a_program_nothing(rt: HostRuntime) -> Result<(), Fail> {
         PortAct::Turn(64),
         PortAct::Mail(0),
     ];
-    let told = play(&rt, rt.alloc(), slow(rt.alloc())?, five_writes(), &acts)?;
-    assert_eq!(rt;
-        told.rows.as_str(),
-        "h p0 0 command - 68656c6c6f ; ; select 1 w 1\n\
-         h p1 0 exit kill ; ;\n\
-         m closed\n\
-         h e 0 dropped 0 ; ;\n\
-         h e 1 dropped 1 ; ;\n"
-    );
-    assert_eq!(rt;
-        told.acts.as_str(),
-        "p0 accepted 0\np1 put 0\nidle\nfinished\np0 exit killed\n"
-    );
-    Ok(())
+    let wanted = [
+        Wanted::Rows(
+            "h p0 0 command - 68656c6c6f ; ; select 1 w 1\n\
+             h p1 0 exit kill ; ;\n\
+             m closed\n\
+             h e 0 dropped 0 ; ;\n\
+             h e 1 dropped 1 ; ;\n",
+        ),
+        Wanted::Acts("p0 accepted 0\np1 put 0\nidle\nfinished\np0 exit killed\n"),
+    ];
+    slow_shows(&rt, rt.alloc(), &acts, &wanted)
 }
 
 /// The rows of a command of 255 bytes and one of 256, where a length has one byte.
@@ -146,13 +166,12 @@ fn a_command_too_long_for_its_frame_fails_the_port(rt: HostRuntime) -> Result<()
         writes: 1,
         ..framed(Mode::Packet1)
     };
-    let told = play(&rt, rt.alloc(), giving(rt.alloc(), &[])?, options, &acts)?;
-    assert_eq!(rt; told.rows.as_str(), long_rows(rt.alloc())?.as_str());
-    assert_eq!(rt;
-        told.acts.as_str(),
-        "p0 accepted 0\nidle\nidle\np0 accepted 1\nidle\nfinished\np0 exit einval\n"
-    );
-    Ok(())
+    let rows = long_rows(rt.alloc())?;
+    let wanted = [
+        Wanted::Rows(rows.as_str()),
+        Wanted::Acts("p0 accepted 0\nidle\nidle\np0 accepted 1\nidle\nfinished\np0 exit einval\n"),
+    ];
+    giver_shows(&rt, rt.alloc(), &[], options, &acts, &wanted)
 }
 
 /// Four rounds of the poller, each before a turn, and then the mail of the owner.
@@ -171,75 +190,90 @@ const FOUR_ROUNDS: [PortAct; 9] = [
 #[test]
 fn packets_come_whole_and_one_that_is_cut_off_does_not(rt: HostRuntime) -> Result<(), Fail> {
     let chunks: [&[u8]; 3] = [b"\x00\x03ab", b"c\x00\x00", b"\x00"];
-    let driver = giving(rt.alloc(), &chunks)?;
-    let told = play(&rt, rt.alloc(), driver, framed(Mode::Packet2), &FOUR_ROUNDS)?;
-    assert_eq!(rt;
-        told.rows.as_str(),
-        "h e 0 input 0 ; got 00036162 ;\n\
-         h e 1 input 0 ; got 630000 ; data plain 616263, data plain -\n\
-         h e 2 input 0 ; got 00 ;\n\
-         h e 3 input 0 ; end ; select 0 r 0, fail normal\n\
-         m closed\n"
-    );
-    assert_eq!(rt;
-        told.acts.as_str(),
-        "idle\nidle\nidle\nfinished\np0 data 616263\np0 data \np0 exit normal\n"
-    );
-    Ok(())
+    let wanted = [
+        Wanted::Rows(
+            "h e 0 input 0 ; got 00036162 ;\n\
+             h e 1 input 0 ; got 630000 ; data plain 616263, data plain -\n\
+             h e 2 input 0 ; got 00 ;\n\
+             h e 3 input 0 ; end ; select 0 r 0, fail normal\n\
+             m closed\n",
+        ),
+        Wanted::Acts("idle\nidle\nidle\nfinished\np0 data 616263\np0 data \np0 exit normal\n"),
+    ];
+    giver_shows(
+        &rt,
+        rt.alloc(),
+        &chunks,
+        framed(Mode::Packet2),
+        &FOUR_ROUNDS,
+        &wanted,
+    )
 }
 
 #[test]
 fn lines_come_as_they_end_and_long_ones_in_pieces(rt: HostRuntime) -> Result<(), Fail> {
     let chunks: [&[u8]; 1] = [b"abc\nabcd\n\nx"];
-    let driver = giving(rt.alloc(), &chunks)?;
-    let told = play(&rt, rt.alloc(), driver, framed(Mode::Line(3)), &FOUR_ROUNDS)?;
-    assert_eq!(rt;
-        told.rows.as_str(),
+    let wanted = [Wanted::Rows(
         "h e 0 input 0 ; got 6162630a616263640a0a78 ; data eol 616263, data noeol 616263, data eol 64, data eol -\n\
-         h e 1 input 0 ; end ; data noeol 78, select 0 r 0, fail normal\n\
-         m closed\n"
-    );
-    Ok(())
+             h e 1 input 0 ; end ; data noeol 78, select 0 r 0, fail normal\n\
+             m closed\n",
+    )];
+    giver_shows(
+        &rt,
+        rt.alloc(),
+        &chunks,
+        framed(Mode::Line(3)),
+        &FOUR_ROUNDS,
+        &wanted,
+    )
 }
 
 #[test]
 fn a_stream_comes_as_its_bytes(rt: HostRuntime) -> Result<(), Fail> {
     let chunks: [&[u8]; 3] = [b"a", b"bc", b"def"];
-    let driver = giving(rt.alloc(), &chunks)?;
-    let told = play(&rt, rt.alloc(), driver, framed(Mode::Stream), &FOUR_ROUNDS)?;
-    assert_eq!(rt; told.data.as_str(), "616263646566");
-    Ok(())
+    let wanted = [Wanted::Data("616263646566")];
+    giver_shows(
+        &rt,
+        rt.alloc(),
+        &chunks,
+        framed(Mode::Stream),
+        &FOUR_ROUNDS,
+        &wanted,
+    )
 }
 
 #[test]
 fn a_packet_that_tells_too_many_bytes_fails_the_port(rt: HostRuntime) -> Result<(), Fail> {
     let chunks: [&[u8]; 1] = [b"\x7f\xff\xff\xff"];
-    let driver = giving(rt.alloc(), &chunks)?;
-    let told = play(&rt, rt.alloc(), driver, framed(Mode::Packet4), &FOUR_ROUNDS)?;
-    assert_eq!(rt;
-        told.rows.as_str(),
-        "h e 0 input 0 ; got 7fffffff ; fail emsgsize\nm closed\n"
-    );
-    assert_eq!(rt;
-        told.acts.as_str(),
-        "finished\nfinished\nfinished\nfinished\np0 exit emsgsize\n"
-    );
-    Ok(())
+    let wanted = [
+        Wanted::Rows("h e 0 input 0 ; got 7fffffff ; fail emsgsize\nm closed\n"),
+        Wanted::Acts("finished\nfinished\nfinished\nfinished\np0 exit emsgsize\n"),
+    ];
+    giver_shows(
+        &rt,
+        rt.alloc(),
+        &chunks,
+        framed(Mode::Packet4),
+        &FOUR_ROUNDS,
+        &wanted,
+    )
 }
 
 #[test]
 fn a_fetch_that_fails_fails_the_port(rt: HostRuntime) -> Result<(), Fail> {
     let spawner = spawner(rt.alloc(), MemProgram::new(rt.alloc(), 1))?;
     let driver = spawn_driver(FetchlessSpawner::new(spawner));
-    let told = play(&rt, rt.alloc(), driver, framed(Mode::Stream), &FOUR_ROUNDS)?;
-    assert_eq!(rt;
-        told.rows.as_str(),
-        "h e 0 input 0 ; failed ; fail eio\nm closed\n"
-    );
-    assert_eq!(rt;
-        told.acts.as_str(),
-        "finished\nfinished\nfinished\nfinished\np0 exit eio\n"
-    );
-    assert!(rt; told.stopped);
-    Ok(())
+    let wanted = [
+        Wanted::Rows("h e 0 input 0 ; failed ; fail eio\nm closed\n"),
+        Wanted::Acts("finished\nfinished\nfinished\nfinished\np0 exit eio\n"),
+        Wanted::Stopped,
+    ];
+    shows(
+        &rt,
+        rt.alloc(),
+        driver,
+        framed(Mode::Stream),
+        &FOUR_ROUNDS,
+        &wanted,
+    )
 }

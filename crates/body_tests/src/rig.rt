@@ -17,7 +17,9 @@ use port_driver::Life;
 use port_model::{Piece, Reason};
 use port_words::busy::QueueLimits;
 use run_lanes::PortLanes;
+use sample_drivers::{Echo, Valve};
 use std::alloc::Global;
+use std::process::Abort;
 use std::sync::Wait;
 use std::test::Fail;
 
@@ -66,16 +68,54 @@ pub(crate) fn framed(mode: Mode) -> PlayOptions {
 
 /// What came of the acts.
 #[derive(Drop)]
-pub(crate) struct Played {
-    pub(crate) acts: String,
+struct Played {
+    acts: String,
+    data: String,
+    receipts: String,
+    rows: String,
+    stopped: bool,
+}
+
+/// What is wanted of that which came of the acts.
+#[derive(Clone, Copy)]
+pub(crate) enum Wanted<'a> {
+    /// What all acts came to.
+    Acts(&'a str),
+    /// What the last acts came to.
+    LastActs(&'a str),
     /// The data that came to the owner.
-    pub(crate) data: String,
+    Data(&'a str),
     /// The receipts of the processes.
-    pub(crate) receipts: String,
+    Receipts(&'a str),
+    /// Receipts that stand among those of the processes.
+    SomeReceipts(&'a str),
     /// The rows of the port.
-    pub(crate) rows: String,
-    /// Whether the driver was stopped.
-    pub(crate) stopped: bool,
+    Rows(&'a str),
+    /// The rows of the port, too long to be shown where they aren't those.
+    LongRows(&'a str),
+    /// The driver was stopped.
+    Stopped,
+}
+
+/// Asserts that a text is the one that is wanted.
+fn is_text<R: Abort>(rt: &R, text: &str, wanted: &str) {
+    assert_eq!(rt; text, wanted);
+}
+
+impl Played {
+    /// Asserts that this came of the acts.
+    fn shows<R: Abort>(&self, rt: &R, wanted: Wanted<'_>) {
+        match wanted {
+            Wanted::Acts(text) => is_text(rt, self.acts.as_str(), text),
+            Wanted::LastActs(text) => assert!(rt; self.acts.as_str().ends_with(text)),
+            Wanted::Data(text) => is_text(rt, self.data.as_str(), text),
+            Wanted::Receipts(text) => is_text(rt, self.receipts.as_str(), text),
+            Wanted::SomeReceipts(text) => assert!(rt; self.receipts.as_str().contains(text)),
+            Wanted::Rows(text) => is_text(rt, self.rows.as_str(), text),
+            Wanted::LongRows(text) => assert!(rt; self.rows.as_str() == text),
+            Wanted::Stopped => assert!(rt; self.stopped),
+        }
+    }
 }
 
 fn queue_limits(limits: QueueChoice) -> QueueLimits
@@ -141,15 +181,20 @@ fn body_parts<D: Driver>(driver: D, config: Config, lanes: PortLanes) -> BodyPar
     }
 }
 
+/// The port of a body that has ended.
+fn port_end<D: Driver>(body: Body<D>) -> PortEnd<D> {
+    let BodyEnd { port, .. } = body.into_end();
+    port
+}
+
 /// Whether the driver was stopped, and the rows of the port.
 fn ended<D: Driver>(alloc: Global, body: Body<D>) -> Result<(bool, String), Fail> {
-    let BodyEnd { port, .. } = body.into_end();
     let PortEnd {
         driver,
         config,
         journal,
         ..
-    } = port;
+    } = port_end(body);
     let port = PortReport {
         name: name(b"p")?,
         driver: driver.name(),
@@ -185,21 +230,26 @@ fn rows_of(alloc: Global, port: PortReport) -> Result<String, Fail> {
     Ok(rows)
 }
 
-/// Makes the acts on a port, and tells what came of them.
-fn play_on<D: Driver, R: Wait>(
-    rt: &R,
-    alloc: Global,
-    parts: BodyParts<D>,
-    mut others: OthersBeside,
-    acts: &[PortAct],
-) -> Result<Played, Fail>
+/// The open port.
+fn opened<D: Driver, R: Wait>(rt: &R, alloc: Global, parts: BodyParts<D>) -> Result<Body<D>, Fail>
     requires fresh { D.stage parts.port.driver ≡ Life.Fresh }
     requires unused { AreUnused parts.port.outlets }
     requires fits { FitsPlace (record { number = 0; owner = 0; processes = 3 }) parts.workers parts.port.outlets parts.lane }
 {
-    let Ok(mut body) = Body::open(rt, alloc, PLACE, parts) else {
-        return Err("the port wasn't opened".into());
-    };
+    match Body::open(rt, alloc, PLACE, parts) {
+        Ok(body) => Ok(body),
+        Err(_) => Err("the port wasn't opened".into()),
+    }
+}
+
+/// Makes the acts on a port, ends it, and tells what came of them.
+fn play_on<D: Driver, R: Wait>(
+    rt: &R,
+    alloc: Global,
+    mut body: Body<D>,
+    mut others: OthersBeside,
+    acts: &[PortAct],
+) -> Result<Played, Fail> {
     act_all(rt, alloc, &mut body, &mut others, acts)?;
     body.end();
     let (stopped, rows) = ended(alloc, body)?;
@@ -214,7 +264,7 @@ fn play_on<D: Driver, R: Wait>(
 }
 
 /// Opens a port with this driver, makes the acts, and tells what came of them.
-pub(crate) fn play<D: Driver, R: Wait>(
+fn play<D: Driver, R: Wait>(
     rt: &R,
     alloc: Global,
     driver: D,
@@ -223,8 +273,61 @@ pub(crate) fn play<D: Driver, R: Wait>(
 ) -> Result<Played, Fail>
     requires { D.stage driver ≡ Life.Fresh }
 {
+    let config = config(alloc, options)?;
     let limits = queue_limits(options.limits);
     let (lanes, others) = deal(alloc, limits, driver.soft_busy(), options.writes)?;
-    let parts = body_parts(driver, config(alloc, options)?, lanes);
-    play_on(rt, alloc, parts, others, acts)
+    let body = opened(rt, alloc, body_parts(driver, config, lanes))?;
+    play_on(rt, alloc, body, others, acts)
+}
+
+/// Opens a port with this driver, makes the acts, and asserts what comes of them.
+pub(crate) fn shows<D: Driver, R: Abort + Wait>(
+    rt: &R,
+    alloc: Global,
+    driver: D,
+    options: PlayOptions,
+    acts: &[PortAct],
+    wanted: &[Wanted<'_>],
+) -> Result<(), Fail>
+    requires { D.stage driver ≡ Life.Fresh }
+{
+    let played = play(rt, alloc, driver, options, acts)?;
+    for each in wanted {
+        played.shows(rt, *each);
+    }
+    Ok(())
+}
+
+/// Asserts what comes of the acts on a port that echoes.
+pub(crate) fn echo_shows<R: Abort + Wait>(
+    rt: &R,
+    alloc: Global,
+    acts: &[PortAct],
+    wanted: &[Wanted<'_>],
+) -> Result<(), Fail> {
+    shows(
+        rt,
+        alloc,
+        Echo::new(),
+        limited(QueueChoice::Usual),
+        acts,
+        wanted,
+    )
+}
+
+/// Asserts what comes of the acts on a port with a valve.
+pub(crate) fn valve_shows<R: Abort + Wait>(
+    rt: &R,
+    alloc: Global,
+    acts: &[PortAct],
+    wanted: &[Wanted<'_>],
+) -> Result<(), Fail> {
+    shows(
+        rt,
+        alloc,
+        Valve::new(),
+        limited(QueueChoice::Usual),
+        acts,
+        wanted,
+    )
 }

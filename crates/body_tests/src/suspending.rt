@@ -1,6 +1,6 @@
 //! Busy ports: suspended senders, commands that aren't to suspend, and forced ones.
 use crate::acts::PortAct;
-use crate::rig::{QueueChoice, limited, play};
+use crate::rig::{QueueChoice, Wanted, limited, shows, valve_shows};
 use process_end::How;
 use sample_drivers::Valve;
 use std::test::Fail;
@@ -17,37 +17,29 @@ fn a_busy_port_suspends_a_sender_until_it_is_free(rt: HostRuntime) -> Result<(),
         PortAct::Resume(0),
         PortAct::Mail(0),
     ];
-    let told = play(
-        &rt,
-        rt.alloc(),
-        Valve::new(),
-        limited(QueueChoice::Usual),
-        &acts,
-    )?;
-    assert_eq!(rt;
-        told.rows.as_str(),
-        "h p1 0 control 1 - ; ; busy 1, reply -\n\
-         m busy\n\
-         s p0 0\n\
-         h p1 1 control 2 - ; ; busy 0, reply -\n\
-         m free\n\
-         r p0 0 1\n\
-         h p0 0 command s 78 ; ; data plain 78\n"
-    );
-    assert_eq!(rt;
-        told.acts.as_str(),
-        "p1 put 0\nidle\np0 suspended\nidle\np1 put 1\nidle\np0 goes on\np0 data 78\n"
-    );
-    assert_eq!(rt;
-        told.receipts.as_str(),
-        "p0 suspended seq 0 stat 5 msgq 1\n\
-         p0 accepted seq 1 stat 8\n\
-         p1 accepted seq 0 stat 0\n\
-         p1 accepted seq 1 stat 5\n\
-         p1 accepted seq 2 stat 8\n\
-         p2 accepted seq 0 stat 8\n"
-    );
-    Ok(())
+    let wanted = [
+        Wanted::Rows(
+            "h p1 0 control 1 - ; ; busy 1, reply -\n\
+             m busy\n\
+             s p0 0\n\
+             h p1 1 control 2 - ; ; busy 0, reply -\n\
+             m free\n\
+             r p0 0 1\n\
+             h p0 0 command s 78 ; ; data plain 78\n",
+        ),
+        Wanted::Acts(
+            "p1 put 0\nidle\np0 suspended\nidle\np1 put 1\nidle\np0 goes on\np0 data 78\n",
+        ),
+        Wanted::Receipts(
+            "p0 suspended seq 0 stat 5 msgq 1\n\
+             p0 accepted seq 1 stat 8\n\
+             p1 accepted seq 0 stat 0\n\
+             p1 accepted seq 1 stat 5\n\
+             p1 accepted seq 2 stat 8\n\
+             p2 accepted seq 0 stat 8\n",
+        ),
+    ];
+    valve_shows(&rt, rt.alloc(), &acts, &wanted)
 }
 
 #[test]
@@ -65,26 +57,19 @@ fn a_sender_that_is_not_to_be_suspended_is_refused_by_a_busy_port(
         PortAct::Command(0, How::NoSuspend, b"x"),
         PortAct::Turn(64),
     ];
-    let told = play(
-        &rt,
-        rt.alloc(),
-        Valve::new(),
-        limited(QueueChoice::Usual),
-        &acts,
-    )?;
-    assert_eq!(rt;
-        told.acts.as_str(),
-        "p1 put 0\nidle\np0 stat 5\np0 dropped stat 5\np1 put 1\nidle\np0 stat 8\np0 accepted 0\nidle\n"
-    );
-    assert_eq!(rt;
-        told.rows.as_str(),
-        "h p1 0 control 1 - ; ; busy 1, reply -\n\
-         m busy\n\
-         h p1 1 control 2 - ; ; busy 0, reply -\n\
-         m free\n\
-         h p0 0 command - 78 ; ; data plain 78\n"
-    );
-    Ok(())
+    let wanted = [
+        Wanted::Acts(
+            "p1 put 0\nidle\np0 stat 5\np0 dropped stat 5\np1 put 1\nidle\np0 stat 8\np0 accepted 0\nidle\n",
+        ),
+        Wanted::Rows(
+            "h p1 0 control 1 - ; ; busy 1, reply -\n\
+             m busy\n\
+             h p1 1 control 2 - ; ; busy 0, reply -\n\
+             m free\n\
+             h p0 0 command - 78 ; ; data plain 78\n",
+        ),
+    ];
+    valve_shows(&rt, rt.alloc(), &acts, &wanted)
 }
 
 #[test]
@@ -96,22 +81,11 @@ fn a_valve_refuses_force_busy_or_not(rt: HostRuntime) -> Result<(), Fail> {
         PortAct::Command(0, How::Force, b"x"),
         PortAct::Turn(64),
     ];
-    let told = play(
-        &rt,
-        rt.alloc(),
-        Valve::new(),
-        limited(QueueChoice::Usual),
-        &acts,
-    )?;
-    assert_eq!(rt;
-        told.acts.as_str(),
-        "p0 refused force\np1 put 0\nidle\np0 refused force\nidle\n"
-    );
-    assert_eq!(rt;
-        told.rows.as_str(),
-        "h p1 0 control 1 - ; ; busy 1, reply -\nm busy\n"
-    );
-    Ok(())
+    let wanted = [
+        Wanted::Acts("p0 refused force\np1 put 0\nidle\np0 refused force\nidle\n"),
+        Wanted::Rows("h p1 0 control 1 - ; ; busy 1, reply -\nm busy\n"),
+    ];
+    valve_shows(&rt, rt.alloc(), &acts, &wanted)
 }
 
 #[test]
@@ -124,24 +98,22 @@ fn a_soft_valve_handles_force_while_it_is_busy(rt: HostRuntime) -> Result<(), Fa
         PortAct::Control(1, 2),
         PortAct::Turn(64),
     ];
-    let told = play(
+    let wanted = [
+        Wanted::Acts("p1 put 0\nidle\np0 accepted 0\nidle\np1 put 1\nidle\n"),
+        Wanted::Rows(
+            "h p1 0 control 1 - ; ; busy 1, reply -\n\
+             m busy\n\
+             h p0 0 command f 78 ; ; data plain 78\n\
+             h p1 1 control 2 - ; ; busy 0, reply -\n\
+             m free\n",
+        ),
+    ];
+    shows(
         &rt,
         rt.alloc(),
         Valve::soft(),
         limited(QueueChoice::Usual),
         &acts,
-    )?;
-    assert_eq!(rt;
-        told.acts.as_str(),
-        "p1 put 0\nidle\np0 accepted 0\nidle\np1 put 1\nidle\n"
-    );
-    assert_eq!(rt;
-        told.rows.as_str(),
-        "h p1 0 control 1 - ; ; busy 1, reply -\n\
-         m busy\n\
-         h p0 0 command f 78 ; ; data plain 78\n\
-         h p1 1 control 2 - ; ; busy 0, reply -\n\
-         m free\n"
-    );
-    Ok(())
+        &wanted,
+    )
 }

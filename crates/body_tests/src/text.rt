@@ -144,13 +144,25 @@ fn put_some(text: &mut String, word: &str, number: Option<u64>) -> Result<(), Fa
 }
 
 /// Puts the line of a receipt of a process.
-pub(crate) fn put_receipt(text: &mut String, process: u32, receipt: &Receipt) -> Result<(), Fail> {
+fn put_receipt(text: &mut String, process: u32, receipt: &Receipt) -> Result<(), Fail> {
     let name = format!(in *text.allocator(); "p{process} {}", outcome_words(receipt.outcome))?;
     text.push_str(name.as_str())?;
     put_some(text, " seq", receipt.seq)?;
     put_some(text, " stat", receipt.stat)?;
     put_some(text, " msgq", receipt.msgq)?;
     text.push_str("\n")?;
+    Ok(())
+}
+
+/// Puts the lines of the receipts of a process.
+pub(crate) fn put_receipts(
+    text: &mut String,
+    process: u32,
+    receipts: &[Receipt],
+) -> Result<(), Fail> {
+    for receipt in receipts {
+        put_receipt(text, process, receipt)?;
+    }
     Ok(())
 }
 

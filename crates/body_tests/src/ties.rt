@@ -1,8 +1,8 @@
 //! Owners, links and monitors, and the ends of processes.
 use crate::acts::PortAct;
-use crate::rig::{QueueChoice, limited, play};
+use crate::rig::{QueueChoice, Wanted, echo_shows, limited, shows};
 use process_end::How;
-use sample_drivers::{Echo, Tally};
+use sample_drivers::Tally;
 use std::test::Fail;
 
 #[test]
@@ -19,22 +19,13 @@ fn a_port_closes_with_the_end_of_its_last_owner(rt: HostRuntime) -> Result<(), F
         PortAct::Mail(0),
         PortAct::Mail(1),
     ];
-    let told = play(
-        &rt,
-        rt.alloc(),
-        Echo::new(),
-        limited(QueueChoice::Usual),
-        &acts,
-    )?;
-    assert_eq!(rt;
-        told.rows.as_str(),
-        "h p0 0 connect 1 ; ;\nh p0 1 gone normal ; ;\nh p1 0 gone normal ; ;\nm closed\n"
-    );
-    assert_eq!(rt;
-        told.acts.as_str(),
-        "p0 put 0\nidle\nidle\np2 stat 0\nfinished\np2 stat 6\np0 reply 0 true\n"
-    );
-    Ok(())
+    let wanted = [
+        Wanted::Rows(
+            "h p0 0 connect 1 ; ;\nh p0 1 gone normal ; ;\nh p1 0 gone normal ; ;\nm closed\n",
+        ),
+        Wanted::Acts("p0 put 0\nidle\nidle\np2 stat 0\nfinished\np2 stat 6\np0 reply 0 true\n"),
+    ];
+    echo_shows(&rt, rt.alloc(), &acts, &wanted)
 }
 
 #[test]
@@ -47,33 +38,26 @@ fn the_old_owner_stays_linked_and_data_goes_to_the_new_one(rt: HostRuntime) -> R
         PortAct::Mail(0),
         PortAct::Mail(2),
     ];
-    let told = play(
-        &rt,
-        rt.alloc(),
-        Echo::new(),
-        limited(QueueChoice::Usual),
-        &acts,
-    )?;
-    assert_eq!(rt;
-        told.rows.as_str(),
-        "h p0 0 ownerconnect 2 ; ;\n\
-         h p1 0 command - 78 ; ; data plain 78\n\
-         h p2 0 ownerclose ; ;\n\
-         m closed\n"
-    );
-    assert_eq!(rt;
-        told.acts.as_str(),
-        "p0 put 0\n\
-         p1 accepted 0\n\
-         p2 put 0\n\
-         finished\n\
-         p0 connected\n\
-         p0 exit normal\n\
-         p2 data 78\n\
-         p2 exit normal\n\
-         p2 closed\n"
-    );
-    Ok(())
+    let wanted = [
+        Wanted::Rows(
+            "h p0 0 ownerconnect 2 ; ;\n\
+             h p1 0 command - 78 ; ; data plain 78\n\
+             h p2 0 ownerclose ; ;\n\
+             m closed\n",
+        ),
+        Wanted::Acts(
+            "p0 put 0\n\
+             p1 accepted 0\n\
+             p2 put 0\n\
+             finished\n\
+             p0 connected\n\
+             p0 exit normal\n\
+             p2 data 78\n\
+             p2 exit normal\n\
+             p2 closed\n",
+        ),
+    ];
+    echo_shows(&rt, rt.alloc(), &acts, &wanted)
 }
 
 #[test]
@@ -87,26 +71,19 @@ fn a_monitor_tells_the_end_of_a_port_until_it_is_taken_away(rt: HostRuntime) -> 
         PortAct::Mail(1),
         PortAct::Monitor(1, 2),
     ];
-    let told = play(
-        &rt,
-        rt.alloc(),
-        Echo::new(),
-        limited(QueueChoice::Usual),
-        &acts,
-    )?;
-    assert_eq!(rt;
-        told.rows.as_str(),
-        "h p1 0 monitor 0 ; ;\n\
-         h p1 1 monitor 1 ; ;\n\
-         h p1 2 demonitor 0 ; ;\n\
-         h p0 0 close ; ;\n\
-         m closed\n"
-    );
-    assert_eq!(rt;
-        told.acts.as_str(),
-        "p1 put 0\np1 put 1\np1 put 2\np0 put 0\nfinished\np1 down 1 normal\np1 refused closed 1\n"
-    );
-    Ok(())
+    let wanted = [
+        Wanted::Rows(
+            "h p1 0 monitor 0 ; ;\n\
+             h p1 1 monitor 1 ; ;\n\
+             h p1 2 demonitor 0 ; ;\n\
+             h p0 0 close ; ;\n\
+             m closed\n",
+        ),
+        Wanted::Acts(
+            "p1 put 0\np1 put 1\np1 put 2\np0 put 0\nfinished\np1 down 1 normal\np1 refused closed 1\n",
+        ),
+    ];
+    echo_shows(&rt, rt.alloc(), &acts, &wanted)
 }
 
 #[test]
@@ -119,22 +96,11 @@ fn a_link_or_a_monitor_of_a_closed_port_is_told(rt: HostRuntime) -> Result<(), F
         PortAct::Mail(1),
         PortAct::Mail(2),
     ];
-    let told = play(
-        &rt,
-        rt.alloc(),
-        Echo::new(),
-        limited(QueueChoice::Usual),
-        &acts,
-    )?;
-    assert_eq!(rt;
-        told.rows.as_str(),
-        "h p0 0 close ; ;\nm closed\nl p1 0 link\nl p2 0 monitor 7\n"
-    );
-    assert_eq!(rt;
-        told.acts.as_str(),
-        "p0 put 0\np1 put 0\np2 put 0\nfinished\np1 exit noproc\np2 down 7 noproc\n"
-    );
-    Ok(())
+    let wanted = [
+        Wanted::Rows("h p0 0 close ; ;\nm closed\nl p1 0 link\nl p2 0 monitor 7\n"),
+        Wanted::Acts("p0 put 0\np1 put 0\np2 put 0\nfinished\np1 exit noproc\np2 down 7 noproc\n"),
+    ];
+    echo_shows(&rt, rt.alloc(), &acts, &wanted)
 }
 
 #[test]
@@ -148,29 +114,20 @@ fn another_who_uses_a_form_of_the_owner_is_a_bad_signal(rt: HostRuntime) -> Resu
         PortAct::Mail(1),
         PortAct::Look(1),
     ];
-    let told = play(
-        &rt,
-        rt.alloc(),
-        Echo::new(),
-        limited(QueueChoice::Usual),
-        &acts,
-    )?;
-    assert_eq!(rt;
-        told.rows.as_str(),
-        "h p1 0 send - 78 ; ;\nh p1 1 ownerclose ; ;\nh p1 2 ownerconnect 1 ; ;\n"
-    );
-    assert_eq!(rt;
-        told.acts.as_str(),
-        "p1 accepted 0\n\
-         p1 put 1\n\
-         p1 put 2\n\
-         idle\n\
-         p0 exit badsig\n\
-         p0 exit badsig\n\
-         p0 exit badsig\n\
-         p1 stat 0\n"
-    );
-    Ok(())
+    let wanted = [
+        Wanted::Rows("h p1 0 send - 78 ; ;\nh p1 1 ownerclose ; ;\nh p1 2 ownerconnect 1 ; ;\n"),
+        Wanted::Acts(
+            "p1 accepted 0\n\
+             p1 put 1\n\
+             p1 put 2\n\
+             idle\n\
+             p0 exit badsig\n\
+             p0 exit badsig\n\
+             p0 exit badsig\n\
+             p1 stat 0\n",
+        ),
+    ];
+    echo_shows(&rt, rt.alloc(), &acts, &wanted)
 }
 
 #[test]
@@ -182,22 +139,11 @@ fn a_process_that_is_gone_becomes_no_owner(rt: HostRuntime) -> Result<(), Fail> 
         PortAct::Turn(64),
         PortAct::Mail(0),
     ];
-    let told = play(
-        &rt,
-        rt.alloc(),
-        Echo::new(),
-        limited(QueueChoice::Usual),
-        &acts,
-    )?;
-    assert_eq!(rt;
-        told.rows.as_str(),
-        "h p1 0 gone done ; ;\nh p0 0 connect 1 ; ;\nh p0 1 ownerconnect 1 ; ;\n"
-    );
-    assert_eq!(rt;
-        told.acts.as_str(),
-        "p0 put 0\np0 put 1\nidle\np0 reply 0 badarg\np0 exit badsig\n"
-    );
-    Ok(())
+    let wanted = [
+        Wanted::Rows("h p1 0 gone done ; ;\nh p0 0 connect 1 ; ;\nh p0 1 ownerconnect 1 ; ;\n"),
+        Wanted::Acts("p0 put 0\np0 put 1\nidle\np0 reply 0 badarg\np0 exit badsig\n"),
+    ];
+    echo_shows(&rt, rt.alloc(), &acts, &wanted)
 }
 
 #[test]
@@ -214,26 +160,17 @@ fn a_linked_process_closes_a_port_but_where_it_ends_normally(rt: HostRuntime) ->
         PortAct::Mail(1),
         PortAct::Mail(2),
     ];
-    let told = play(
-        &rt,
-        rt.alloc(),
-        Echo::new(),
-        limited(QueueChoice::Usual),
-        &acts,
-    )?;
-    assert_eq!(rt;
-        told.rows.as_str(),
-        "h p1 0 link ; ;\n\
-         h p2 0 link ; ;\n\
-         h p1 1 gone normal ; ;\n\
-         h p2 1 gone crash ; ;\n\
-         m closed\n"
-    );
-    assert_eq!(rt;
-        told.acts.as_str(),
-        "p1 put 0\np2 put 0\nidle\np0 stat 0\nfinished\np0 exit crash\n"
-    );
-    Ok(())
+    let wanted = [
+        Wanted::Rows(
+            "h p1 0 link ; ;\n\
+             h p2 0 link ; ;\n\
+             h p1 1 gone normal ; ;\n\
+             h p2 1 gone crash ; ;\n\
+             m closed\n",
+        ),
+        Wanted::Acts("p1 put 0\np2 put 0\nidle\np0 stat 0\nfinished\np0 exit crash\n"),
+    ];
+    echo_shows(&rt, rt.alloc(), &acts, &wanted)
 }
 
 #[test]
@@ -247,26 +184,17 @@ fn an_exit_signal_closes_a_port_but_a_normal_one_of_another(rt: HostRuntime) -> 
         PortAct::Mail(0),
         PortAct::Mail(1),
     ];
-    let told = play(
-        &rt,
-        rt.alloc(),
-        Echo::new(),
-        limited(QueueChoice::Usual),
-        &acts,
-    )?;
-    assert_eq!(rt;
-        told.rows.as_str(),
-        "h p1 0 link ; ;\n\
-         h p1 1 exit normal ; ;\n\
-         h p1 2 unlink ; ;\n\
-         h p2 0 exit stop ; ;\n\
-         m closed\n"
-    );
-    assert_eq!(rt;
-        told.acts.as_str(),
-        "p1 put 0\np1 put 1\np1 put 2\np2 put 0\nfinished\np0 exit stop\n"
-    );
-    Ok(())
+    let wanted = [
+        Wanted::Rows(
+            "h p1 0 link ; ;\n\
+             h p1 1 exit normal ; ;\n\
+             h p1 2 unlink ; ;\n\
+             h p2 0 exit stop ; ;\n\
+             m closed\n",
+        ),
+        Wanted::Acts("p1 put 0\np1 put 1\np1 put 2\np2 put 0\nfinished\np0 exit stop\n"),
+    ];
+    echo_shows(&rt, rt.alloc(), &acts, &wanted)
 }
 
 #[test]
@@ -278,19 +206,20 @@ fn a_driver_is_told_of_the_end_of_a_process_that_it_watches(rt: HostRuntime) -> 
         PortAct::Turn(64),
         PortAct::Mail(0),
     ];
-    let told = play(
+    let wanted = [
+        Wanted::Rows(
+            "h p1 0 control 2 - ; ; watch 1, reply -\n\
+             h p1 1 gone normal ; ; data plain 01\n\
+             h p2 0 gone normal ; ;\n",
+        ),
+        Wanted::Acts("p1 put 0\nidle\np0 data 01\n"),
+    ];
+    shows(
         &rt,
         rt.alloc(),
         Tally::new(),
         limited(QueueChoice::Usual),
         &acts,
-    )?;
-    assert_eq!(rt;
-        told.rows.as_str(),
-        "h p1 0 control 2 - ; ; watch 1, reply -\n\
-         h p1 1 gone normal ; ; data plain 01\n\
-         h p2 0 gone normal ; ;\n"
-    );
-    assert_eq!(rt; told.acts.as_str(), "p1 put 0\nidle\np0 data 01\n");
-    Ok(())
+        &wanted,
+    )
 }
