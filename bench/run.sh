@@ -19,8 +19,9 @@
 #     program_cat                                                   bytes through `cat`, and then, as cat_alone, what `cat` takes by itself
 #     gateway_run                                                   whole runs of the program
 #     gateway_replay                                                whole replays of the journals of such runs
+#     beside_erlang                                                 whole runs beside the same work by Erlang/OTP, where `erl` is there
 #
-# bench/beside_erlang.py times whole runs beside the same work by Erlang/OTP.
+# The rows of `beside_erlang` have a form of their own: bench/beside_erlang.py tells it, and what each row is; N is how many runs a figure is the median of.
 #
 # The rows of `schedulers` are of 1, 2 and 4 schedulers, each of as many commands, and have more words at their end. The row of `schedulers_idle` has its
 # own form. crates/port_bench/src/main.rt tells both.
@@ -125,9 +126,11 @@ built() {
 case "${1:-all}" in
 gateway_run) time_program "${2:-2000}" "${@:3}" ;;
 gateway_replay) time_replay "${2:-2000}" ;;
+beside_erlang) "$here/bench/beside_erlang.py" "$program" "${2:-15}" ;;
 program_cat) built program_bench "${2:-8388608}" && time_cat "${2:-8388608}" ;;
 body_echo | body_waits | body_freed | schedulers | schedulers_idle) built port_bench "$@" ;;
-all) built bench all && built port_bench all && built program_bench 8388608 && time_cat 8388608 && time_program 2000 && time_replay 2000 ;;
+all) built bench all && built port_bench all && built program_bench 8388608 && time_cat 8388608 && time_program 2000 && time_replay 2000 &&
+    "$here/bench/beside_erlang.py" "$program" ;;
 terms_encode | terms_decode | vector_skip | queue_deq | queue_pushq | script_read) built bench "$@" ;;
 unframe_packets | unframe_lines | unframe_stream | unframe_packets_bytewise | unframe_lines_bytewise | unframe_stream_bytewise) built bench "$@" ;;
 *)
