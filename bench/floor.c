@@ -7,7 +7,7 @@
 #include <string.h>
 #include <time.h>
 
-enum { PROCESSES = 8, PORTS = 4, COMMANDS = 2000, TURN = 8, BLOCK = 31, PARCEL = 136, ROW = 200, EFFECT = 64, MAIL = 64, RECEIPT = 64 };
+enum { PROCESSES = 8, PORTS = 4, COMMANDS = 2000, TURN = 8, BLOCK = 31, PARCEL = 96, ROW = 160, EFFECT = 64, MAIL = 64, RECEIPT = 64 };
 
 struct list { char *items; size_t count, room; };
 struct block { struct block *next; char items[]; };

@@ -51,7 +51,11 @@ fn feed_all(alloc: Global, mode: Mode, text: &Piece, chunk_len: usize) -> Result
     let mut unframer = Unframer::new(alloc, mode);
     let mut messages = 0usize;
     let mut rest = text.share()?;
-    while !rest.is_empty() {
+    // Each chunk has one byte at least.
+    for _ in 0..text.len() {
+        if rest.is_empty() {
+            break;
+        }
         let len = chunk_len.max(1).min(rest.len());
         messages = messages.saturating_add(unframer.feed(&rest.part(0, len)?)?.len());
         rest.advance(len);
