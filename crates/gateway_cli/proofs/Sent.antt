@@ -6,7 +6,7 @@ use denote.Param.SendFields.{as_row_send, declared_send}
 use Rattle.std.proofs.Crossing.{crosses}
 use Rattle.crossbeam_channel.proofs.channel.Receiver.TheSendSync as receiver_sent
 use Rattle.crossbeam_channel.proofs.channel.Sender.TheSendSync as sender_sent
-use Rattle.outside_programs.specs.contracts.threads.Output as told
+use Rattle.outside_programs.specs.contracts.threads.OutputPart as told
 use Rattle.outside_programs.specs.contracts.ends.InputEnd as input
 use Rattle.outside_programs.specs.contracts.ends.OutputEnd as output
 use Rattle.outside_programs.specs.contracts.counts.Counts as counts
