@@ -31,7 +31,7 @@ SIZE = 33_554_432
 
 
 def run(words, **how):
-    """Runs a process: its microseconds, its microseconds of processor time, and its most memory in bytes."""
+    """Runs a process: its microseconds, and its microseconds of processor time."""
     began = time.perf_counter()
     child = subprocess.Popen(words, stdout=subprocess.DEVNULL, **how)
     _, status, used = os.wait4(child.pid, 0)
@@ -39,7 +39,13 @@ def run(words, **how):
     took = (time.perf_counter() - began) * 1e6
     if child.returncode:
         sys.exit(f"{' '.join(words)} ended with status {child.returncode}")
-    return took, (used.ru_utime + used.ru_stime) * 1e6, used.ru_maxrss * 1024
+    return took, (used.ru_utime + used.ru_stime) * 1e6
+
+
+def most_memory(words):
+    """The most memory of a process, in bytes, as GNU time tells it: what the kernel tells of a child of this script has the script's own memory in it."""
+    told = subprocess.run(["/usr/bin/time", "-f", "%M", *words], stdout=subprocess.DEVNULL, stderr=subprocess.PIPE, check=True, text=True)
+    return int(told.stderr.split()[-1]) * 1024
 
 
 def median(runs, words, part=0, **how):
@@ -113,7 +119,8 @@ def time_load(program, runs, erlang):
 def time_growth(program, runs):
     few, many = write("few.txt", commands(16_384)), write("many.txt", commands(131_072))
     row("growth", median(runs, [program, "run", many, "1", "1"]) * 100 / median(runs, [program, "run", few, "1", "1"]))
-    more = median(3, [program, "run", many, "1", "1"], 2) - median(3, [program, "run", few, "1", "1"], 2)
+    most = [statistics.median(most_memory([program, "run", script, "1", "1"]) for _ in range(3)) for script in (many, few)]
+    more = most[0] - most[1]
     row("memory", more / (131_072 - 16_384))
 
 
@@ -132,7 +139,7 @@ def time_cat(program, runs, erlang):
         row(f"cat_{name}", median(runs, [program, "run", script]), erlang.told(1, "filter", name, "in.txt", min(runs, 5)))
         if open("in.txt", "rb").read() != open("out.txt", "rb").read():
             sys.exit(f"the file that came back as {name} isn't the same")
-    row("cat_memory", median(3, [program, "run", "stream.txt"], 2) * 100 / SIZE)
+    row("cat_memory", statistics.median(most_memory([program, "run", "stream.txt"]) for _ in range(3)) * 100 / SIZE)
     subprocess.run(["gcc", "-O2", "-o", "pump", f"{HERE}/erlang/pump.c"], check=True)
     row("cat_floor", median(runs, ["./pump", "in.txt", "floor.txt"]))
 
