@@ -6,12 +6,15 @@
 PROGRAM is the built program; a gate leaves one in crates/gateway_cli/out/gateway_cli. Each figure is the median of RUNS runs, 15 if nothing is said, made by turns. A row
 has a name, the project's figure, that of Erlang/OTP, and the project's in percent of it. Nothing checks a figure.
 
-  load_1, load_4       16,000 commands of 8 processes at 4 echo ports, with 1 and 4 schedulers, in microseconds: `load 7` less a run of the same processes and
-                       ports without commands; by Erlang/OTP from the first command to the last data, with a linked-in driver in C
+  load_1, load_4       16,000 commands of 8 processes at 4 echo ports, with 1 and 4 schedulers, in microseconds: of `load 7` the time for which it has threads, from
+                       the first that is made to the end of the last, so a little more than from the first command to the last data; by Erlang/OTP from the first
+                       command to the last data, with a linked-in driver in C
   load_floor           the puts, takes, copies and lists of these commands in C on one thread, with records as large as the project's, in microseconds
   load_process         `load 7` with 1 scheduler, the whole process, in microseconds; and that of `erl`
   growth               131,072 commands of 8 bytes at an echo port in percent of 16,384
-  memory               bytes that a run keeps a command, from the difference of the two
+  memory               bytes that a run keeps a command of 8 bytes at an echo port with the limits that it has where nothing is said, from the difference of runs of
+                       131,072 and 16,384
+  memory_off           the same without limits, so that commands may lie in the lane before they are handled: the two of `growth`
   replay               the journal of 16,000 commands replayed, the whole process, in microseconds
   cat_stream, cat_line 33,554,432 bytes in lines through `cat` in stream mode and as lines, and saved, in microseconds
   cat_floor            the same bytes through `cat` by two pipes in C
@@ -52,6 +55,21 @@ def median(runs, words, part=0, **how):
     return statistics.median(run(words, **how)[part] for _ in range(runs))
 
 
+class Span:
+    """For how long a run of the program has threads, by a library that is built in the folder of this bench. One thread, which serves programs, is made before a run."""
+
+    def __init__(self):
+        subprocess.run(["gcc", "-O2", "-shared", "-fPIC", "-o", "thread_span.so", f"{HERE}/thread_span.c"], check=True)
+        self.environment = dict(os.environ, LD_PRELOAD=os.path.realpath("thread_span.so"), SPAN=os.path.realpath("span"), BEHIND="1")
+
+    def once(self, words):
+        with open("span", "wb") as it:
+            it.write(bytes(8))
+        run(words, env=self.environment)
+        with open("span", "rb") as it:
+            return int.from_bytes(it.read(), sys.byteorder)
+
+
 def row(name, ours, theirs=None):
     ratio = f" {ours * 100 / theirs:.0f}" if theirs else ""
     print(f"{name} {ours:.0f} {f'{theirs:.0f}' if theirs else '-'}{ratio}", flush=True)
@@ -63,10 +81,10 @@ def write(name, text):
     return name
 
 
-def commands(count, journal=""):
+def commands(count, journal="", limits=" msgq off"):
     """A script of one process that sends so many commands of 8 bytes, the pieces of a file, to an echo port, and waits for what comes back."""
     write(f"bytes{count}", "abcdefgh" * count)
-    lines = [journal] * bool(journal) + ["process a", "port p a echo msgq off", f'a file p 8 "bytes{count}"', f"a expect p {count}"]
+    lines = [journal] * bool(journal) + ["process a", f"port p a echo{limits}", f'a file p 8 "bytes{count}"', f"a expect p {count}"]
     return "\n".join(lines) + "\n"
 
 
@@ -104,24 +122,34 @@ class Erlang:
 
 
 def time_load(program, runs, erlang):
-    parts = [f"process a{at}" for at in range(8)] + [f"port q{at} a{at} echo" for at in range(4)]
-    empty = write("empty.txt", "\n".join(parts) + "\n")
-    for schedulers in ("1", "4"):
-        whole = median(runs, [program, "load", "7", schedulers, "1"])
-        start = median(runs, [program, "run", empty, schedulers, "1"])
-        row(f"load_{schedulers}", whole - start, erlang.told(schedulers, "load", 7, runs))
-        if schedulers == "1":
-            row("load_process", whole, median(runs, erlang.words(1, "load", 7, 1)) if erlang.found else None)
+    """Makes all works of a round one after another, since the machine may be faster in one minute than in the next."""
     subprocess.run(["gcc", "-O2", "-o", "floor", f"{HERE}/floor.c"], check=True)
-    row("load_floor", statistics.median(float(subprocess.run(["./floor", "7"], check=True, capture_output=True).stdout) for _ in range(runs)))
+    span, rounds = Span(), []
+    for _ in range(runs):
+        times = {"load_floor": float(subprocess.run(["./floor", "7"], check=True, capture_output=True).stdout)}
+        for schedulers in ("1", "4"):
+            name, words = f"load_{schedulers}", [program, "load", "7", schedulers, "1"]
+            times[name], times[f"{name}_erlang"] = span.once(words), erlang.told(schedulers, "load", 7, 3)
+        times["load_process"] = run([program, "load", "7", "1", "1"])[0]
+        times["load_process_erlang"] = run(erlang.words(1, "load", 7, 1))[0] if erlang.found else None
+        rounds.append(times)
+    middle = {name: time and statistics.median(it[name] for it in rounds) for name, time in rounds[0].items()}
+    for name in ("load_1", "load_4", "load_process", "load_floor"):
+        row(name, middle[name], middle.get(f"{name}_erlang"))
+
+
+def kept(program, limits):
+    """The bytes that a run keeps a command."""
+    scripts = [write(f"kept{count}.txt", commands(count, limits=limits)) for count in (131_072, 16_384)]
+    most = [statistics.median(most_memory([program, "run", script, "1", "1"]) for _ in range(3)) for script in scripts]
+    return (most[0] - most[1]) / (131_072 - 16_384)
 
 
 def time_growth(program, runs):
     few, many = write("few.txt", commands(16_384)), write("many.txt", commands(131_072))
     row("growth", median(runs, [program, "run", many, "1", "1"]) * 100 / median(runs, [program, "run", few, "1", "1"]))
-    most = [statistics.median(most_memory([program, "run", script, "1", "1"]) for _ in range(3)) for script in (many, few)]
-    more = most[0] - most[1]
-    row("memory", more / (131_072 - 16_384))
+    row("memory", kept(program, ""))
+    row("memory_off", kept(program, " msgq off"))
 
 
 def time_replay(program, runs):
