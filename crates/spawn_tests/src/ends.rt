@@ -5,15 +5,19 @@ use packet_framing::Mode;
 use std::alloc::Global;
 use std::test::Fail;
 
-/// Whether a port with these options records the end of a program that gave nothing and has status 3 so.
+/// A program that gives nothing and ends with the status 3.
+fn ended(alloc: Global) -> MemProgram {
+    let mut program = MemProgram::new(alloc, 1);
+    program.end(3);
+    program
+}
+
+/// Whether a port with these options records the end of that program so.
 fn ends(alloc: Global, eof: bool, exit_status: bool, wanted: &[u8]) -> Result<bool, Fail> {
     let mut config = options(alloc, Mode::Stream)?;
     config.eof = eof;
     config.exit_status = exit_status;
-    let mut program = MemProgram::new(alloc, 1);
-    program.end(3);
-    let mut port = serve(alloc, program, &config)?;
-    port.reads(alloc, wanted)
+    serve(alloc, ended(alloc), &config)?.reads_once(wanted)
 }
 
 #[test]

@@ -1,13 +1,13 @@
 //! Failures of the outside, each alone.
-ghost use Rattle.std.specs.Prelude.{◌≡◌, IfOk};
+ghost use Rattle.std.specs.Prelude.{◌≡◌};
 ghost use Rattle.outside.specs.Programs.{shown};
 
-use crate::port::{ProgramPort, fresh_context, options, spawner};
+use crate::port::{ProgramPort, options, spawner, start};
 use outside::{MemChild, MemProgram, MemSpawner, NoMemory, SpawnFault, Spawner};
 use packet_framing::Mode;
-use port_driver::{Driver, Life, StartRefusal};
+use port_driver::{Driver, StartRefusal};
 use port_model::Piece;
-use spawn_driver::{SpawnDriver, spawn_driver};
+use spawn_driver::spawn_driver;
 use std::alloc::Global;
 use std::test::Fail;
 
@@ -52,55 +52,47 @@ impl Spawner for FaultySpawner {
     }
 }
 
-/// A port of a program that ends at once, in whose queue is `abc`. The planned call is to fail.
-fn faulty(alloc: Global, planned: Planned) -> Result<ProgramPort<SpawnDriver<FaultySpawner>>, Fail>
-    ensures { IfOk result (λ port. port.driver.life ≡ Life.Started) }
-{
+/// What starts a program that ends at once with the status 3. The planned call is to fail.
+fn faulty_spawner(alloc: Global, planned: Planned) -> Result<FaultySpawner, Fail> {
     let mut program = MemProgram::new(alloc, 2);
     program.end(3);
     let spawner = spawner(alloc, program)?;
-    let faulty = FaultySpawner { spawner, planned };
+    Ok(FaultySpawner { spawner, planned })
+}
+
+/// A port that this fresh driver of a program serves, in whose queue is `abc`.
+fn filled<D: Driver>(alloc: Global, driver: D) -> Result<ProgramPort<D>, Fail> {
     let mut config = options(alloc, Mode::Stream)?;
     config.exit_status = true;
-    let mut port = ProgramPort::open(alloc, spawn_driver(faulty), &config)?;
-    port.takes(alloc, b"abc", b"write on;")?;
+    let mut port = ProgramPort::open(alloc, driver, &config)?;
+    port.takes(b"abc", b"write on;")?;
     Ok(port)
 }
 
 /// Whether a call because there is room to write is recorded so, and leaves nothing queued.
-fn writes_last<D: Driver>(
-    alloc: Global,
-    port: &mut ProgramPort<D>,
-    wanted: &[u8],
-) -> Result<bool, Fail>
-    requires { D.stage port.old.driver ≡ Life.Started }
-{
-    let shows = port.writes(alloc, wanted)?;
+fn writes_last<D: Driver>(alloc: Global, driver: D, wanted: &[u8]) -> Result<bool, Fail> {
+    let mut port = filled(alloc, driver)?;
+    let shows = port.writes(wanted)?;
     Ok(shows && port.is_drained())
 }
 
 /// Whether a call because there is something to read is recorded so, and leaves nothing queued.
-fn reads_last<D: Driver>(
-    alloc: Global,
-    port: &mut ProgramPort<D>,
-    wanted: &[u8],
-) -> Result<bool, Fail>
-    requires { D.stage port.old.driver ≡ Life.Started }
-{
-    let shows = port.reads(alloc, wanted)?;
+fn reads_last<D: Driver>(alloc: Global, driver: D, wanted: &[u8]) -> Result<bool, Fail> {
+    let mut port = filled(alloc, driver)?;
+    let shows = port.reads(wanted)?;
     Ok(shows && port.is_drained())
 }
 
 /// Whether an offer that fails is recorded so.
 fn a_failing_offer_shows(alloc: Global, wanted: &[u8]) -> Result<bool, Fail> {
-    let mut port = faulty(alloc, Planned::Offer)?;
-    writes_last(alloc, &mut port, wanted)
+    let spawner = faulty_spawner(alloc, Planned::Offer)?;
+    writes_last(alloc, spawn_driver(spawner), wanted)
 }
 
 /// Whether a fetch or a status that fails is recorded so.
 fn a_failing_read_shows(alloc: Global, planned: Planned, wanted: &[u8]) -> Result<bool, Fail> {
-    let mut port = faulty(alloc, planned)?;
-    reads_last(alloc, &mut port, wanted)
+    let spawner = faulty_spawner(alloc, planned)?;
+    reads_last(alloc, spawn_driver(spawner), wanted)
 }
 
 #[test]
@@ -122,20 +114,22 @@ fn a_status_that_fails_is_not_sent(rt: HostRuntime) -> Result<(), Fail> {
     Ok(())
 }
 
-/// How a driver of this spawner refuses to start with this command text.
-fn refusal(alloc: Global, spawner: MemSpawner, run: &[u8]) -> Result<Option<StartRefusal>, Fail> {
+/// How a fresh driver refuses to start with this command text, if it does.
+fn refusal<D: Driver>(
+    alloc: Global,
+    mut driver: D,
+    run: &[u8],
+) -> Result<Option<StartRefusal>, Fail> {
     let mut config = options(alloc, Mode::Stream)?;
     config.run = Piece::of_slice(alloc, run)?;
-    let mut driver = spawn_driver(spawner);
-    let mut ctx = fresh_context(alloc)?;
-    Ok(driver.start(alloc, &mut ctx, &config).err())
+    Ok(start(alloc, &mut driver, &config)?.err())
 }
 
 /// Whether a start that fails is told as a fault.
 fn a_failing_start_is_told(alloc: Global) -> Result<bool, Fail> {
     let mut failing = spawner(alloc, MemProgram::new(alloc, 1))?;
     failing.fail_start(0)?;
-    Ok(refusal(alloc, failing, b"program")? == Some(StartRefusal::StartFault))
+    Ok(refusal(alloc, spawn_driver(failing), b"program")? == Some(StartRefusal::StartFault))
 }
 
 #[test]
@@ -147,7 +141,7 @@ fn a_start_that_fails_is_a_fault(rt: HostRuntime) -> Result<(), Fail> {
 /// Whether a command text of spaces is refused.
 fn a_blank_text_is_refused(alloc: Global) -> Result<bool, Fail> {
     let blank = spawner(alloc, MemProgram::new(alloc, 1))?;
-    Ok(refusal(alloc, blank, b"  ")? == Some(StartRefusal::Badarg))
+    Ok(refusal(alloc, spawn_driver(blank), b"  ")? == Some(StartRefusal::Badarg))
 }
 
 #[test]

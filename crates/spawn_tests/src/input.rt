@@ -28,11 +28,7 @@ fn reads(
     first: &[u8],
     second: &[u8],
 ) -> Result<bool, Fail> {
-    let mut port = framed(alloc, program, mode)?;
-    if !port.reads(alloc, first)? {
-        return Ok(false);
-    }
-    port.reads(alloc, second)
+    framed(alloc, program, mode)?.reads_twice(first, second)
 }
 
 #[test]

@@ -1,40 +1,43 @@
 //! What a program is given.
-ghost use Rattle.std.specs.Prelude.{◌≡◌};
-
 use crate::port::{ProgramPort, framed, options, serve};
 use outside::MemProgram;
 use packet_framing::Mode;
-use port_driver::{Driver, Life};
+use port_driver::Driver;
 use std::alloc::Global;
 use std::test::Fail;
 
+/// Whether three bytes are taken in two calls because there is room to write.
+fn is_emptied_in_two<D: Driver>(mut port: ProgramPort<D>) -> Result<bool, Fail> {
+    let filled = port.takes(b"abc", b"write on;")?;
+    let kept = port.writes(b"took 2;")?;
+    let emptied = port.writes(b"took 1;write off;")?;
+    Ok(filled && kept && emptied)
+}
+
+/// Whether a program that takes two bytes of an offer takes three in two calls.
+fn takes_two_and_one(alloc: Global) -> Result<bool, Fail> {
+    is_emptied_in_two(framed(alloc, MemProgram::new(alloc, 2), Mode::Stream)?)
+}
+
 #[test]
 fn a_program_takes_of_one_offer_what_it_can(rt: HostRuntime) -> Result<(), Fail> {
-    let alloc = rt.alloc();
-    let mut port = framed(alloc, MemProgram::new(alloc, 2), Mode::Stream)?;
-    assert!(rt; port.takes(alloc, b"abc", b"write on;")?);
-    assert!(rt; port.writes(alloc, b"took 2;")?);
-    assert!(rt; port.writes(alloc, b"took 1;write off;")?);
+    assert!(rt; takes_two_and_one(rt.alloc())?);
     Ok(())
 }
 
 /// Whether two commands select the write event once and queue these bytes.
-fn queues_both<D: Driver>(
-    alloc: Global,
-    port: &mut ProgramPort<D>,
-    queued: &[u8],
-) -> Result<bool, Fail>
-    requires { D.stage port.old.driver ≡ Life.Started }
-{
-    let first = port.takes(alloc, b"ab", b"write on;")?;
-    let second = port.takes(alloc, b"c", b"")?;
+fn queues_both<D: Driver>(mut port: ProgramPort<D>, queued: &[u8]) -> Result<bool, Fail> {
+    let first = port.takes(b"ab", b"write on;")?;
+    let second = port.takes(b"c", b"")?;
     Ok(first && second && port.has_queued(queued)?)
 }
 
 /// Whether two commands of packets select the write event once and queue these bytes.
 fn queues_packets(alloc: Global, queued: &[u8]) -> Result<bool, Fail> {
-    let mut port = framed(alloc, MemProgram::new(alloc, 2), Mode::Packet2)?;
-    queues_both(alloc, &mut port, queued)
+    queues_both(
+        framed(alloc, MemProgram::new(alloc, 2), Mode::Packet2)?,
+        queued,
+    )
 }
 
 #[test]
@@ -46,20 +49,18 @@ fn a_second_command_selects_nothing_more(rt: HostRuntime) -> Result<(), Fail> {
 /// Whether data of so many bytes is recorded so.
 fn takes_many<D: Driver>(
     alloc: Global,
-    port: &mut ProgramPort<D>,
+    mut port: ProgramPort<D>,
     count: usize,
     wanted: &[u8],
-) -> Result<bool, Fail>
-    requires { D.stage port.old.driver ≡ Life.Started }
-{
+) -> Result<bool, Fail> {
     let bytes = vec![in alloc; b'a'; count]?;
-    port.takes(alloc, bytes.as_slice(), wanted)
+    port.takes(bytes.as_slice(), wanted)
 }
 
 /// Whether data of so many bytes is recorded so where its length has one byte.
 fn takes_long(alloc: Global, count: usize, wanted: &[u8]) -> Result<bool, Fail> {
-    let mut port = framed(alloc, MemProgram::new(alloc, 2), Mode::Packet1)?;
-    takes_many(alloc, &mut port, count, wanted)
+    let port = framed(alloc, MemProgram::new(alloc, 2), Mode::Packet1)?;
+    takes_many(alloc, port, count, wanted)
 }
 
 #[test]
@@ -75,12 +76,10 @@ fn data_of_256_bytes_is_too_long_for_one_byte_of_length(rt: HostRuntime) -> Resu
 }
 
 /// Whether three bytes make a port busy, and two that are taken free it.
-fn is_filled_and_freed<D: Driver>(alloc: Global, port: &mut ProgramPort<D>) -> Result<bool, Fail>
-    requires { D.stage port.old.driver ≡ Life.Started }
-{
-    let filled = port.takes(alloc, b"abc", b"write on;busy;")?;
-    let kept = port.writes(alloc, b"took 1;")?;
-    let freed = port.writes(alloc, b"took 1;free;")?;
+fn is_filled_and_freed<D: Driver>(mut port: ProgramPort<D>) -> Result<bool, Fail> {
+    let filled = port.takes(b"abc", b"write on;busy;")?;
+    let kept = port.writes(b"took 1;")?;
+    let freed = port.writes(b"took 1;free;")?;
     Ok(filled && kept && freed)
 }
 
@@ -89,8 +88,7 @@ fn is_busy_and_free(alloc: Global) -> Result<bool, Fail> {
     let mut config = options(alloc, Mode::Stream)?;
     config.busy_low = 2;
     config.busy_high = 3;
-    let mut port = serve(alloc, MemProgram::new(alloc, 1), &config)?;
-    is_filled_and_freed(alloc, &mut port)
+    is_filled_and_freed(serve(alloc, MemProgram::new(alloc, 1), &config)?)
 }
 
 #[test]

@@ -1,14 +1,15 @@
 //! A port of a program of memory, to whose driver callbacks are made one after another, and what they show.
-ghost use Rattle.std.specs.Prelude.{◌≡◌, [], IfOk, OnOk};
+ghost use Rattle.std.specs.Prelude.{◌≡◌, [], IfOk};
 
-use crate::shown::shown;
+use crate::shown::shows;
 use driver_queue::DriverQueue;
 use outside::{MemProgram, MemSpawner};
 use packet_framing::Mode;
-use port_driver::{Config, Driver, DriverCtx, Life};
+use port_driver::{Config, Driver, DriverCtx, Life, StartRefusal};
 use port_model::{IoVec, Piece};
 use spawn_driver::{SpawnDriver, spawn_driver};
 use std::alloc::Global;
+use std::mem;
 use std::test::Fail;
 
 /// The read event of the program.
@@ -16,13 +17,6 @@ const READ: u32 = 10;
 
 /// The write event of the program.
 const WRITE: u32 = 11;
-
-/// A started driver and its queue.
-#[derive(Drop)]
-pub(crate) struct ProgramPort<D: Driver> {
-    driver: D,
-    queue: DriverQueue,
-}
 
 /// The options of a port of a program, with this framing.
 pub(crate) fn options(alloc: Global, mode: Mode) -> Result<Config, Fail> {
@@ -39,32 +33,8 @@ pub(crate) fn spawner(alloc: Global, program: MemProgram) -> Result<MemSpawner, 
     Ok(spawner)
 }
 
-/// A port of this program, with these options.
-pub(crate) fn serve(
-    alloc: Global,
-    program: MemProgram,
-    config: &Config,
-) -> Result<ProgramPort<SpawnDriver<MemSpawner>>, Fail>
-    ensures { IfOk result (λ port. port.driver.life ≡ Life.Started) }
-{
-    let spawner = spawner(alloc, program)?;
-    ProgramPort::open(alloc, spawn_driver(spawner), config)
-}
-
-/// A port of this program, with this framing.
-pub(crate) fn framed(
-    alloc: Global,
-    program: MemProgram,
-    mode: Mode,
-) -> Result<ProgramPort<SpawnDriver<MemSpawner>>, Fail>
-    ensures { IfOk result (λ port. port.driver.life ≡ Life.Started) }
-{
-    let config = options(alloc, mode)?;
-    serve(alloc, program, &config)
-}
-
 /// A context for the start of a driver.
-pub(crate) fn fresh_context(alloc: Global) -> Result<DriverCtx, Fail>
+fn fresh_context(alloc: Global) -> Result<DriverCtx, Fail>
     ensures { IfOk result (λ ctx. ctx ≡ record { caller = 7; next_job = 0; held = []; queue = []; outside = []; effects = [] }) }
 {
     match DriverCtx::new(alloc, 7, 0, &[], DriverQueue::new(alloc)) {
@@ -73,25 +43,115 @@ pub(crate) fn fresh_context(alloc: Global) -> Result<DriverCtx, Fail>
     }
 }
 
+/// Starts a fresh driver. What it recorded, or how it refuses.
+pub(crate) fn start<D: Driver>(
+    alloc: Global,
+    driver: &mut D,
+    config: &Config,
+) -> Result<Result<DriverCtx, StartRefusal>, Fail> {
+    let mut ctx = fresh_context(alloc)?;
+    if driver.life() != Life::Fresh {
+        return Err("the driver isn't fresh".into());
+    }
+    match driver.start(alloc, &mut ctx, config) {
+        Ok(()) => Ok(Ok(ctx)),
+        Err(refusal) => Ok(Err(refusal)),
+    }
+}
+
+/// The context of a callback, which has this queue.
+fn context(alloc: Global, queue: DriverQueue) -> Result<DriverCtx, Fail>
+    ensures outside { IfOk result (λ ctx. ctx.outside ≡ []) }
+    ensures effects { IfOk result (λ ctx. ctx.effects ≡ []) }
+{
+    match DriverCtx::new(alloc, 7, 0, &[READ, WRITE], queue) {
+        Ok(ctx) => Ok(ctx),
+        Err((_, refusal)) => Err(refusal.into()),
+    }
+}
+
+/// What a started driver records of a command.
+fn take<D: Driver>(
+    alloc: Global,
+    driver: &mut D,
+    queue: DriverQueue,
+    payload: &IoVec,
+) -> Result<DriverCtx, Fail> {
+    let mut ctx = context(alloc, queue)?;
+    if driver.life() != Life::Started {
+        return Err("the driver isn't started".into());
+    }
+    driver.outputv(alloc, &mut ctx, payload)?;
+    Ok(ctx)
+}
+
+/// What a started driver records as there is something to read.
+fn read<D: Driver>(alloc: Global, driver: &mut D, queue: DriverQueue) -> Result<DriverCtx, Fail> {
+    let mut ctx = context(alloc, queue)?;
+    if driver.life() != Life::Started {
+        return Err("the driver isn't started".into());
+    }
+    driver.ready_input(alloc, &mut ctx, READ)?;
+    Ok(ctx)
+}
+
+/// What a started driver records as there is room to write.
+fn write<D: Driver>(alloc: Global, driver: &mut D, queue: DriverQueue) -> Result<DriverCtx, Fail> {
+    let mut ctx = context(alloc, queue)?;
+    if driver.life() != Life::Started {
+        return Err("the driver isn't started".into());
+    }
+    driver.ready_output(alloc, &mut ctx, WRITE)?;
+    Ok(ctx)
+}
+
+/// The queue of a callback that has ended.
+fn queue_of(ctx: DriverCtx) -> DriverQueue {
+    let (queue, _, _) = ctx.finish();
+    queue
+}
+
+/// The payload of a command of these bytes.
+fn payload(alloc: Global, bytes: &[u8]) -> Result<IoVec, Fail> {
+    Ok(IoVec::of_piece(alloc, Piece::of_slice(alloc, bytes)?))
+}
+
+/// Whether these bytes are queued.
+fn is_queued(queue: &DriverQueue, bytes: &[u8]) -> Result<bool, Fail> {
+    let queued = queue.to_piece()?;
+    Ok(queued.as_slice() == bytes)
+}
+
+/// A driver and its queue.
+#[derive(Drop)]
+pub(crate) struct ProgramPort<D: Driver> {
+    alloc: Global,
+    driver: D,
+    queue: DriverQueue,
+}
+
 impl<D: Driver> ProgramPort<D> {
     /// A port that this driver serves.
-    pub(crate) fn open(alloc: Global, driver: D, config: &Config) -> Result<ProgramPort<D>, Fail>
-        requires { D.stage driver ≡ Life.Fresh }
-        ensures { IfOk result (λ port. D.stage port.driver ≡ Life.Started) }
-    {
-        let mut driver = driver;
-        let mut ctx = fresh_context(alloc)?;
-        if driver.start(alloc, &mut ctx, config).is_err() {
-            return Err("the driver refused".into());
+    pub(crate) fn open(
+        alloc: Global,
+        mut driver: D,
+        config: &Config,
+    ) -> Result<ProgramPort<D>, Fail> {
+        match start(alloc, &mut driver, config)? {
+            Ok(ctx) => {
+                Ok(ProgramPort {
+                    alloc,
+                    driver,
+                    queue: queue_of(ctx),
+                })
+            }
+            Err(_) => Err("the driver refused".into()),
         }
-        let (queue, _, _) = ctx.finish();
-        Ok(ProgramPort { driver, queue })
     }
 
     /// Whether these bytes are queued.
     pub(crate) fn has_queued(&self, bytes: &[u8]) -> Result<bool, Fail> {
-        let queued = self.queue.to_piece()?;
-        Ok(queued.as_slice() == bytes)
+        is_queued(&self.queue, bytes)
     }
 
     /// Whether nothing is queued.
@@ -99,59 +159,69 @@ impl<D: Driver> ProgramPort<D> {
         self.queue.is_empty()
     }
 
-    /// The context of the next callback, which has the queue.
-    fn begin(&mut self, alloc: Global) -> Result<DriverCtx, Fail>
-        ensures driver { self.new.driver ≡ self.old.driver }
-        ensures outside { IfOk result (λ ctx. ctx.outside ≡ []) }
-        ensures effects { IfOk result (λ ctx. ctx.effects ≡ []) }
-    {
-        let queue = std::mem::replace(&mut self.queue, DriverQueue::new(alloc));
-        match DriverCtx::new(alloc, 7, 0, &[READ, WRITE], queue) {
-            Ok(ctx) => Ok(ctx),
-            Err((_, refusal)) => Err(refusal.into()),
-        }
+    /// Takes the queue away, for a callback.
+    fn begin(&mut self) -> DriverQueue {
+        mem::replace(&mut self.queue, DriverQueue::new(self.alloc))
     }
 
-    /// What a callback recorded, once it has ended. The queue comes back.
-    fn end(&mut self, alloc: Global, ctx: DriverCtx) -> Result<Vec<u8>, Fail>
-        ensures { self.new.driver ≡ self.old.driver }
-    {
+    /// Whether a callback, once it has ended, is recorded so. The queue comes back.
+    fn end(&mut self, ctx: DriverCtx, wanted: &[u8]) -> Result<bool, Fail> {
         let (queue, answers, effects) = ctx.finish();
         self.queue = queue;
-        shown(alloc, answers.as_slice(), effects.as_slice())
+        shows(self.alloc, answers.as_slice(), effects.as_slice(), wanted)
     }
 
     /// Whether a command of these bytes is recorded so.
-    pub(crate) fn takes(&mut self, alloc: Global, bytes: &[u8], wanted: &[u8]) -> Result<bool, Fail>
-        requires { D.stage self.old.driver ≡ Life.Started }
-        ensures { OnOk result (D.stage self.new.driver ≡ Life.Started) }
-    {
-        let payload = IoVec::of_piece(alloc, Piece::of_slice(alloc, bytes)?);
-        let mut ctx = self.begin(alloc)?;
-        self.driver.outputv(alloc, &mut ctx, &payload)?;
-        let text = self.end(alloc, ctx)?;
-        Ok(text.as_slice() == wanted)
+    pub(crate) fn takes(&mut self, bytes: &[u8], wanted: &[u8]) -> Result<bool, Fail> {
+        let payload = payload(self.alloc, bytes)?;
+        let queue = self.begin();
+        let ctx = take(self.alloc, &mut self.driver, queue, &payload)?;
+        self.end(ctx, wanted)
     }
 
     /// Whether a call because there is something to read is recorded so.
-    pub(crate) fn reads(&mut self, alloc: Global, wanted: &[u8]) -> Result<bool, Fail>
-        requires { D.stage self.old.driver ≡ Life.Started }
-        ensures { OnOk result (D.stage self.new.driver ≡ Life.Started) }
-    {
-        let mut ctx = self.begin(alloc)?;
-        self.driver.ready_input(alloc, &mut ctx, READ)?;
-        let text = self.end(alloc, ctx)?;
-        Ok(text.as_slice() == wanted)
+    pub(crate) fn reads(&mut self, wanted: &[u8]) -> Result<bool, Fail> {
+        let queue = self.begin();
+        let ctx = read(self.alloc, &mut self.driver, queue)?;
+        self.end(ctx, wanted)
+    }
+
+    /// Whether one call because there is something to read is recorded so.
+    pub(crate) fn reads_once(mut self, wanted: &[u8]) -> Result<bool, Fail> {
+        self.reads(wanted)
+    }
+
+    /// Whether two calls because there is something to read are recorded so.
+    pub(crate) fn reads_twice(mut self, first: &[u8], second: &[u8]) -> Result<bool, Fail> {
+        if !self.reads(first)? {
+            return Ok(false);
+        }
+        self.reads(second)
     }
 
     /// Whether a call because there is room to write is recorded so.
-    pub(crate) fn writes(&mut self, alloc: Global, wanted: &[u8]) -> Result<bool, Fail>
-        requires { D.stage self.old.driver ≡ Life.Started }
-        ensures { OnOk result (D.stage self.new.driver ≡ Life.Started) }
-    {
-        let mut ctx = self.begin(alloc)?;
-        self.driver.ready_output(alloc, &mut ctx, WRITE)?;
-        let text = self.end(alloc, ctx)?;
-        Ok(text.as_slice() == wanted)
+    pub(crate) fn writes(&mut self, wanted: &[u8]) -> Result<bool, Fail> {
+        let queue = self.begin();
+        let ctx = write(self.alloc, &mut self.driver, queue)?;
+        self.end(ctx, wanted)
     }
+}
+
+/// A port of this program, with these options.
+pub(crate) fn serve(
+    alloc: Global,
+    program: MemProgram,
+    config: &Config,
+) -> Result<ProgramPort<SpawnDriver<MemSpawner>>, Fail> {
+    ProgramPort::open(alloc, spawn_driver(spawner(alloc, program)?), config)
+}
+
+/// A port of this program, with this framing.
+pub(crate) fn framed(
+    alloc: Global,
+    program: MemProgram,
+    mode: Mode,
+) -> Result<ProgramPort<SpawnDriver<MemSpawner>>, Fail> {
+    let config = options(alloc, mode)?;
+    serve(alloc, program, &config)
 }

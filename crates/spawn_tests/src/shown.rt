@@ -68,12 +68,13 @@ fn put_answer(text: &mut Vec<u8>, answer: &Outside) -> Result<(), Fail> {
     }
 }
 
-/// The text of these answers and effects.
-pub(crate) fn shown(
+/// Whether these answers and effects have this text.
+pub(crate) fn shows(
     alloc: Global,
     answers: &[Outside],
     effects: &[Effect],
-) -> Result<Vec<u8>, Fail> {
+    wanted: &[u8],
+) -> Result<bool, Fail> {
     let mut text = Vec::new(alloc);
     for answer in answers {
         put_answer(&mut text, answer)?;
@@ -81,5 +82,5 @@ pub(crate) fn shown(
     for effect in effects {
         put_effect(&mut text, effect)?;
     }
-    Ok(text)
+    Ok(text.as_slice() == wanted)
 }
