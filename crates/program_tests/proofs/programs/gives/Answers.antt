@@ -1,5 +1,0 @@
-use Rattle.program_tests.proofs.Distinct.{distinct-one}
-use Rattle.program_tests.proofs.programs.gives.Goals as goal
-
-pub wait-requires : goal.wait-requires
-wait-requires g c = distinct-one _
