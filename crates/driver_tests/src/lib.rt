@@ -10,4 +10,6 @@ mod port;
 #[cfg(test)]
 mod queues;
 #[cfg(test)]
+mod shown;
+#[cfg(test)]
 mod stores;

@@ -1,177 +1,271 @@
-//! A driver with its queue, to which callbacks are made one after another, and what they show.
-ghost use Rattle.std.specs.Prelude.{◌≡◌, [], IfOk, OnOk};
+//! A driver with its queue, to which callbacks are made one after another, and what the last one showed.
+ghost use Rattle.std.specs.Prelude.{◌≡◌, [], IfSome};
 ghost use Rattle.std.specs.List.{concat};
+ghost use Rattle.port_driver.specs.Driven.{MayCall};
 
+use crate::shown::{ShownEffect, are_shown};
 use driver_queue::DriverQueue;
-use port_driver::{Config, Driver, DriverCtx, Life, ReplyTo};
+use port_driver::{Config, Driver, DriverCtx, Life, ReplyTo, StartRefusal};
 use port_model::{Effect, IoVec, Items, Piece};
 use std::alloc::Global;
-use std::test::Fail;
+use std::mem;
 
-/// A started driver, its queue and the number of its next job.
+/// A callback of a driver.
+#[derive(Clone, Copy)]
+pub(crate) enum DriverCallback {
+    /// A command of these segments is handed to it.
+    Command(&'static [&'static [u8]]),
+    /// It makes an operation on some bytes.
+    Control(u32, &'static [u8]),
+    /// It makes an operation on the external form of a term.
+    Call(u32, &'static [u8]),
+    /// It is told that its job of this number is done, with this output.
+    JobDone(u64, &'static [u8]),
+    /// It is told that this process has ended.
+    ProcessEnded(u32),
+    Flush,
+}
+
+/// What is seen of a port.
+#[derive(Clone, Copy)]
+pub(crate) enum DriverSight {
+    /// The last callback had these effects.
+    Did(&'static [ShownEffect]),
+    /// The last callback answered these bytes.
+    Replied(&'static [u8]),
+    /// The last callback refused the operation.
+    Refused,
+    SoftBusy(bool),
+    /// The queue has so many segments, of which the first is these bytes.
+    Segments((usize, &'static [u8])),
+    QueueIsEmpty,
+}
+
+#[derive(Clone, Copy)]
+pub(crate) enum DriverStep {
+    Make(DriverCallback),
+    See(DriverSight),
+}
+
+/// A driver, its queue and the number of its next job, and what its last callback answered and did.
 #[derive(Drop)]
 pub(crate) struct DrivenPort<D: Driver> {
+    alloc: Global,
     driver: D,
     queue: DriverQueue,
     next_job: u64,
+    answer: Option<ReplyTo>,
+    effects: Items<Effect>,
 }
 
 /// A context of a callback for process 7.
-pub(crate) fn context(alloc: Global, next_job: u64, queue: DriverQueue) -> Result<DriverCtx, Fail>
-    ensures { IfOk result (λ ctx. ctx ≡ record { caller = 7; next_job = next_job; held = []; queue = concat queue.segments; outside = []; effects = [] }) }
+pub(crate) fn context(alloc: Global, next_job: u64, queue: DriverQueue) -> Option<DriverCtx>
+    ensures { IfSome result (λ ctx. ctx ≡ record { caller = 7; next_job = next_job; held = []; queue = concat queue.segments; outside = []; effects = [] }) }
 {
-    match DriverCtx::new(alloc, 7, next_job, &[], queue) {
-        Ok(ctx) => Ok(ctx),
-        Err((_, refusal)) => Err(refusal.into()),
-    }
+    DriverCtx::new(alloc, 7, next_job, &[], queue).ok()
 }
 
 /// A vector of these segments.
-pub(crate) fn vector(alloc: Global, segments: &[&[u8]]) -> Result<IoVec, Fail> {
+pub(crate) fn vector(alloc: Global, segments: &[&[u8]]) -> Option<IoVec> {
     let mut vector = IoVec::new(alloc);
     for segment in segments {
-        let piece = Piece::of_slice(alloc, segment)?;
-        if let Err((_, refusal)) = vector.push(piece) {
-            return Err(refusal.into());
-        }
+        let piece = Piece::of_slice(alloc, segment).ok()?;
+        vector.push(piece).ok()?;
     }
-    Ok(vector)
+    Some(vector)
 }
 
-/// Whether these effects are one plain message of these bytes.
-pub(crate) fn sends(effects: &[Effect], wanted: &[u8]) -> bool {
-    matches!(effects, [Effect::Message { bytes, .. }] if bytes.as_slice() == wanted)
+/// Whether a driver has this name.
+pub(crate) fn is_named<D: Driver>(driver: &D, wanted: &[u8]) -> bool {
+    driver.name().as_bytes() == wanted
 }
 
-/// Whether the answer is these bytes.
-pub(crate) fn replies(answer: &ReplyTo, wanted: &[u8]) -> bool {
-    matches!(answer, ReplyTo::Bytes(bytes) if bytes.as_slice() == wanted)
+/// Starts a driver, which is a fault of the start where it isn't fresh.
+fn start<D: Driver>(alloc: Global, driver: &mut D) -> Result<(), StartRefusal> {
+    if driver.life() != Life::Fresh {
+        return Err(StartRefusal::StartFault);
+    }
+    let Ok(config) = Config::plain(alloc) else {
+        return Err(StartRefusal::NoMemory);
+    };
+    let Some(mut ctx) = context(alloc, 0, DriverQueue::new(alloc)) else {
+        return Err(StartRefusal::NoMemory);
+    };
+    driver.start(alloc, &mut ctx, &config)
+}
+
+/// Whether a driver refuses to start for this reason, and is stopped then.
+pub(crate) fn refuses<D: Driver>(alloc: Global, driver: D, wanted: StartRefusal) -> bool {
+    let mut driver = driver;
+    start(alloc, &mut driver) == Err(wanted) && driver.life() == Life::Stopped
 }
 
 impl<D: Driver> DrivenPort<D> {
     /// A port that this driver serves.
-    pub(crate) fn open(alloc: Global, driver: D) -> Result<DrivenPort<D>, Fail>
-        requires { D.stage driver ≡ Life.Fresh }
-        ensures { IfOk result (λ port. D.stage port.driver ≡ Life.Started) }
-    {
-        let mut driver = driver;
-        let config = Config::plain(alloc)?;
-        let mut ctx = context(alloc, 0, DriverQueue::new(alloc))?;
-        if driver.start(alloc, &mut ctx, &config).is_err() {
-            return Err("the driver refused".into());
+    fn open(alloc: Global, mut driver: D) -> Option<DrivenPort<D>> {
+        if start(alloc, &mut driver).is_err() {
+            return None;
         }
-        let (queue, _, _) = ctx.finish();
-        Ok(DrivenPort {
+        Some(DrivenPort {
+            alloc,
             driver,
-            queue,
+            queue: DriverQueue::new(alloc),
             next_job: 0,
+            answer: None,
+            effects: Items::new(alloc),
         })
     }
 
-    pub(crate) fn driver(&self) -> &D
-        ensures { result.now ≡ self.now.driver }
-    {
-        &self.driver
+    /// Whether the queue has so many segments, of which the first is these bytes.
+    fn has_segments(&self, wanted: (usize, &[u8])) -> bool {
+        let (count, first) = wanted;
+        let is_first = matches!(self.queue.peekq(0), Some(piece) if piece.as_slice() == first);
+        is_first
+            && count > 0
+            && self.queue.peekq(count - 1).is_some()
+            && self.queue.peekq(count).is_none()
     }
 
-    pub(crate) fn queue(&self) -> &DriverQueue {
-        &self.queue
+    /// The context of the next callback, which has the queue, where the driver is started.
+    fn begin(&mut self) -> Option<DriverCtx>
+        ensures { IfSome result (λ ctx. MayCall (D.stage self.new.driver) ctx) }
+    {
+        if self.driver.life() != Life::Started {
+            return None;
+        }
+        let queue = mem::replace(&mut self.queue, DriverQueue::new(self.alloc));
+        context(self.alloc, self.next_job, queue)
     }
 
-    /// The context of the next callback, which has the queue.
-    fn begin(&mut self, alloc: Global) -> Result<DriverCtx, Fail>
-        ensures driver { self.new.driver ≡ self.old.driver }
-        ensures outside { IfOk result (λ ctx. ctx.outside ≡ []) }
-        ensures effects { IfOk result (λ ctx. ctx.effects ≡ []) }
-    {
-        let queue = std::mem::replace(&mut self.queue, DriverQueue::new(alloc));
-        context(alloc, self.next_job, queue)
-    }
-
-    /// What a callback did, once it has ended. The queue comes back.
-    fn end(&mut self, ctx: DriverCtx) -> Items<Effect>
-        ensures { self.new.driver ≡ self.old.driver }
-    {
+    /// Takes what a callback answered and did, once it has ended. The queue comes back.
+    fn end(&mut self, ctx: DriverCtx, answer: Option<ReplyTo>) {
         self.next_job = ctx.next_job();
         let (queue, _, effects) = ctx.finish();
         self.queue = queue;
-        effects
+        self.answer = answer;
+        self.effects = effects;
     }
 
-    pub(crate) fn command(
-        &mut self,
-        alloc: Global,
-        segments: &[&[u8]],
-    ) -> Result<Items<Effect>, Fail>
-        requires { D.stage self.old.driver ≡ Life.Started }
-        ensures { OnOk result (D.stage self.new.driver ≡ Life.Started) }
-    {
-        let payload = vector(alloc, segments)?;
-        let mut ctx = self.begin(alloc)?;
-        self.driver.outputv(alloc, &mut ctx, &payload)?;
-        Ok(self.end(ctx))
+    /// Hands a command to the driver.
+    fn command(&mut self, segments: &[&[u8]]) -> bool {
+        let Some(payload) = vector(self.alloc, segments) else {
+            return false;
+        };
+        let Some(mut ctx) = self.begin() else {
+            return false;
+        };
+        let made = self.driver.outputv(self.alloc, &mut ctx, &payload);
+        self.end(ctx, None);
+        made.is_ok()
     }
 
-    pub(crate) fn control(
-        &mut self,
-        alloc: Global,
-        op: u32,
-        bytes: &[u8],
-    ) -> Result<(ReplyTo, Items<Effect>), Fail>
-        requires { D.stage self.old.driver ≡ Life.Started }
-        ensures { OnOk result (D.stage self.new.driver ≡ Life.Started) }
-    {
-        let piece = Piece::of_slice(alloc, bytes)?;
-        let mut ctx = self.begin(alloc)?;
-        let answer = self.driver.control(alloc, &mut ctx, op, &piece)?;
-        Ok((answer, self.end(ctx)))
+    /// Has the driver make an operation on some bytes.
+    fn control(&mut self, op: u32, bytes: &[u8]) -> bool {
+        let Ok(piece) = Piece::of_slice(self.alloc, bytes) else {
+            return false;
+        };
+        let Some(mut ctx) = self.begin() else {
+            return false;
+        };
+        let answer = self.driver.control(self.alloc, &mut ctx, op, &piece).ok();
+        let made = answer.is_some();
+        self.end(ctx, answer);
+        made
     }
 
-    pub(crate) fn call(&mut self, alloc: Global, op: u32, bytes: &[u8]) -> Result<ReplyTo, Fail>
-        requires { D.stage self.old.driver ≡ Life.Started }
-        ensures { OnOk result (D.stage self.new.driver ≡ Life.Started) }
-    {
-        let piece = Piece::of_slice(alloc, bytes)?;
-        let mut ctx = self.begin(alloc)?;
-        let answer = self.driver.call(alloc, &mut ctx, op, &piece)?;
-        self.end(ctx);
-        Ok(answer)
+    /// Has the driver make an operation on the external form of a term.
+    fn call(&mut self, op: u32, bytes: &[u8]) -> bool {
+        let Ok(piece) = Piece::of_slice(self.alloc, bytes) else {
+            return false;
+        };
+        let Some(mut ctx) = self.begin() else {
+            return false;
+        };
+        let answer = self.driver.call(self.alloc, &mut ctx, op, &piece).ok();
+        let made = answer.is_some();
+        self.end(ctx, answer);
+        made
     }
 
-    pub(crate) fn job_done(
-        &mut self,
-        alloc: Global,
-        number: u64,
-        output: &[u8],
-    ) -> Result<Items<Effect>, Fail>
-        requires { D.stage self.old.driver ≡ Life.Started }
-        ensures { OnOk result (D.stage self.new.driver ≡ Life.Started) }
-    {
-        let piece = Piece::of_slice(alloc, output)?;
-        let mut ctx = self.begin(alloc)?;
-        self.driver.ready_async(alloc, &mut ctx, number, &piece)?;
-        Ok(self.end(ctx))
+    /// Tells the driver that its job of this number is done.
+    fn job_done(&mut self, number: u64, output: &[u8]) -> bool {
+        let Ok(piece) = Piece::of_slice(self.alloc, output) else {
+            return false;
+        };
+        let Some(mut ctx) = self.begin() else {
+            return false;
+        };
+        let made = self
+            .driver
+            .ready_async(self.alloc, &mut ctx, number, &piece);
+        self.end(ctx, None);
+        made.is_ok()
     }
 
-    pub(crate) fn process_ended(
-        &mut self,
-        alloc: Global,
-        process: u32,
-    ) -> Result<Items<Effect>, Fail>
-        requires { D.stage self.old.driver ≡ Life.Started }
-        ensures { OnOk result (D.stage self.new.driver ≡ Life.Started) }
-    {
-        let mut ctx = self.begin(alloc)?;
-        self.driver.process_exit(alloc, &mut ctx, process)?;
-        Ok(self.end(ctx))
+    /// Tells the driver that this process has ended.
+    fn process_ended(&mut self, process: u32) -> bool {
+        let Some(mut ctx) = self.begin() else {
+            return false;
+        };
+        let made = self.driver.process_exit(self.alloc, &mut ctx, process);
+        self.end(ctx, None);
+        made.is_ok()
     }
 
-    pub(crate) fn flush(&mut self, alloc: Global) -> Result<Items<Effect>, Fail>
-        requires { D.stage self.old.driver ≡ Life.Started }
-        ensures { OnOk result (D.stage self.new.driver ≡ Life.Started) }
-    {
-        let mut ctx = self.begin(alloc)?;
-        self.driver.flush(alloc, &mut ctx)?;
-        Ok(self.end(ctx))
+    /// Has the driver flushed.
+    fn flush(&mut self) -> bool {
+        let Some(mut ctx) = self.begin() else {
+            return false;
+        };
+        let made = self.driver.flush(self.alloc, &mut ctx);
+        self.end(ctx, None);
+        made.is_ok()
     }
+
+    /// Makes a callback.
+    fn make(&mut self, callback: DriverCallback) -> bool {
+        match callback {
+            DriverCallback::Command(segments) => self.command(segments),
+            DriverCallback::Control(op, bytes) => self.control(op, bytes),
+            DriverCallback::Call(op, bytes) => self.call(op, bytes),
+            DriverCallback::JobDone(number, output) => self.job_done(number, output),
+            DriverCallback::ProcessEnded(process) => self.process_ended(process),
+            DriverCallback::Flush => self.flush(),
+        }
+    }
+
+    /// Whether the driver's port shows this.
+    fn shows(&self, sight: DriverSight) -> bool {
+        match sight {
+            DriverSight::Did(wanted) => are_shown(self.effects.as_slice(), wanted),
+            DriverSight::Replied(wanted) => {
+                matches!(&self.answer, Some(ReplyTo::Bytes(bytes)) if bytes.as_slice() == wanted)
+            }
+            DriverSight::Refused => matches!(&self.answer, Some(ReplyTo::Badarg)),
+            DriverSight::SoftBusy(wanted) => self.driver.soft_busy() == wanted,
+            DriverSight::Segments(wanted) => self.has_segments(wanted),
+            DriverSight::QueueIsEmpty => self.queue.is_empty(),
+        }
+    }
+}
+
+/// The number of the first step that shows something else, if one does, or of the step behind the last where the driver doesn't start.
+pub(crate) fn first_wrong<D: Driver>(
+    alloc: Global,
+    driver: D,
+    steps: &[DriverStep],
+) -> Option<usize> {
+    let Some(mut port) = DrivenPort::open(alloc, driver) else {
+        return Some(steps.len());
+    };
+    for (at, step) in steps.iter().enumerate() {
+        let goes = match *step {
+            DriverStep::Make(callback) => port.make(callback),
+            DriverStep::See(sight) => port.shows(sight),
+        };
+        if !goes {
+            return Some(at);
+        }
+    }
+    None
 }

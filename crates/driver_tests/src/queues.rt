@@ -6,13 +6,40 @@ use driver_queue::{DeqPast, DriverQueue, EnqFault};
 use port_driver::DriverCtx;
 use port_model::{NoMemory, Piece};
 use std::alloc::Global;
-use std::test::Fail;
 
-/// A context whose queue has `ab` and `c`.
-fn queued(alloc: Global) -> Result<DriverCtx, Fail> {
-    let mut ctx = context(alloc, 0, DriverQueue::new(alloc))?;
-    ctx.enqv(&vector(alloc, &[b"ab", b"c"])?, 0)?;
-    Ok(ctx)
+/// A call of a context for its queue.
+#[derive(Clone, Copy)]
+enum QueueCall {
+    /// A vector of these segments is put behind, but for so many bytes, or is refused.
+    Enqv(&'static [&'static [u8]], u64, Option<EnqFault>),
+    /// The same in front.
+    Pushqv(&'static [&'static [u8]], u64, Option<EnqFault>),
+    Enq(&'static [u8]),
+    Pushq(&'static [u8]),
+    /// So many bytes are dropped, or are too many.
+    Deq(u64, Option<DeqPast>),
+    /// The whole queue becomes these bytes.
+    Join(&'static [u8]),
+    Clear,
+}
+
+/// What is seen of a queue.
+#[derive(Clone, Copy)]
+enum QueueSight {
+    Bytes(&'static [u8]),
+    HasTwoSegments(bool),
+    IsDrained,
+}
+
+#[derive(Clone, Copy)]
+enum DriverQueueStep {
+    Make(QueueCall),
+    See(QueueSight),
+}
+
+/// A context without bytes.
+fn empty(alloc: Global) -> Option<DriverCtx> {
+    context(alloc, 0, DriverQueue::new(alloc))
 }
 
 /// Puts two pieces behind the bytes of the queue, once there is room for both: neither is refused.
@@ -31,81 +58,208 @@ fn put_two(ctx: &mut DriverCtx, first: Piece, second: Piece) -> Result<(), NoMem
     Ok(())
 }
 
-/// Whether the queue has these bytes.
-fn has(ctx: &DriverCtx, wanted: &[u8]) -> Result<bool, Fail> {
-    Ok(ctx.queue().to_piece()?.as_slice() == wanted)
-}
-
-#[test]
-fn a_vector_is_put_behind_but_for_what_is_skipped(rt: HostRuntime) -> Result<(), Fail> {
-    let alloc = rt.alloc();
-    let mut ctx = queued(alloc)?;
-    let more = vector(alloc, &[b"xy", b"z"])?;
-    ctx.enqv(&more, 1)?;
-    assert!(rt; has(&ctx, b"abcyz")?);
-    assert!(rt; ctx.enqv(&more, 4) == Err(EnqFault::SkipPast { size: 3 }));
-    assert!(rt; has(&ctx, b"abcyz")?);
-    Ok(())
-}
-
-#[test]
-fn pieces_are_put_behind_and_in_front(rt: HostRuntime) -> Result<(), Fail> {
-    let alloc = rt.alloc();
-    let mut ctx = queued(alloc)?;
-    ctx.enq(Piece::of_slice(alloc, b"z")?)?;
-    ctx.pushq(Piece::of_slice(alloc, b"x")?)?;
-    assert!(rt; has(&ctx, b"xabcz")?);
-    Ok(())
-}
-
-#[test]
-fn a_vector_is_put_in_front_in_its_order(rt: HostRuntime) -> Result<(), Fail> {
-    let alloc = rt.alloc();
-    let mut ctx = queued(alloc)?;
-    ctx.pushqv(&vector(alloc, &[b"xy", b"z"])?, 1)?;
-    assert!(rt; has(&ctx, b"yzabc")?);
-    Ok(())
-}
-
-#[test]
-fn reserved_room_takes_two_pieces(rt: HostRuntime) -> Result<(), Fail> {
-    let alloc = rt.alloc();
+/// A context in whose queue two pieces were put, `ab` and `c`.
+fn reserved(alloc: Global) -> Option<DriverCtx> {
     let mut ctx = context(alloc, 0, DriverQueue::new(alloc))?;
-    let first = Piece::of_slice(alloc, b"ab")?;
-    put_two(&mut ctx, first, Piece::of_slice(alloc, b"c")?)?;
-    assert!(rt; has(&ctx, b"abc")?);
-    Ok(())
+    let first = Piece::of_slice(alloc, b"ab").ok()?;
+    let second = Piece::of_slice(alloc, b"c").ok()?;
+    put_two(&mut ctx, first, second).ok()?;
+    Some(ctx)
+}
+
+/// Why a vector isn't put behind, if it isn't.
+fn enqv_fault(
+    alloc: Global,
+    ctx: &mut DriverCtx,
+    segments: &[&[u8]],
+    skip: u64,
+) -> Option<EnqFault> {
+    match vector(alloc, segments) {
+        Some(vector) => ctx.enqv(&vector, skip).err(),
+        None => Some(EnqFault::NoMemory),
+    }
+}
+
+/// Why a vector isn't put in front, if it isn't.
+fn pushqv_fault(
+    alloc: Global,
+    ctx: &mut DriverCtx,
+    segments: &[&[u8]],
+    skip: u64,
+) -> Option<EnqFault> {
+    match vector(alloc, segments) {
+        Some(vector) => ctx.pushqv(&vector, skip).err(),
+        None => Some(EnqFault::NoMemory),
+    }
+}
+
+/// Whether these bytes are put behind.
+fn enqs(alloc: Global, ctx: &mut DriverCtx, bytes: &[u8]) -> bool {
+    match Piece::of_slice(alloc, bytes) {
+        Ok(piece) => ctx.enq(piece).is_ok(),
+        Err(_) => false,
+    }
+}
+
+/// Whether these bytes are put in front.
+fn pushes(alloc: Global, ctx: &mut DriverCtx, bytes: &[u8]) -> bool {
+    match Piece::of_slice(alloc, bytes) {
+        Ok(piece) => ctx.pushq(piece).is_ok(),
+        Err(_) => false,
+    }
+}
+
+/// Why bytes aren't dropped, if they aren't.
+fn deq_fault(ctx: &mut DriverCtx, count: u64) -> Option<DeqPast> {
+    ctx.deq(count).err()
+}
+
+/// Whether the whole queue becomes these bytes.
+fn joins(ctx: &mut DriverCtx, wanted: &[u8]) -> bool {
+    matches!(&ctx.join_queue(), Ok(bytes) if bytes.as_slice() == wanted)
+}
+
+/// Whether the queue has these bytes.
+fn has(ctx: &DriverCtx, wanted: &[u8]) -> bool {
+    matches!(&ctx.queue().to_piece(), Ok(bytes) if bytes.as_slice() == wanted)
+}
+
+fn has_two_segments(ctx: &DriverCtx) -> bool {
+    ctx.queue().peekq(1).is_some()
+}
+
+/// Whether a call ends so.
+fn makes(alloc: Global, ctx: &mut DriverCtx, call: QueueCall) -> bool {
+    match call {
+        QueueCall::Enqv(segments, skip, fault) => enqv_fault(alloc, ctx, segments, skip) == fault,
+        QueueCall::Pushqv(segments, skip, fault) => {
+            pushqv_fault(alloc, ctx, segments, skip) == fault
+        }
+        QueueCall::Enq(bytes) => enqs(alloc, ctx, bytes),
+        QueueCall::Pushq(bytes) => pushes(alloc, ctx, bytes),
+        QueueCall::Deq(count, past) => deq_fault(ctx, count) == past,
+        QueueCall::Join(wanted) => joins(ctx, wanted),
+        QueueCall::Clear => {
+            ctx.clear_queue();
+            true
+        }
+    }
+}
+
+/// Whether the queue shows this.
+fn shows(ctx: &DriverCtx, sight: QueueSight) -> bool {
+    match sight {
+        QueueSight::Bytes(wanted) => has(ctx, wanted),
+        QueueSight::HasTwoSegments(wanted) => has_two_segments(ctx) == wanted,
+        QueueSight::IsDrained => ctx.is_drained(),
+    }
+}
+
+/// The number of the first step of an empty queue that shows something else, if one does, or of the step behind the last where memory is
+/// wanting.
+fn first_wrong(alloc: Global, steps: &[DriverQueueStep]) -> Option<usize> {
+    let Some(mut ctx) = empty(alloc) else {
+        return Some(steps.len());
+    };
+    for (at, step) in steps.iter().enumerate() {
+        let goes = match *step {
+            DriverQueueStep::Make(call) => makes(alloc, &mut ctx, call),
+            DriverQueueStep::See(sight) => shows(&ctx, sight),
+        };
+        if !goes {
+            return Some(at);
+        }
+    }
+    None
+}
+
+/// The queue has `ab` and `c` then.
+const QUEUED: DriverQueueStep = DriverQueueStep::Make(QueueCall::Enqv(&[b"ab", b"c"], 0, None));
+
+const BEHIND: [DriverQueueStep; 5] = [
+    QUEUED,
+    DriverQueueStep::Make(QueueCall::Enqv(&[b"xy", b"z"], 1, None)),
+    DriverQueueStep::See(QueueSight::Bytes(b"abcyz")),
+    DriverQueueStep::Make(QueueCall::Enqv(&[b"xy", b"z"], 4, Some(EnqFault::SkipPast { size: 3 }))),
+    DriverQueueStep::See(QueueSight::Bytes(b"abcyz")),
+];
+
+#[test]
+fn a_vector_is_put_behind_but_for_what_is_skipped(rt: HostRuntime) {
+    assert_eq!(rt; first_wrong(rt.alloc(), &BEHIND), None);
+}
+
+const BOTH_ENDS: [DriverQueueStep; 4] = [
+    QUEUED,
+    DriverQueueStep::Make(QueueCall::Enq(b"z")),
+    DriverQueueStep::Make(QueueCall::Pushq(b"x")),
+    DriverQueueStep::See(QueueSight::Bytes(b"xabcz")),
+];
+
+#[test]
+fn pieces_are_put_behind_and_in_front(rt: HostRuntime) {
+    assert_eq!(rt; first_wrong(rt.alloc(), &BOTH_ENDS), None);
+}
+
+const IN_FRONT: [DriverQueueStep; 3] = [
+    QUEUED,
+    DriverQueueStep::Make(QueueCall::Pushqv(&[b"xy", b"z"], 1, None)),
+    DriverQueueStep::See(QueueSight::Bytes(b"yzabc")),
+];
+
+#[test]
+fn a_vector_is_put_in_front_in_its_order(rt: HostRuntime) {
+    assert_eq!(rt; first_wrong(rt.alloc(), &IN_FRONT), None);
+}
+
+/// Whether reserved room takes two pieces.
+fn takes_two(alloc: Global) -> bool {
+    match &reserved(alloc) {
+        Some(ctx) => has(ctx, b"abc"),
+        None => false,
+    }
 }
 
 #[test]
-fn first_bytes_are_dropped(rt: HostRuntime) -> Result<(), Fail> {
-    let alloc = rt.alloc();
-    let mut ctx = queued(alloc)?;
-    assert!(rt; ctx.deq(4) == Err(DeqPast { size: 3 }));
-    ctx.deq(1)?;
-    assert!(rt; has(&ctx, b"bc")?);
-    ctx.deq(2)?;
-    assert!(rt; ctx.is_drained());
-    Ok(())
+fn reserved_room_takes_two_pieces(rt: HostRuntime) {
+    assert!(rt; takes_two(rt.alloc()));
 }
 
-#[test]
-fn the_whole_queue_becomes_one_piece(rt: HostRuntime) -> Result<(), Fail> {
-    let alloc = rt.alloc();
-    let mut ctx = queued(alloc)?;
-    assert!(rt; ctx.queue().peekq(1).is_some());
-    assert!(rt; ctx.join_queue()?.as_slice() == b"abc".as_slice());
-    assert!(rt; ctx.queue().peekq(1).is_none());
-    assert!(rt; ctx.join_queue()?.as_slice() == b"abc".as_slice());
-    Ok(())
-}
+const DROPPED: [DriverQueueStep; 6] = [
+    QUEUED,
+    DriverQueueStep::Make(QueueCall::Deq(4, Some(DeqPast { size: 3 }))),
+    DriverQueueStep::Make(QueueCall::Deq(1, None)),
+    DriverQueueStep::See(QueueSight::Bytes(b"bc")),
+    DriverQueueStep::Make(QueueCall::Deq(2, None)),
+    DriverQueueStep::See(QueueSight::IsDrained),
+];
 
 #[test]
-fn a_cleared_queue_is_drained(rt: HostRuntime) -> Result<(), Fail> {
-    let alloc = rt.alloc();
-    let mut ctx = queued(alloc)?;
-    ctx.clear_queue();
-    assert!(rt; ctx.is_drained());
-    assert!(rt; ctx.join_queue()?.is_empty());
-    Ok(())
+fn first_bytes_are_dropped(rt: HostRuntime) {
+    assert_eq!(rt; first_wrong(rt.alloc(), &DROPPED), None);
+}
+
+const JOINED: [DriverQueueStep; 5] = [
+    QUEUED,
+    DriverQueueStep::See(QueueSight::HasTwoSegments(true)),
+    DriverQueueStep::Make(QueueCall::Join(b"abc")),
+    DriverQueueStep::See(QueueSight::HasTwoSegments(false)),
+    DriverQueueStep::Make(QueueCall::Join(b"abc")),
+];
+
+#[test]
+fn the_whole_queue_becomes_one_piece(rt: HostRuntime) {
+    assert_eq!(rt; first_wrong(rt.alloc(), &JOINED), None);
+}
+
+const CLEARED: [DriverQueueStep; 4] = [
+    QUEUED,
+    DriverQueueStep::Make(QueueCall::Clear),
+    DriverQueueStep::See(QueueSight::IsDrained),
+    DriverQueueStep::Make(QueueCall::Join(b"")),
+];
+
+#[test]
+fn a_cleared_queue_is_drained(rt: HostRuntime) {
+    assert_eq!(rt; first_wrong(rt.alloc(), &CLEARED), None);
 }

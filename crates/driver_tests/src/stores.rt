@@ -1,114 +1,113 @@
 //! The kind `store`, by what its queue has after each call.
-ghost use Rattle.std.specs.Prelude.{◌≡◌, IfOk};
 
-use crate::port::{DrivenPort, replies, sends};
-use port_driver::{Life, ReplyTo};
+use crate::port::{DriverCallback, DriverSight, DriverStep, first_wrong};
+use crate::shown::ShownEffect;
 use sample_drivers::Store;
-use std::alloc::Global;
-use std::test::Fail;
 
-/// A store in which a command of two segments put `abc`.
-fn stored(alloc: Global) -> Result<DrivenPort<Store>, Fail>
-    ensures { IfOk result (λ port. port.driver ≡ Life.Started) }
-{
-    let mut port = DrivenPort::open(alloc, Store::new())?;
-    port.command(alloc, &[b"ab", b"c"])?;
-    Ok(port)
-}
+/// A command of two segments, by which the store has `abc`.
+const STORED: DriverStep = DriverStep::Make(DriverCallback::Command(&[b"ab", b"c"]));
 
-/// Whether control 3 answers these bytes.
-fn holds(alloc: Global, port: &mut DrivenPort<Store>, wanted: &[u8]) -> Result<bool, Fail>
-    requires { port.old.driver ≡ Life.Started }
-{
-    let (answer, _) = port.control(alloc, 3, b"")?;
-    Ok(replies(&answer, wanted))
-}
+const SIZE: [DriverStep; 4] = [
+    STORED,
+    DriverStep::Make(DriverCallback::Control(2, b"")),
+    DriverStep::See(DriverSight::Replied(&[0, 0, 0, 0, 0, 0, 0, 3])),
+    DriverStep::See(DriverSight::Did(&[])),
+];
 
 #[test]
-fn control_2_answers_how_many_bytes_are_queued(rt: HostRuntime) -> Result<(), Fail> {
-    let alloc = rt.alloc();
-    let mut port = stored(alloc)?;
-    let (answer, effects) = port.control(alloc, 2, b"")?;
-    assert!(rt; replies(&answer, &[0, 0, 0, 0, 0, 0, 0, 3]));
-    assert!(rt; effects.as_slice().is_empty());
-    Ok(())
+fn control_2_answers_how_many_bytes_are_queued(rt: HostRuntime) {
+    assert_eq!(rt; first_wrong(rt.alloc(), Store::new(), &SIZE), None);
 }
 
-#[test]
-fn control_3_joins_the_segments_once(rt: HostRuntime) -> Result<(), Fail> {
-    let alloc = rt.alloc();
-    let mut port = stored(alloc)?;
-    assert!(rt; port.queue().peekq(1).is_some());
-    let (answer, _) = port.control(alloc, 3, b"")?;
-    assert!(rt; replies(&answer, b"abc"));
-    assert!(rt;
-        matches!(port.queue().peekq(0), Some(piece) if piece.as_slice() == b"abc".as_slice())
-    );
-    assert!(rt; port.queue().peekq(1).is_none());
-    Ok(())
-}
+const JOINED_ONCE: [DriverStep; 5] = [
+    STORED,
+    DriverStep::See(DriverSight::Segments((2, b"ab"))),
+    DriverStep::Make(DriverCallback::Control(3, b"")),
+    DriverStep::See(DriverSight::Replied(b"abc")),
+    DriverStep::See(DriverSight::Segments((1, b"abc"))),
+];
 
 #[test]
-fn control_3_answers_the_same_bytes_again(rt: HostRuntime) -> Result<(), Fail> {
-    let alloc = rt.alloc();
-    let mut port = stored(alloc)?;
-    let (first, _) = port.control(alloc, 3, b"")?;
-    let (second, _) = port.control(alloc, 3, b"")?;
-    assert!(rt; replies(&first, b"abc"));
-    assert!(rt; replies(&second, b"abc"));
-    Ok(())
+fn control_3_joins_the_segments_once(rt: HostRuntime) {
+    assert_eq!(rt; first_wrong(rt.alloc(), Store::new(), &JOINED_ONCE), None);
 }
 
-#[test]
-fn control_4_puts_its_bytes_in_front(rt: HostRuntime) -> Result<(), Fail> {
-    let alloc = rt.alloc();
-    let mut port = stored(alloc)?;
-    let (answer, _) = port.control(alloc, 4, b"xy")?;
-    assert!(rt; replies(&answer, b""));
-    assert!(rt; holds(alloc, &mut port, b"xyabc")?);
-    Ok(())
-}
+const JOINED_AGAIN: [DriverStep; 5] = [
+    STORED,
+    DriverStep::Make(DriverCallback::Control(3, b"")),
+    DriverStep::See(DriverSight::Replied(b"abc")),
+    DriverStep::Make(DriverCallback::Control(3, b"")),
+    DriverStep::See(DriverSight::Replied(b"abc")),
+];
 
 #[test]
-fn control_5_skips_bytes_and_puts_the_others_behind(rt: HostRuntime) -> Result<(), Fail> {
-    let alloc = rt.alloc();
-    let mut port = stored(alloc)?;
-    let (answer, _) = port.control(alloc, 5, b"\x00\x00\x00\x02xyz")?;
-    assert!(rt; replies(&answer, b""));
-    assert!(rt; holds(alloc, &mut port, b"abcz")?);
-    Ok(())
+fn control_3_answers_the_same_bytes_again(rt: HostRuntime) {
+    assert_eq!(rt; first_wrong(rt.alloc(), Store::new(), &JOINED_AGAIN), None);
 }
 
-#[test]
-fn control_5_refuses_to_skip_past_its_bytes(rt: HostRuntime) -> Result<(), Fail> {
-    let alloc = rt.alloc();
-    let mut port = stored(alloc)?;
-    let (past, _) = port.control(alloc, 5, b"\x00\x00\x00\x04xyz")?;
-    assert!(rt; matches!(past, ReplyTo::Badarg));
-    let (short, _) = port.control(alloc, 5, b"\x00\x00\x00")?;
-    assert!(rt; matches!(short, ReplyTo::Badarg));
-    assert!(rt; holds(alloc, &mut port, b"abc")?);
-    Ok(())
-}
+const IN_FRONT: [DriverStep; 5] = [
+    STORED,
+    DriverStep::Make(DriverCallback::Control(4, b"xy")),
+    DriverStep::See(DriverSight::Replied(b"")),
+    DriverStep::Make(DriverCallback::Control(3, b"")),
+    DriverStep::See(DriverSight::Replied(b"xyabc")),
+];
 
 #[test]
-fn control_1_takes_bytes_of_two_segments(rt: HostRuntime) -> Result<(), Fail> {
-    let alloc = rt.alloc();
-    let mut port = stored(alloc)?;
-    let (past, _) = port.control(alloc, 1, b"\x00\x00\x00\x04")?;
-    assert!(rt; matches!(past, ReplyTo::Badarg));
-    let (answer, _) = port.control(alloc, 1, b"\x00\x00\x00\x03")?;
-    assert!(rt; replies(&answer, b"abc"));
-    assert!(rt; port.queue().is_empty());
-    Ok(())
+fn control_4_puts_its_bytes_in_front(rt: HostRuntime) {
+    assert_eq!(rt; first_wrong(rt.alloc(), Store::new(), &IN_FRONT), None);
 }
 
+const BEHIND: [DriverStep; 5] = [
+    STORED,
+    DriverStep::Make(DriverCallback::Control(5, b"\x00\x00\x00\x02xyz")),
+    DriverStep::See(DriverSight::Replied(b"")),
+    DriverStep::Make(DriverCallback::Control(3, b"")),
+    DriverStep::See(DriverSight::Replied(b"abcz")),
+];
+
 #[test]
-fn a_flush_sends_all_and_empties_the_queue(rt: HostRuntime) -> Result<(), Fail> {
-    let alloc = rt.alloc();
-    let mut port = stored(alloc)?;
-    let effects = port.flush(alloc)?;
-    assert!(rt; sends(effects.as_slice(), b"abc"));
-    assert!(rt; port.queue().is_empty());
-    Ok(())
+fn control_5_skips_bytes_and_puts_the_others_behind(rt: HostRuntime) {
+    assert_eq!(rt; first_wrong(rt.alloc(), Store::new(), &BEHIND), None);
+}
+
+const SKIPPED_PAST: [DriverStep; 7] = [
+    STORED,
+    DriverStep::Make(DriverCallback::Control(5, b"\x00\x00\x00\x04xyz")),
+    DriverStep::See(DriverSight::Refused),
+    DriverStep::Make(DriverCallback::Control(5, b"\x00\x00\x00")),
+    DriverStep::See(DriverSight::Refused),
+    DriverStep::Make(DriverCallback::Control(3, b"")),
+    DriverStep::See(DriverSight::Replied(b"abc")),
+];
+
+#[test]
+fn control_5_refuses_to_skip_past_its_bytes(rt: HostRuntime) {
+    assert_eq!(rt; first_wrong(rt.alloc(), Store::new(), &SKIPPED_PAST), None);
+}
+
+const TAKEN: [DriverStep; 6] = [
+    STORED,
+    DriverStep::Make(DriverCallback::Control(1, b"\x00\x00\x00\x04")),
+    DriverStep::See(DriverSight::Refused),
+    DriverStep::Make(DriverCallback::Control(1, b"\x00\x00\x00\x03")),
+    DriverStep::See(DriverSight::Replied(b"abc")),
+    DriverStep::See(DriverSight::QueueIsEmpty),
+];
+
+#[test]
+fn control_1_takes_bytes_of_two_segments(rt: HostRuntime) {
+    assert_eq!(rt; first_wrong(rt.alloc(), Store::new(), &TAKEN), None);
+}
+
+const FLUSHED: [DriverStep; 4] = [
+    STORED,
+    DriverStep::Make(DriverCallback::Flush),
+    DriverStep::See(DriverSight::Did(&[ShownEffect::Sent(b"abc")])),
+    DriverStep::See(DriverSight::QueueIsEmpty),
+];
+
+#[test]
+fn a_flush_sends_all_and_empties_the_queue(rt: HostRuntime) {
+    assert_eq!(rt; first_wrong(rt.alloc(), Store::new(), &FLUSHED), None);
 }
