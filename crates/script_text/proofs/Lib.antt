@@ -8,3 +8,4 @@ pub mod FoundData
 pub mod Again
 pub mod AgainData
 pub mod Exact
+pub mod Plain

@@ -1,14 +1,16 @@
 //! TEXTs: bytes in double quotes, some of them escaped.
 
-ghost use Rattle.std.specs.Prelude.{◌≡◌, ◌<◌, ◌≤◌, ◌+◌, ◌*◌, ◌-◌, ℕ, List, Some, None, length, option_map, IfOk, IfSome};
+ghost use Rattle.std.specs.Prelude.{◌≡◌, ◌<◌, ◌≤◌, ◌+◌, ◌*◌, ◌-◌, ℕ, List, Some, None, false, All, length, take, option_map, IfOk, IfSome};
 ghost use Rattle.port_terms.specs.declared.values.TheConstants.{MAX_ITEMS};
 ghost use Rattle.script_text.specs.Texts.{SpellsText};
 ghost use Rattle.script_text.specs.InFront.{InFront};
 ghost use Rattle.script_text.specs.PartFault.{Reads, Gives};
+ghost use Rattle.memchr.specs.Find.{is_byte2};
 ghost use Rattle.script_text.specs.Reading.{hex_value, hexadecimal_at, escape_at, byte_at, content_at, text_at};
 
 use crate::fault::PartFault;
 use crate::tokens::after;
+use memchr::memchr2;
 use port_terms::{MAX_ITEMS, Octets, octets};
 use std::alloc::Global;
 
@@ -56,7 +58,8 @@ pub(crate) fn text_bytes(alloc: Global, bytes: &[u8]) -> Result<(Vec<u8>, &[u8])
     content(alloc, inner)
 }
 
-/// The bytes that a text spells up to its closing quote, and what stands behind that.
+/// The bytes that a text spells up to its closing quote, and what stands behind that. Those that stand for themselves are taken
+/// run by run, each run up to a quote or an escape.
 fn content(alloc: Global, bytes: &[u8]) -> Result<(Vec<u8>, &[u8]), PartFault>
     ensures reads { Reads (λ x. (x.0.items, x.1.now)) result (content_at (MAX_ITEMS + 1) bytes.now) }
     ensures few { IfOk result (λ x. length x.0.items ≤ MAX_ITEMS) }
@@ -64,16 +67,32 @@ fn content(alloc: Global, bytes: &[u8]) -> Result<(Vec<u8>, &[u8]), PartFault>
     let mut content = Vec::new(alloc);
     let mut rest = bytes;
     for _ in 0..MAX_ITEMS + 1 {
-        if let Some(behind) = after(b'"', rest) {
+        let (plain, behind) = rest.split_at(plain_len(rest));
+        if content.len() + plain.len() > MAX_ITEMS {
+            return Err(PartFault::Bad);
+        }
+        content.extend_from_slice(plain)?;
+        if let Some(behind) = after(b'"', behind) {
             return Ok((content, behind));
         }
-        let Some((byte, behind)) = byte(rest) else {
+        let Some((byte, behind)) = byte(behind) else {
             return Err(PartFault::Bad);
         };
         content.push(byte)?;
         rest = behind;
     }
     Err(PartFault::Bad)
+}
+
+/// How many bytes stand before the first quote or backslash.
+fn plain_len(bytes: &[u8]) -> usize
+    ensures within { result ≤ length bytes.now }
+    ensures plain { All (λ byte. is_byte2 34 92 byte ≡ false) (take result bytes.now) }
+{
+    match memchr2(b'"', b'\\', bytes) {
+        Some(at) => at,
+        None => bytes.len(),
+    }
 }
 
 /// The byte that the content of a text spells in front, and what stands behind it.
