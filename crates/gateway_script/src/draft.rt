@@ -20,6 +20,7 @@ use crate::line_fault::LineFault;
 use crate::options::PortOptions;
 use crate::statement::{Action, CommandOptions, Statement};
 use crate::steps::{MAX_NAMED, MAX_STEPS, Steps};
+use crate::words::is_same;
 use no_memory::NoMemory;
 use script_plan::{
     Act, Config, FileName, Piece, PortDecl, ProcessDecl, Reason, SaveDecl, Script, ScriptParts,
@@ -267,9 +268,7 @@ impl Draft {
         ensures place { result ≡ position (λ p. bytes_eq p.name name.now) self.now.processes.items }
         ensures within { IfSome result (λ place. place < length self.now.processes.items) }
     {
-        self.processes
-            .iter()
-            .position(|process| process.name.as_bytes() == name.as_bytes())
+        self.processes.iter().position(|process| is_same(process.name.as_bytes(), name.as_bytes()))
     }
 
     /// The place of the port of this name.
@@ -291,7 +290,7 @@ impl Draft {
     {
         self.ports
             .iter()
-            .position(|port| port.name.as_bytes() == name.as_bytes())
+            .position(|port| is_same(port.name.as_bytes(), name.as_bytes()))
     }
 
     /// Whether a process or a port has this name.
@@ -304,9 +303,7 @@ impl Draft {
     fn is_process(&self, name: &Reason) -> bool
         ensures { result ≡ list_any (λ p. bytes_eq p.name name.now) self.now.processes.items }
     {
-        self.processes
-            .iter()
-            .any(|process| process.name.as_bytes() == name.as_bytes())
+        self.processes.iter().any(|process| is_same(process.name.as_bytes(), name.as_bytes()))
     }
 
     fn is_port(&self, name: &Reason) -> bool
@@ -314,7 +311,7 @@ impl Draft {
     {
         self.ports
             .iter()
-            .any(|port| port.name.as_bytes() == name.as_bytes())
+            .any(|port| is_same(port.name.as_bytes(), name.as_bytes()))
     }
 
     /// Takes in a step of the process of this name at the port of that name.

@@ -29,11 +29,15 @@ pub(crate) fn statement_of(alloc: Global, line: &[u8]) -> Result<Statement, Part
     form(alloc, first, rest)
 }
 
-/// Whether a line may have each of these bytes.
+/// Whether a line may have each of these bytes. It looks at all of them, many at a time, since few lines have one that isn't.
 fn all_printable(line: &[u8]) -> bool
     ensures { result ≡ list_all is_printable line.now }
 {
-    line.iter().all(|byte| is_printable(*byte))
+    let mut printable = true;
+    for byte in line {
+        printable &= is_printable(*byte);
+    }
+    printable
 }
 
 /// Whether a line may have this byte.

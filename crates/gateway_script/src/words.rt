@@ -71,7 +71,11 @@ pub(crate) fn next_name(bytes: &[u8]) -> Option<(Reason, &[u8])>
 fn is_reserved(name: &Reason) -> bool
     ensures { result ≡ is_reserved name.now }
 {
-    matches!(name.as_str(), "process" | "port" | "journal" | "save")
+    let name = name.as_bytes();
+    spells(name, "process")
+        || spells(name, "port")
+        || spells(name, "journal")
+        || spells(name, "save")
 }
 
 /// The NAME that a word is, if a process or a port can have it.
@@ -98,7 +102,25 @@ pub(crate) fn next_free_name(bytes: &[u8]) -> Option<(Reason, &[u8])>
 pub(crate) fn spells(word: &[u8], this: &str) -> bool
     ensures { result ≡ bytes_eq word.now this.now }
 {
-    word == this.as_bytes()
+    is_same(word, this.as_bytes())
+}
+
+/// Whether the two are the same. They are compared from the end, since most names of a script that differ do so there.
+#[inline(always)]
+pub(crate) fn is_same(left: &[u8], right: &[u8]) -> bool
+    ensures { result ≡ bytes_eq left.now right.now }
+{
+    if left.len() != right.len() {
+        return false;
+    }
+    let mut place = left.len();
+    while place > 0 {
+        place -= 1;
+        if left[place] != right[place] {
+            return false;
+        }
+    }
+    true
 }
 
 /// The NUMBER behind a gap.
