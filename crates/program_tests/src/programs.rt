@@ -174,27 +174,7 @@ impl<C: Child, P: PollSet, S> StartedProgram<C, P, S> {
     }
 }
 
-/// The program that this command text names, with what starts it and its poll set.
-fn start_with<P: Drop, S: Spawner + Drop>(
-    alloc: Global,
-    poll: P,
-    mut spawner: S,
-    command: &[u8],
-) -> Result<StartedProgram<S::Program, P, S>, Fail> {
-    match start(alloc, &mut spawner, command) {
-        Ok(child) => {
-            Ok(StartedProgram {
-                alloc,
-                child,
-                poll,
-                spawner,
-            })
-        }
-        Err(_) => Err("no program was started".into()),
-    }
-}
-
-/// The program that this command text names, started on this machine.
+/// The program that this command text names, started on this machine, with its poll set and what started it.
 fn start_program<R>(
     alloc: Global,
     rt: R,
@@ -212,8 +192,18 @@ where
         + 'static,
 {
     let poll = poll_set(alloc, rt)?;
-    let spawner = spawner(alloc, rt, &poll)?;
-    start_with(alloc, poll, spawner, command)
+    let mut spawner = spawner(alloc, rt, &poll)?;
+    match spawner.start(alloc, command) {
+        Ok(child) => {
+            Ok(StartedProgram {
+                alloc,
+                child,
+                poll,
+                spawner,
+            })
+        }
+        Err(_) => Err("no program was started".into()),
+    }
 }
 
 /// Whether a program gives back these bytes, and then those. It is stopped at the end.
