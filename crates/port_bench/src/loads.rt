@@ -4,7 +4,8 @@ ghost use Rattle.std.specs.Prelude.{◌≡◌, ◌+◌, ◌<◌, ◌≤◌};
 use crate::work::ROUNDS;
 use anyhow::{Result, ensure};
 use outside::OpenGate;
-use sched_load::{LoadSize, Turns, run_load};
+use sched_load::{LoadEnd, LoadSize, Turns, run_load};
+use std::io;
 use std::rt::Clock;
 use std::sync::Wait;
 use std::thread::Threads;
@@ -48,6 +49,47 @@ pub(crate) fn idle_load(schedulers: u32, millis: u32) -> LoadSize
     }
 }
 
+/// When a run began, and how much processor time the program had then taken.
+#[derive(Clone, Copy)]
+struct Begun {
+    start: Instant,
+    processors: Duration,
+}
+
+impl Begun {
+    fn now<R: Clock + CpuClock>(rt: &R) -> io::Result<Begun> {
+        let start = Instant::now(rt)?;
+        let processors = rt.process_cpu_time()?;
+        Ok(Begun { start, processors })
+    }
+
+    /// How long ago that was, and how much processor time was taken since.
+    fn passed<R: Clock + CpuClock>(self, rt: &R) -> io::Result<(Duration, Duration)> {
+        let processors = rt.process_cpu_time()?.saturating_sub(self.processors);
+        Ok((self.start.elapsed(rt)?, processors))
+    }
+}
+
+/// Whether each port took so many numbers of each job once.
+fn took_each_once(outcome: &LoadEnd, numbers: u64) -> bool {
+    for lodger in outcome.tills.as_slice() {
+        if !lodger.body.took_each_once(numbers) {
+            return false;
+        }
+    }
+    true
+}
+
+/// The turns of a run in which each port took so many numbers of each job once.
+fn turns_of(outcome: &LoadEnd, numbers: u64) -> Result<Turns> {
+    ensure!(outcome.all_done, "a scheduler found no memory");
+    ensure!(
+        took_each_once(outcome, numbers),
+        "a port took another command"
+    );
+    Ok(outcome.turns)
+}
+
 /// Makes one run, and sees that each port took each command once.
 pub(crate) fn timed_run<R: Clock + CpuClock + AllocGlobal + Wait + Threads + Sync>(
     rt: &R,
@@ -56,21 +98,15 @@ pub(crate) fn timed_run<R: Clock + CpuClock + AllocGlobal + Wait + Threads + Syn
     requires schedulers { (0 < size.schedulers) × (size.schedulers ≤ 16) }
     requires few { size.ports + size.schedulers + size.jobs ≤ 1024 }
 {
-    let start = Instant::now(rt)?;
-    let before = rt.process_cpu_time()?;
+    let begun = Begun::now(rt)?;
     let outcome = run_load(rt, rt.alloc(), &OpenGate, size)?;
-    let processors = rt.process_cpu_time()?.saturating_sub(before);
-    let time = start.elapsed(rt)?;
-    ensure!(outcome.all_done, "a scheduler found no memory");
-    let all_took = outcome
-        .tills
-        .iter()
-        .all(|lodger| lodger.body.took_each_once(size.numbers));
-    ensure!(all_took, "a port took another command");
+    let passed = begun.passed(rt);
+    let turns = turns_of(&outcome, size.numbers)?;
+    let (time, processors) = passed?;
     Ok(Timed {
         time,
         processors,
-        turns: outcome.turns,
+        turns,
     })
 }
 

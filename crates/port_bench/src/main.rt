@@ -8,7 +8,10 @@
 //! time, and how many turns of idle ports. `port_bench all` does all of it. With no word each work is made once with a few commands, and no time is printed.
 #![tactic(auto)]
 
+ghost use Rattle.std.specs.Prelude.{◌<◌, ◌≤◌};
+
 mod bodies;
+mod crew;
 mod loads;
 mod opening;
 mod peers;
@@ -19,7 +22,8 @@ use crate::loads::{load_of, timed_run};
 use crate::rows::{SCHEDULERS, print_idle, print_rows, print_schedulers, print_works};
 use crate::work::{BodyWork, WORKS};
 use anyhow::{Context, Result, bail};
-use std::env;
+use std::env::{self, Env};
+use std::io;
 use std::rt::Clock;
 use std::sync::Wait;
 use std::thread::Threads;
@@ -35,14 +39,27 @@ const COMMANDS: u32 = 131_072;
 const IDLE: u32 = 5_000;
 
 fn main(rt: HostRuntime) -> Result<()> {
-    let name = env::args(&rt)?.nth(1);
-    let count = match &env::args(&rt)?.nth(2) {
-        Some(text) => Some(text.as_str().parse::<u32>().context("a number")?),
-        None => None,
-    };
+    let (name, count) = words(&rt)?;
+    let count = number(&count)?;
     match &name {
         Some(name) => make(&rt, name.as_str(), count),
         None => try_all(&rt),
+    }
+}
+
+/// The first two words behind the program's name.
+fn words<R: AllocGlobal + Env>(rt: &R) -> io::Result<(Option<String>, Option<String>)> {
+    let mut words = env::args(rt)?;
+    let name = words.nth(1);
+    let count = words.next();
+    Ok((name, count))
+}
+
+/// The number that a word tells, if there is one.
+fn number(word: &Option<String>) -> Result<Option<u32>> {
+    match word {
+        Some(text) => Ok(Some(text.as_str().parse::<u32>().context("a number")?)),
+        None => Ok(None),
     }
 }
 
@@ -51,13 +68,28 @@ fn try_all<R: Clock + CpuClock + AllocGlobal + Print + Wait + Threads + Sync>(
     rt: &R,
 ) -> Result<()> {
     for work in WORKS {
-        work.make(rt, FEW)?;
-        println!(rt; "{}: {FEW} made", work.name())?;
+        try_work(rt, work)?;
     }
     for schedulers in SCHEDULERS {
-        timed_run(rt, load_of(schedulers, FEW))?;
-        println!(rt; "schedulers_{schedulers}: {FEW} made")?;
+        try_load(rt, schedulers)?;
     }
+    Ok(())
+}
+
+fn try_work<R: Clock + AllocGlobal + Print + Wait>(rt: &R, work: BodyWork) -> Result<()> {
+    work.make(rt, FEW)?;
+    println!(rt; "{}: {FEW} made", work.name())?;
+    Ok(())
+}
+
+fn try_load<R: Clock + CpuClock + AllocGlobal + Print + Wait + Threads + Sync>(
+    rt: &R,
+    schedulers: u32,
+) -> Result<()>
+    requires { (0 < schedulers) × (schedulers ≤ 16) }
+{
+    timed_run(rt, load_of(schedulers, FEW))?;
+    println!(rt; "schedulers_{schedulers}: {FEW} made")?;
     Ok(())
 }
 
@@ -76,15 +108,18 @@ fn make<R: Clock + CpuClock + AllocGlobal + Print + Wait + Threads + Sync>(
             print_idle(rt, IDLE)
         }
         _ => {
-            let Some(work) = work_named(name) else {
-                bail!("no work has this name");
-            };
+            let work = work_named(name)?;
             print_rows(rt, work, count.unwrap_or(work.commands()))
         }
     }
 }
 
 /// The work on one port that has this name.
-fn work_named(name: &str) -> Option<BodyWork> {
-    WORKS.into_iter().find(|work| work.name() == name)
+fn work_named(name: &str) -> Result<BodyWork> {
+    for work in WORKS {
+        if work.name() == name {
+            return Ok(work);
+        }
+    }
+    bail!("no work has this name")
 }

@@ -21,30 +21,41 @@ impl Peer {
     pub(crate) fn new(alloc: Global, number: u32, lanes: ProcessLanes) -> Result<Peer>
         requires { CanBegin 1 number lanes }
     {
-        let ProcessLanes {
-            mailbox,
-            lanes,
-            seats,
-        } = lanes;
-        ensure!(lanes.len() == 1, "a process of other ports");
+        let soft = vec![in alloc; false; 1]?;
+        ensure!(lanes.lanes.len() == 1, "a process of other ports");
         let parts = ProcParts {
             number,
-            mailbox,
-            lanes,
-            seats,
-            soft: vec![in alloc; false; 1]?,
+            mailbox: lanes.mailbox,
+            lanes: lanes.lanes,
+            seats: lanes.seats,
+            soft,
         };
         let proc = Proc::new(alloc, parts);
         Ok(Peer { proc })
     }
 
     /// Puts a command of these bytes, which are shared.
-    pub(crate) fn command<R: Wait>(self, rt: &R, alloc: Global, bytes: &Piece) -> Result<Peer> {
+    fn command<R: Wait>(self, rt: &R, alloc: Global, bytes: &Piece) -> Result<Peer> {
         let payload = IoVec::of_piece(alloc, bytes.share()?);
         match self.proc.command(rt, 1, 0, payload, How::Plain) {
             Commanded::Accepted(proc, _) => Ok(Peer { proc }),
             _ => bail!("a command wasn't accepted"),
         }
+    }
+
+    /// Puts so many commands of these bytes, one after another.
+    pub(crate) fn put_all<R: Wait>(
+        self,
+        rt: &R,
+        alloc: Global,
+        bytes: &Piece,
+        count: u32,
+    ) -> Result<Peer> {
+        let mut peer = self;
+        for _ in 0..count {
+            peer = peer.command(rt, alloc, bytes)?;
+        }
+        Ok(peer)
     }
 
     /// Puts a control without data.
@@ -55,11 +66,16 @@ impl Peer {
         Ok(())
     }
 
+    /// Takes the next mail, if there is one.
+    fn takes_mail<R: Wait>(&mut self, rt: &R) -> bool {
+        self.proc.mail(rt).is_some()
+    }
+
     /// Takes mail until none is found, and answers how much came.
     pub(crate) fn take_mail<R: Wait>(&mut self, rt: &R) -> u32 {
         let mut taken = 0u32;
         for _ in rt.forever() {
-            if self.proc.mail(rt).is_none() {
+            if !self.takes_mail(rt) {
                 return taken;
             }
             taken = taken.saturating_add(1);
