@@ -2,4 +2,6 @@
 #![tactic(auto)]
 
 #[cfg(test)]
+mod served;
+#[cfg(test)]
 mod serving;
