@@ -19,7 +19,7 @@ fn next(x: u64) -> u64
 pub(crate) fn values(alloc: Global, count: usize, number: u64) -> Result<Vec<u64>, NoMemory>
     ensures { IfOk result (λ v. v.items ≡ values count number) }
 {
-    let mut all = Vec::new(alloc);
+    let mut all = Vec::with_capacity(alloc, count)?;
     let mut x = number;
     for _ in 0..count {
         x = next(x);
