@@ -29,7 +29,7 @@ plain-head byte plain all = all 0 0 (omega arith)
 plain-tail : (byte : ℕ) (plain : List ℕ) → All IsPlain (byte ∷ plain) → All IsPlain plain
 plain-tail byte plain all = λ k d lt. all (suc k) d (omega (arith, lt))
 
-with_front-none : {A : Type 0} (read : Option (List A × List ℕ)) → with_front [] read ≡ read
+pub with_front-none : {A : Type 0} (read : Option (List A × List ℕ)) → with_front [] read ≡ read
 with_front-none (Some x) = refl
 with_front-none None = refl
 

@@ -58,9 +58,24 @@ pub(crate) fn text_bytes(alloc: Global, bytes: &[u8]) -> Result<(Vec<u8>, &[u8])
     content(alloc, inner)
 }
 
+/// The bytes that a text spells up to its closing quote, and what stands behind that. Those of a text without escapes are taken
+/// at once.
+fn content(alloc: Global, bytes: &[u8]) -> Result<(Vec<u8>, &[u8]), PartFault>
+    ensures reads { Reads (λ x. (x.0.items, x.1.now)) result (content_at (MAX_ITEMS + 1) bytes.now) }
+    ensures few { IfOk result (λ x. length x.0.items ≤ MAX_ITEMS) }
+{
+    let (plain, behind) = bytes.split_at(plain_len(bytes));
+    if plain.len() <= MAX_ITEMS
+        && let Some(rest) = after(b'"', behind)
+    {
+        return Ok((Vec::from_slice(alloc, plain)?, rest));
+    }
+    content_with_escapes(alloc, bytes)
+}
+
 /// The bytes that a text spells up to its closing quote, and what stands behind that. Those that stand for themselves are taken
 /// run by run, each run up to a quote or an escape.
-fn content(alloc: Global, bytes: &[u8]) -> Result<(Vec<u8>, &[u8]), PartFault>
+fn content_with_escapes(alloc: Global, bytes: &[u8]) -> Result<(Vec<u8>, &[u8]), PartFault>
     ensures reads { Reads (λ x. (x.0.items, x.1.now)) result (content_at (MAX_ITEMS + 1) bytes.now) }
     ensures few { IfOk result (λ x. length x.0.items ≤ MAX_ITEMS) }
 {

@@ -2,7 +2,7 @@ use Rattle.std.proofs.Common.{◌≡◌, ◌+◌, ◌-◌, ◌≤◌, length}
 use Rattle.port_terms.specs.declared.values.TheConstants.{MAX_ITEMS}
 use Rattle.script_text.specs.Reading.{content_at}
 use Rattle.script_text.proofs.Turns.{with_front}
-use Rattle.script_text.proofs.texts.content.Given as goal
+use Rattle.script_text.proofs.texts.content_with_escapes.Given as goal
 
 -- each turn that goes on takes a byte at least
 abbrev pub invariant-loop : goal.invariant-loop
