@@ -1,5 +1,3 @@
-ghost use Rattle.packet_framing.specs.Messages.{IsServed};
-
 use io_vector::{IoVec, NoMemory, Piece};
 use packet_framing::{
     Flag, FrameFault, Message, Mode, UnframeFault, Unframer, frame, unframe, unframe_so_far,
@@ -48,10 +46,11 @@ fn add_last(unframer: &mut Unframer, messages: &mut Vec<Message>) -> Option<()> 
     messages.append(&mut unframer.end().ok()?).ok()
 }
 
-/// The messages of a text that is cut before each place whose bit is set, and then ends.
-fn told(alloc: Global, mode: Mode, text: &[u8], cuts: u32) -> Option<Vec<Message>>
-    requires { IsServed mode }
-{
+/// The messages of a text that is cut before each place whose bit is set, and then ends, in a mode that is served.
+fn told(alloc: Global, mode: Mode, text: &[u8], cuts: u32) -> Option<Vec<Message>> {
+    if !mode.is_served() {
+        return None;
+    }
     let mut unframer = Unframer::new(alloc, mode);
     let mut messages = Vec::new(alloc);
     let mut from = 0;
@@ -69,23 +68,36 @@ fn told(alloc: Global, mode: Mode, text: &[u8], cuts: u32) -> Option<Vec<Message
 }
 
 /// Whether a cutting of a text tells these messages.
-fn tells(alloc: Global, mode: Mode, text: &[u8], cuts: u32, expected: &[(Flag, &[u8])]) -> bool
-    requires { IsServed mode }
-{
-    matches!(told(alloc, mode, text, cuts), Some(told) if are(told.as_slice(), expected))
+fn tells(alloc: Global, mode: Mode, text: &[u8], cuts: u32, expected: &[(Flag, &[u8])]) -> bool {
+    matches!(&told(alloc, mode, text, cuts), Some(told) if are(told.as_slice(), expected))
 }
 
-/// The number of cuttings of a text of twelve bytes that tell these messages.
-fn agreeing(alloc: Global, mode: Mode, text: &[u8], expected: &[(Flag, &[u8])]) -> u32
-    requires { IsServed mode }
-{
-    let mut count = 0u32;
+/// A text of twelve bytes, and its messages in a mode.
+#[derive(Clone, Copy)]
+struct CutText {
+    mode: Mode,
+    text: &'static [u8],
+    messages: &'static [(Flag, &'static [u8])],
+}
+
+/// Whether each cutting of a text tells its messages.
+fn is_told_by_all(alloc: Global, case: CutText) -> bool {
     for cuts in 0..4096u32 {
-        if tells(alloc, mode, text, cuts, expected) {
-            count = count.saturating_add(1);
+        if !tells(alloc, case.mode, case.text, cuts, case.messages) {
+            return false;
         }
     }
-    count
+    true
+}
+
+/// The place of the first text that a cutting tells otherwise, if there is one.
+fn first_told_otherwise(alloc: Global, cases: &[CutText]) -> Option<usize> {
+    for (at, case) in cases.iter().enumerate() {
+        if !is_told_by_all(alloc, *case) {
+            return Some(at);
+        }
+    }
+    None
 }
 
 /// Whether a cutting of a stream tells all its bytes, and no message of none.
@@ -96,32 +108,59 @@ fn streams(alloc: Global, text: &[u8], cuts: u32) -> bool {
     matches!(joined(alloc, messages.as_slice()), Some(bytes) if bytes.as_slice() == text)
 }
 
+/// The first cutting of a stream of twelve bytes that tells other bytes, if there is one.
+fn first_streamed_otherwise(alloc: Global, text: &[u8]) -> Option<u32> {
+    for cuts in 0..4096u32 {
+        if !streams(alloc, text, cuts) {
+            return Some(cuts);
+        }
+    }
+    None
+}
+
+const CUT_TEXTS: [CutText; 4] = [
+    CutText {
+        mode: Mode::Packet1,
+        text: b"\x03abc\x00\x01d\x02ef\x05g",
+        messages: &[
+            (Flag::Plain, b"abc"),
+            (Flag::Plain, b""),
+            (Flag::Plain, b"d"),
+            (Flag::Plain, b"ef"),
+        ],
+    },
+    CutText {
+        mode: Mode::Packet2,
+        text: b"\x00\x03abc\x00\x00\x00\x01d\x00\x05",
+        messages: &[
+            (Flag::Plain, b"abc"),
+            (Flag::Plain, b""),
+            (Flag::Plain, b"d"),
+        ],
+    },
+    CutText {
+        mode: Mode::Packet4,
+        text: b"\x00\x00\x00\x03abc\x00\x00\x00\x00\x00",
+        messages: &[(Flag::Plain, b"abc"), (Flag::Plain, b"")],
+    },
+    CutText {
+        mode: Mode::Line(3),
+        text: b"abc\nabcd\n\nxy",
+        messages: &[
+            (Flag::Eol, b"abc"),
+            (Flag::Noeol, b"abc"),
+            (Flag::Eol, b"d"),
+            (Flag::Eol, b""),
+            (Flag::Noeol, b"xy"),
+        ],
+    },
+];
+
 #[test]
 fn every_cutting_tells_the_same(rt: HostRuntime) {
     let alloc = rt.alloc();
-    let packets: [(Flag, &[u8]); 4] = [
-        (Flag::Plain, b"abc"),
-        (Flag::Plain, b""),
-        (Flag::Plain, b"d"),
-        (Flag::Plain, b"ef"),
-    ];
-    let text = b"\x03abc\x00\x01d\x02ef\x05g";
-    assert!(rt; agreeing(alloc, Mode::Packet1, text, &packets) == 4096);
-    let text = b"\x00\x03abc\x00\x00\x00\x01d\x00\x05";
-    assert!(rt; agreeing(alloc, Mode::Packet2, text, &packets[..3]) == 4096);
-    let text = b"\x00\x00\x00\x03abc\x00\x00\x00\x00\x00";
-    assert!(rt; agreeing(alloc, Mode::Packet4, text, &packets[..2]) == 4096);
-    let lines: [(Flag, &[u8]); 5] = [
-        (Flag::Eol, b"abc"),
-        (Flag::Noeol, b"abc"),
-        (Flag::Eol, b"d"),
-        (Flag::Eol, b""),
-        (Flag::Noeol, b"xy"),
-    ];
-    assert!(rt; agreeing(alloc, Mode::Line(3), b"abc\nabcd\n\nxy", &lines) == 4096);
-    for cuts in 0..4096u32 {
-        assert!(rt; streams(alloc, b"abcdefghijkl", cuts));
-    }
+    assert_eq!(rt; first_told_otherwise(alloc, &CUT_TEXTS), None);
+    assert_eq!(rt; first_streamed_otherwise(alloc, b"abcdefghijkl"), None);
 }
 
 /// A piece of each chunk's bytes.
@@ -133,17 +172,22 @@ fn pieces(alloc: Global, chunks: &[&[u8]]) -> Result<Vec<Piece>, NoMemory> {
     Ok(pieces)
 }
 
+/// Whether the run of these chunks tells these messages, in a mode that is served.
+fn runs(alloc: Global, mode: Mode, chunks: &[&[u8]], expected: &[(Flag, &[u8])]) -> bool {
+    if !mode.is_served() {
+        return false;
+    }
+    let Ok(chunks) = pieces(alloc, chunks) else {
+        return false;
+    };
+    matches!(&unframe(alloc, mode, &chunks), Ok(told) if are(told.as_slice(), expected))
+}
+
 #[test]
-fn a_run_of_chunks(rt: HostRuntime) -> Result<(), Fail> {
-    let chunks = pieces(rt.alloc(), &[b"\x00\x03ab", b"c\x00\x00", b"\x00"])?;
-    let packets = unframe(rt.alloc(), Mode::Packet2, &chunks)?;
-    assert!(rt;
-        are(
-            packets.as_slice(),
-            &[(Flag::Plain, b"abc"), (Flag::Plain, b"")]
-        )
-    );
-    Ok(())
+fn a_run_of_chunks(rt: HostRuntime) {
+    let chunks: [&[u8]; 3] = [b"\x00\x03ab", b"c\x00\x00", b"\x00"];
+    let packets: [(Flag, &[u8]); 2] = [(Flag::Plain, b"abc"), (Flag::Plain, b"")];
+    assert!(rt; runs(rt.alloc(), Mode::Packet2, &chunks, &packets));
 }
 
 #[test]
@@ -180,21 +224,40 @@ fn answers(alloc: Global, header: &[u8]) -> [Option<UnframeFault>; 3] {
     ]
 }
 
+/// The place of the first header that is answered otherwise from then on, if there is one.
+fn first_answered_otherwise(
+    alloc: Global,
+    table: &[(&[u8], Option<UnframeFault>)],
+) -> Option<usize> {
+    for (at, line) in table.iter().enumerate() {
+        let (header, fault) = *line;
+        if answers(alloc, header) != [fault, fault, fault] {
+            return Some(at);
+        }
+    }
+    None
+}
+
+/// Headers of four bytes, and how each is refused.
+const HEADERS: [(&[u8], Option<UnframeFault>); 4] = [
+    (
+        b"\x7f\xff\xff\xff",
+        Some(UnframeFault::Oversize { len: 0x7fff_ffff }),
+    ),
+    (
+        b"\xff\xff\xff\xff",
+        Some(UnframeFault::Oversize { len: 0xffff_ffff }),
+    ),
+    (
+        b"\x00\x04\x00\x00",
+        Some(UnframeFault::Oversize { len: 262_144 }),
+    ),
+    (b"\x00\x03\xff\xff", None),
+];
+
 #[test]
 fn a_frame_that_is_too_long_is_refused_from_then_on(rt: HostRuntime) {
-    let oversize = |len: u64| Some(UnframeFault::Oversize { len });
-    let table: [(&[u8], Option<UnframeFault>); 4] = [
-        (b"\x7f\xff\xff\xff", oversize(0x7fff_ffff)),
-        (b"\xff\xff\xff\xff", oversize(0xffff_ffff)),
-        (b"\x00\x04\x00\x00", oversize(262_144)),
-        (b"\x00\x03\xff\xff", None),
-    ];
-    for (header, fault) in table {
-        assert!(rt;
-            answers(rt.alloc(), header) == [fault, fault, fault],
-            "{header:?}"
-        );
-    }
+    assert_eq!(rt; first_answered_otherwise(rt.alloc(), &HEADERS), None);
 }
 
 /// The frame of these bytes.
@@ -212,17 +275,26 @@ fn sends(alloc: Global, mode: Mode, bytes: &[u8], wanted: &[u8]) -> bool {
     matches!(sent(alloc, mode, bytes), Ok(frame) if frame.as_slice() == wanted)
 }
 
+/// Whether a frame of one byte of length has so many bytes, and begins with the largest byte.
+fn sends_longest(alloc: Global, bytes: &[u8], wanted: usize) -> bool {
+    match &sent(alloc, Mode::Packet1, bytes) {
+        Ok(frame) => frame.len() == wanted && frame.as_slice().first().copied() == Some(255),
+        Err(_) => false,
+    }
+}
+
+/// Why these bytes have no frame of one byte of length, if they have none.
+fn frame_fault(alloc: Global, bytes: &[u8]) -> Option<FrameFault> {
+    sent(alloc, Mode::Packet1, bytes).err()
+}
+
 #[test]
-fn a_frame_has_its_length_first(rt: HostRuntime) -> Result<(), Fail> {
+fn a_frame_has_its_length_first(rt: HostRuntime) {
     let alloc = rt.alloc();
+    let bytes = [0x61u8; 256];
     assert!(rt; sends(alloc, Mode::Packet2, b"abc", b"\x00\x03abc"));
     assert!(rt; sends(alloc, Mode::Packet4, b"abc", b"\x00\x00\x00\x03abc"));
     assert!(rt; sends(alloc, Mode::Line(3), b"abc", b"abc"));
-    let bytes = [0x61u8; 256];
-    let longest = sent(alloc, Mode::Packet1, &bytes[..255])?;
-    assert!(rt; longest.as_slice().first().copied() == Some(255));
-    assert!(rt; longest.len() == 256);
-    let longer = sent(alloc, Mode::Packet1, &bytes).err();
-    assert!(rt; longer == Some(FrameFault::TooLong { len: 256 }));
-    Ok(())
+    assert!(rt; sends_longest(alloc, &bytes[..255], 256));
+    assert!(rt; frame_fault(alloc, &bytes) == Some(FrameFault::TooLong { len: 256 }));
 }

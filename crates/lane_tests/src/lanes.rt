@@ -6,7 +6,6 @@ use std::alloc::{AllocError, Global};
 use std::snapshot::Snapshot;
 use std::sync::Wait;
 use std::sync::atomic::{AtomicU64, Ordering};
-use std::test::Fail;
 use std::thread;
 use std::thread::{Threads, join};
 use task_queue::{Fits, Item, SendEnd, TakeEnd, lane};
@@ -212,18 +211,46 @@ fn deliver<R: Threads + Wait + Sync>(
     finish(rt, gathered, one, two, &done)
 }
 
-#[test]
-fn two_threads_put_and_a_third_takes(rt: HostRuntime) -> Result<(), Fail> {
-    let alloc = rt.alloc();
-    let first: Vec<LaneNumber> = (0..1000).map(LaneNumber).collect(alloc)?;
-    let second: Vec<LaneNumber> = (5000..6000).map(LaneNumber).collect(alloc)?;
-    let items = deliver(&rt, alloc, first, second).ok_or("memory")?;
-    assert_eq!(rt; items.len(), 2000);
-    for item in items.iter().take(2000) {
-        let start = if item.sender == 0 { 0 } else { 5000 };
-        assert_eq!(rt; item.value.0, start + item.seq.min(1000));
+// So many numbers from this one.
+fn numbers(alloc: Global, start: u64, count: u64) -> Option<Vec<LaneNumber>> {
+    (start..start.saturating_add(count))
+        .map(LaneNumber)
+        .collect(alloc)
+        .ok()
+}
+
+// Whether each item is what its sender put. The senders are numbered from `first`, and put their numbers from these starts on.
+fn are_as_put(items: &[Item<LaneNumber>], first: u32, starts: &[u64]) -> bool {
+    for item in items {
+        let place = item.sender.wrapping_sub(first) as usize;
+        let Some(start) = starts.get(place) else {
+            return false;
+        };
+        if item.value.0.checked_sub(*start) != Some(item.seq) {
+            return false;
+        }
     }
-    Ok(())
+    true
+}
+
+// What comes of two lists that two threads put.
+fn delivered<R: Threads + Wait + Sync>(rt: &R, alloc: Global) -> Option<Vec<Item<LaneNumber>>> {
+    let first = numbers(alloc, 0, 1000)?;
+    let second = numbers(alloc, 5000, 1000)?;
+    deliver(rt, alloc, first, second)
+}
+
+// Whether both lists come whole, and in their order.
+fn delivers<R: Threads + Wait + Sync>(rt: &R, alloc: Global) -> bool {
+    match &delivered(rt, alloc) {
+        Some(items) => items.len() == 2000 && are_as_put(items.as_slice(), 0, &[0, 5000]),
+        None => false,
+    }
+}
+
+#[test]
+fn two_threads_put_and_a_third_takes(rt: HostRuntime) {
+    assert!(rt; delivers(&rt, rt.alloc()));
 }
 
 // A job for each list: ends 1, 2 and so on put them.
@@ -343,56 +370,108 @@ fn fan_in<R: Threads + Wait + Sync>(
     finish_all(rt, gathered, ends, &done)
 }
 
-#[test]
-fn each_of_many_lists_comes_in_its_order(rt: HostRuntime) -> Result<(), Fail> {
-    let alloc = rt.alloc();
+// Where the numbers of eight lists begin.
+const STARTS: [u64; 8] = [0, 100, 200, 300, 400, 500, 600, 700];
+
+// A list of fifty numbers from each start.
+fn lists(alloc: Global, starts: &[u64]) -> Option<Vec<Vec<LaneNumber>>> {
     let mut lists = Vec::new(alloc);
-    for start in 0..8u64 {
-        lists.push(
-            (100 * start..100 * start + 50)
-                .map(LaneNumber)
-                .collect(alloc)?,
-        )?;
+    for start in starts {
+        lists.push(numbers(alloc, *start, 50)?).ok()?;
     }
-    let items = fan_in(&rt, alloc, lists).ok_or("memory")?;
-    assert_eq!(rt; items.len(), 400);
-    for item in items {
-        assert_eq!(rt;
-            item.value.0,
-            100 * u64::from(item.sender.clamp(1, 8) - 1) + item.seq.min(50)
-        );
+    Some(lists)
+}
+
+// What comes of the lists that many threads put.
+fn fanned_in<R: Threads + Wait + Sync>(rt: &R, alloc: Global) -> Option<Vec<Item<LaneNumber>>> {
+    match lists(alloc, &STARTS) {
+        Some(lists) => fan_in(rt, alloc, lists),
+        None => None,
     }
-    Ok(())
+}
+
+// Whether all lists come whole, and in their order.
+fn fans_in<R: Threads + Wait + Sync>(rt: &R, alloc: Global) -> bool {
+    match &fanned_in(rt, alloc) {
+        Some(items) => items.len() == 400 && are_as_put(items.as_slice(), 1, &STARTS),
+        None => false,
+    }
 }
 
 #[test]
-fn items_come_in_the_order_of_each_sender(rt: HostRuntime) -> Result<(), Fail> {
-    let (mut first, mut taker) = lane::<LaneNumber>(rt.alloc(), Snapshot::of(&()))?;
-    assert_eq!(rt; first.number(), 0);
-    assert_eq!(rt; first.put(&rt, LaneNumber(10))?, 0);
-    let mut second = first.split()?;
-    assert_eq!(rt; second.number(), 1);
-    assert_eq!(rt; second.put(&rt, LaneNumber(20))?, 0);
-    assert_eq!(rt; first.put(&rt, LaneNumber(30))?, 1);
-    let wanted = [(0, 0, 10), (1, 0, 20), (0, 1, 30)];
+fn each_of_many_lists_comes_in_its_order(rt: HostRuntime) {
+    assert!(rt; fans_in(&rt, rt.alloc()));
+}
+
+// Whether a number is put as the sender's number `seq`.
+fn puts<R: Wait>(rt: &R, end: &mut SendEnd<LaneNumber>, number: u64, seq: u64) -> bool {
+    matches!(end.put(rt, LaneNumber(number)), Ok(put) if put == seq)
+}
+
+// Whether these items are all that are taken.
+fn takes<R: Wait>(rt: &R, end: &mut TakeEnd<LaneNumber>, wanted: &[(u32, u64, u64)]) -> bool {
     for (sender, seq, number) in wanted {
-        let value = LaneNumber(number);
-        assert_eq!(rt; taker.take(&rt), Some(Item { sender, seq, value }));
+        let value = LaneNumber(*number);
+        let item = Item {
+            sender: *sender,
+            seq: *seq,
+            value,
+        };
+        if end.take(rt) != Some(item) {
+            return false;
+        }
     }
-    assert_eq!(rt; taker.take(&rt), None);
-    Ok(())
+    end.take(rt).is_none()
+}
+
+// Whether the first end is number 0 and makes a second one, number 1, and both put numbers.
+fn both_put<R: Wait>(rt: &R, first: &mut SendEnd<LaneNumber>) -> bool {
+    if first.number() != 0 {
+        return false;
+    }
+    let Ok(mut second) = first.split() else {
+        return false;
+    };
+    second.number() == 1 && puts(rt, &mut second, 20, 0) && puts(rt, first, 30, 1)
+}
+
+// Whether what two senders put comes in the order of each.
+fn keeps_order<R: Wait>(rt: &R, alloc: Global) -> bool {
+    let Ok((mut first, mut taker)) = lane::<LaneNumber>(alloc, Snapshot::of(&())) else {
+        return false;
+    };
+    first.number() == 0
+        && puts(rt, &mut first, 10, 0)
+        && both_put(rt, &mut first)
+        && takes(rt, &mut taker, &[(0, 0, 10), (1, 0, 20), (0, 1, 30)])
 }
 
 #[test]
-fn ends_are_taken_in_with_what_they_sent(rt: HostRuntime) -> Result<(), Fail> {
-    let (mut first, mut taker) = lane::<LaneNumber>(rt.alloc(), Snapshot::of(&()))?;
-    let second = first.split()?;
-    first.put(&rt, LaneNumber(10))?;
+fn items_come_in_the_order_of_each_sender(rt: HostRuntime) {
+    assert!(rt; keeps_order(&rt, rt.alloc()));
+}
+
+// The end that takes of a lane, into which both senders were taken in, of which the first put 10.
+fn joined<R: Wait>(rt: &R, alloc: Global) -> Option<TakeEnd<LaneNumber>> {
+    let (mut first, mut taker) = lane::<LaneNumber>(alloc, Snapshot::of(&())).ok()?;
+    let second = first.split().ok()?;
+    first.put(rt, LaneNumber(10)).ok()?;
     taker.take_in(second);
     taker.take_in(first);
-    assert_eq!(rt; taker.take(&rt).map(|item| item.value.0), Some(10));
-    assert_eq!(rt; taker.take(&rt), None);
-    Ok(())
+    Some(taker)
+}
+
+// Whether what the senders put is there once they were taken in.
+fn keeps_what_was_sent<R: Wait>(rt: &R, alloc: Global) -> bool {
+    match joined(rt, alloc) {
+        Some(mut taker) => takes(rt, &mut taker, &[(0, 0, 10)]),
+        None => false,
+    }
+}
+
+#[test]
+fn ends_are_taken_in_with_what_they_sent(rt: HostRuntime) {
+    assert!(rt; keeps_what_was_sent(&rt, rt.alloc()));
 }
 
 // What is taken is used as a place with no test, since it fits the lane's key.
@@ -404,12 +483,19 @@ fn named<'a, R: Wait>(rt: &R, names: &[&'a str], places: &mut TakeEnd<Place>) ->
     Some(names[item.value.0])
 }
 
-#[test]
-fn what_is_taken_fits_the_key(rt: HostRuntime) -> Result<(), Fail> {
+// Whether place 2 is the last of three names, and the only place.
+fn names_its_place<R: Wait>(rt: &R, alloc: Global) -> bool {
     let names = ["a", "b", "c"];
-    let (mut sender, mut taker) = lane::<Place>(rt.alloc(), Snapshot::of(&names.len()))?;
-    sender.put(&rt, Place(2)).ok().ok_or("memory")?;
-    assert_eq!(rt; named(&rt, &names, &mut taker), Some("c"));
-    assert_eq!(rt; named(&rt, &names, &mut taker), None);
-    Ok(())
+    let Ok((mut sender, mut taker)) = lane::<Place>(alloc, Snapshot::of(&names.len())) else {
+        return false;
+    };
+    if sender.put(rt, Place(2)).is_err() {
+        return false;
+    }
+    named(rt, &names, &mut taker) == Some("c") && named(rt, &names, &mut taker).is_none()
+}
+
+#[test]
+fn what_is_taken_fits_the_key(rt: HostRuntime) {
+    assert!(rt; names_its_place(&rt, rt.alloc()));
 }

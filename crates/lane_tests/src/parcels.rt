@@ -5,7 +5,6 @@ use port_model::{IoVec, Piece, Signal, Task};
 use port_words::busy::{AddHow, Added, busy_table};
 use std::alloc::Global;
 use std::sync::Wait;
-use std::test::Fail;
 use waiting_parcels::{Item, Parcel, WaitingList};
 
 /// A command of no bytes, forced or not.
@@ -76,33 +75,56 @@ fn goes(list: &mut WaitingList, busy: bool) -> Option<(u32, u64)>
     Some((item.sender, item.seq))
 }
 
-#[test]
-fn a_busy_port_handles_what_waits_behind_no_command(rt: HostRuntime) -> Result<(), Fail> {
-    let mut list = two_senders(&rt, rt.alloc(), false).ok_or("memory")?;
-    assert!(rt; is_send(&list));
-    assert!(rt; list.len() == 3);
-    assert!(rt; goes(&mut list, true) == Some((1, 0)));
-    assert!(rt; goes(&mut list, true).is_none());
-    assert!(rt; !list.has_sender(1));
-    assert!(rt; list.has_sender(0));
-    Ok(())
+/// Whether these tasks go, one after another.
+fn go(list: &mut WaitingList, busy: bool, tasks: &[Option<(u32, u64)>]) -> bool {
+    for task in tasks {
+        if goes(list, busy) != *task {
+            return false;
+        }
+    }
+    true
+}
+
+/// Whether the control of sender 1 goes alone.
+fn lets_control_go(list: &mut WaitingList) -> bool
+    requires { list.old.senders ≡ 3 }
+{
+    goes(list, true) == Some((1, 0))
+        && goes(list, true).is_none()
+        && !list.has_sender(1)
+        && list.has_sender(0)
+}
+
+/// Whether a busy port handles the control of sender 1 alone, of three tasks that wait behind no forced command.
+fn handles_control<R: Wait>(rt: &R, alloc: Global) -> bool {
+    match two_senders(rt, alloc, false) {
+        Some(mut list) => is_send(&list) && list.len() == 3 && lets_control_go(&mut list),
+        None => false,
+    }
 }
 
 #[test]
-fn a_busy_port_handles_a_forced_command(rt: HostRuntime) -> Result<(), Fail> {
-    let mut list = two_senders(&rt, rt.alloc(), true).ok_or("memory")?;
-    for task in [Some((0, 0)), Some((1, 0)), Some((0, 1)), None] {
-        assert!(rt; goes(&mut list, true) == task);
+fn a_busy_port_handles_what_waits_behind_no_command(rt: HostRuntime) {
+    assert!(rt; handles_control(&rt, rt.alloc()));
+}
+
+/// All tasks in the order of their arrival, and then none.
+const IN_ORDER: [Option<(u32, u64)>; 4] = [Some((0, 0)), Some((1, 0)), Some((0, 1)), None];
+
+/// Whether all tasks go in the order of their arrival, and none is left.
+fn handles_all<R: Wait>(rt: &R, alloc: Global, is_forced: bool, busy: bool) -> bool {
+    match two_senders(rt, alloc, is_forced) {
+        Some(mut list) => go(&mut list, busy, &IN_ORDER) && list.is_empty(),
+        None => false,
     }
-    Ok(())
 }
 
 #[test]
-fn a_free_port_handles_what_waits_in_the_order_of_arrival(rt: HostRuntime) -> Result<(), Fail> {
-    let mut list = two_senders(&rt, rt.alloc(), false).ok_or("memory")?;
-    for task in [Some((0, 0)), Some((1, 0)), Some((0, 1)), None] {
-        assert!(rt; goes(&mut list, false) == task);
-    }
-    assert!(rt; list.is_empty());
-    Ok(())
+fn a_busy_port_handles_a_forced_command(rt: HostRuntime) {
+    assert!(rt; handles_all(&rt, rt.alloc(), true, true));
+}
+
+#[test]
+fn a_free_port_handles_what_waits_in_the_order_of_arrival(rt: HostRuntime) {
+    assert!(rt; handles_all(&rt, rt.alloc(), false, false));
 }

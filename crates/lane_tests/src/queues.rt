@@ -5,20 +5,44 @@ ghost use Rattle.std.specs.Vec.{vec_len};
 use driver_queue::{DeqPast, DriverQueue, EnqFault};
 use io_vector::{IoVec, Piece};
 use std::alloc::Global;
-use std::test::Fail;
+
+/// What is done with a queue, or seen of it.
+#[derive(Clone, Copy)]
+enum QueueStep {
+    /// A vector of `cd` and `e` is put behind but for so many bytes, or is refused.
+    Enqv(u64, Option<EnqFault>),
+    /// The same in front.
+    Pushqv(u64, Option<EnqFault>),
+    /// A segment of these bytes is put in front.
+    Pushq(&'static [u8]),
+    /// So many bytes are dropped, or are too many.
+    Deq(u64, Option<DeqPast>),
+    Clear,
+    Bytes(&'static [u8]),
+    /// The first bytes are these.
+    Front(&'static [u8]),
+    Size(u64),
+    /// The first segment has so many bytes.
+    FirstLen(usize),
+    IsEmpty,
+    IsSend,
+}
 
 /// A queue of one segment.
 fn queue_of(alloc: Global, bytes: &[u8]) -> Option<DriverQueue> {
+    let piece = Piece::of_slice(alloc, bytes).ok()?;
     let mut queue = DriverQueue::new(alloc);
-    queue.enq(Piece::of_slice(alloc, bytes).ok()?).ok()?;
-    Some(queue)
+    let is_put = queue.enq(piece).is_ok();
+    is_put.then_some(queue)
 }
 
 /// A vector of two segments, `cd` and `e`.
 fn cde(alloc: Global) -> Option<IoVec> {
-    let mut vector = IoVec::of_piece(alloc, Piece::of_slice(alloc, b"cd").ok()?);
-    vector.push(Piece::of_slice(alloc, b"e").ok()?).ok()?;
-    Some(vector)
+    let first = Piece::of_slice(alloc, b"cd").ok()?;
+    let second = Piece::of_slice(alloc, b"e").ok()?;
+    let mut vector = IoVec::of_piece(alloc, first);
+    let is_put = vector.push(second).is_ok();
+    is_put.then_some(vector)
 }
 
 fn has_bytes(queue: &DriverQueue, bytes: &[u8]) -> bool {
@@ -32,13 +56,19 @@ fn has_front(queue: &DriverQueue, bytes: &[u8]) -> bool {
 }
 
 /// Why the vector isn't put behind the queue without its first bytes, if it isn't.
-fn enqv_fault(queue: &mut DriverQueue, vector: &IoVec, skip: u64) -> Option<EnqFault> {
-    queue.enqv(vector, skip).err()
+fn enqv_fault(alloc: Global, queue: &mut DriverQueue, skip: u64) -> Option<EnqFault> {
+    match &cde(alloc) {
+        Some(vector) => queue.enqv(vector, skip).err(),
+        None => Some(EnqFault::NoMemory),
+    }
 }
 
 /// Why the vector isn't put in front of the queue without its first bytes, if it isn't.
-fn pushqv_fault(queue: &mut DriverQueue, vector: &IoVec, skip: u64) -> Option<EnqFault> {
-    queue.pushqv(vector, skip).err()
+fn pushqv_fault(alloc: Global, queue: &mut DriverQueue, skip: u64) -> Option<EnqFault> {
+    match &cde(alloc) {
+        Some(vector) => queue.pushqv(vector, skip).err(),
+        None => Some(EnqFault::NoMemory),
+    }
 }
 
 /// Why the first bytes don't leave the queue, if they don't.
@@ -47,17 +77,115 @@ fn deq_fault(queue: &mut DriverQueue, n: u64) -> Option<DeqPast> {
 }
 
 /// Puts a segment of these bytes in front of the queue.
-fn pushq(alloc: Global, queue: &mut DriverQueue, bytes: &[u8]) -> Option<()> {
-    queue.pushq(Piece::of_slice(alloc, bytes).ok()?).ok()
+fn pushes(alloc: Global, queue: &mut DriverQueue, bytes: &[u8]) -> bool {
+    match Piece::of_slice(alloc, bytes) {
+        Ok(piece) => queue.pushq(piece).is_ok(),
+        Err(_) => false,
+    }
 }
 
-/// The length of a segment.
-fn segment_len(queue: &DriverQueue, at: usize) -> Option<usize> {
-    queue.peekq(at).map(|segment| segment.len())
+/// The length of the first segment.
+fn first_len(queue: &DriverQueue) -> Option<usize> {
+    queue.peekq(0).map(|segment| segment.len())
 }
 
 fn is_send<T: Send>(_value: &T) -> bool {
     true
+}
+
+/// Whether a step goes so.
+fn goes(alloc: Global, queue: &mut DriverQueue, step: QueueStep) -> bool {
+    match step {
+        QueueStep::Enqv(skip, fault) => enqv_fault(alloc, queue, skip) == fault,
+        QueueStep::Pushqv(skip, fault) => pushqv_fault(alloc, queue, skip) == fault,
+        QueueStep::Pushq(bytes) => pushes(alloc, queue, bytes),
+        QueueStep::Deq(n, past) => deq_fault(queue, n) == past,
+        QueueStep::Clear => {
+            queue.clear();
+            true
+        }
+        QueueStep::Bytes(bytes) => has_bytes(queue, bytes),
+        QueueStep::Front(bytes) => has_front(queue, bytes),
+        QueueStep::Size(size) => queue.sizeq() == size,
+        QueueStep::FirstLen(len) => first_len(queue) == Some(len),
+        QueueStep::IsEmpty => queue.is_empty(),
+        QueueStep::IsSend => is_send(queue),
+    }
+}
+
+/// The number of the first step of a queue of `ab` that goes otherwise, if one does, or of the step behind the last where memory is
+/// wanting.
+fn first_wrong(alloc: Global, steps: &[QueueStep]) -> Option<usize> {
+    let Some(mut queue) = queue_of(alloc, b"ab") else {
+        return Some(steps.len());
+    };
+    for (at, step) in steps.iter().enumerate() {
+        if !goes(alloc, &mut queue, *step) {
+            return Some(at);
+        }
+    }
+    None
+}
+
+const SKIPPED: [QueueStep; 5] = [
+    QueueStep::Enqv(3, None),
+    QueueStep::Enqv(4, Some(EnqFault::SkipPast { size: 3 })),
+    QueueStep::Bytes(b"ab"),
+    QueueStep::Enqv(1, None),
+    QueueStep::Bytes(b"abde"),
+];
+
+#[test]
+fn a_skip_past_the_vector_is_refused_and_the_queue_stays(rt: HostRuntime) {
+    assert_eq!(rt; first_wrong(rt.alloc(), &SKIPPED), None);
+}
+
+const DROPPED: [QueueStep; 4] = [
+    QueueStep::Deq(3, Some(DeqPast { size: 2 })),
+    QueueStep::Bytes(b"ab"),
+    QueueStep::Deq(1, None),
+    QueueStep::Bytes(b"b"),
+];
+
+#[test]
+fn a_deq_past_the_queue_is_refused(rt: HostRuntime) {
+    assert_eq!(rt; first_wrong(rt.alloc(), &DROPPED), None);
+}
+
+const PUSHED: [QueueStep; 3] = [
+    QueueStep::Pushq(b"z"),
+    QueueStep::Bytes(b"zab"),
+    QueueStep::FirstLen(1),
+];
+
+#[test]
+fn pushq_stands_in_front(rt: HostRuntime) {
+    assert_eq!(rt; first_wrong(rt.alloc(), &PUSHED), None);
+}
+
+const PUSHED_IN_ORDER: [QueueStep; 4] = [
+    QueueStep::Pushqv(1, None),
+    QueueStep::Bytes(b"deab"),
+    QueueStep::Size(4),
+    QueueStep::IsSend,
+];
+
+#[test]
+fn pushqv_keeps_the_order(rt: HostRuntime) {
+    assert_eq!(rt; first_wrong(rt.alloc(), &PUSHED_IN_ORDER), None);
+}
+
+const JOINED: [QueueStep; 5] = [
+    QueueStep::Enqv(0, None),
+    QueueStep::Front(b"a"),
+    QueueStep::Front(b"abc"),
+    QueueStep::Clear,
+    QueueStep::IsEmpty,
+];
+
+#[test]
+fn first_bytes_are_shared_or_joined(rt: HostRuntime) {
+    assert_eq!(rt; first_wrong(rt.alloc(), &JOINED), None);
 }
 
 /// Puts pieces at the back of a queue that has room for them: no call is refused.
@@ -73,69 +201,26 @@ fn enq_all(queue: &mut DriverQueue, pieces: Vec<Piece>)
     }
 }
 
-#[test]
-fn a_skip_past_the_vector_is_refused_and_the_queue_stays(rt: HostRuntime) -> Result<(), Fail> {
-    let mut queue = queue_of(rt.alloc(), b"ab").ok_or("memory")?;
-    let vector = cde(rt.alloc()).ok_or("memory")?;
-    assert!(rt; enqv_fault(&mut queue, &vector, 3).is_none());
-    assert!(rt; enqv_fault(&mut queue, &vector, 4) == Some(EnqFault::SkipPast { size: 3 }));
-    assert!(rt; has_bytes(&queue, b"ab"));
-    assert!(rt; enqv_fault(&mut queue, &vector, 1).is_none());
-    assert!(rt; has_bytes(&queue, b"abde"));
-    Ok(())
-}
-
-#[test]
-fn a_deq_past_the_queue_is_refused(rt: HostRuntime) -> Result<(), Fail> {
-    let mut queue = queue_of(rt.alloc(), b"ab").ok_or("memory")?;
-    assert!(rt; deq_fault(&mut queue, 3) == Some(DeqPast { size: 2 }));
-    assert!(rt; has_bytes(&queue, b"ab"));
-    assert!(rt; deq_fault(&mut queue, 1).is_none());
-    assert!(rt; has_bytes(&queue, b"b"));
-    Ok(())
-}
-
-#[test]
-fn pushq_stands_in_front(rt: HostRuntime) -> Result<(), Fail> {
-    let alloc = rt.alloc();
-    let mut queue = queue_of(alloc, b"ab").ok_or("memory")?;
-    assert!(rt; pushq(alloc, &mut queue, b"z").is_some());
-    assert!(rt; has_bytes(&queue, b"zab"));
-    assert!(rt; segment_len(&queue, 0) == Some(1));
-    Ok(())
-}
-
-#[test]
-fn pushqv_keeps_the_order(rt: HostRuntime) -> Result<(), Fail> {
-    let mut queue = queue_of(rt.alloc(), b"ab").ok_or("memory")?;
-    let vector = cde(rt.alloc()).ok_or("memory")?;
-    assert!(rt; pushqv_fault(&mut queue, &vector, 1).is_none());
-    assert!(rt; has_bytes(&queue, b"deab"));
-    assert!(rt; queue.sizeq() == 4);
-    assert!(rt; is_send(&queue));
-    Ok(())
-}
-
-#[test]
-fn reserved_places_are_enough(rt: HostRuntime) -> Result<(), Fail> {
-    let mut queue = DriverQueue::new(rt.alloc());
-    let mut pieces = Vec::new(rt.alloc());
-    pieces.push(Piece::of_slice(rt.alloc(), b"ab")?)?;
-    pieces.push(Piece::of_slice(rt.alloc(), b"c")?)?;
-    queue.reserve(2)?;
+/// A queue with room for two pieces, in which `ab` and `c` were put.
+fn reserved(alloc: Global) -> Option<DriverQueue> {
+    let mut queue = DriverQueue::new(alloc);
+    let mut pieces = Vec::new(alloc);
+    pieces.push(Piece::of_slice(alloc, b"ab").ok()?).ok()?;
+    pieces.push(Piece::of_slice(alloc, b"c").ok()?).ok()?;
+    queue.reserve(2).ok()?;
     enq_all(&mut queue, pieces);
-    assert!(rt; has_bytes(&queue, b"abc"));
-    Ok(())
+    Some(queue)
+}
+
+/// Whether reserved room takes both pieces.
+fn takes_both(alloc: Global) -> bool {
+    match &reserved(alloc) {
+        Some(queue) => has_bytes(queue, b"abc"),
+        None => false,
+    }
 }
 
 #[test]
-fn first_bytes_are_shared_or_joined(rt: HostRuntime) -> Result<(), Fail> {
-    let mut queue = queue_of(rt.alloc(), b"ab").ok_or("memory")?;
-    let vector = cde(rt.alloc()).ok_or("memory")?;
-    assert!(rt; enqv_fault(&mut queue, &vector, 0).is_none());
-    assert!(rt; has_front(&queue, b"a"));
-    assert!(rt; has_front(&queue, b"abc"));
-    queue.clear();
-    assert!(rt; queue.is_empty());
-    Ok(())
+fn reserved_places_are_enough(rt: HostRuntime) {
+    assert!(rt; takes_both(rt.alloc()));
 }

@@ -1,20 +1,55 @@
 use io_vector::{Flag, IoVec, Past, Piece, PrefixFault};
 use std::alloc::Global;
-use std::test::Fail;
 
-/// Adds a segment at the end, if there is memory.
-fn push(vector: &mut IoVec, piece: Piece) -> Option<()> {
-    vector.push(piece).ok()
+/// What is done with a vector, or seen of it.
+#[derive(Clone, Copy)]
+enum VectorStep {
+    /// So many bytes are dropped, or are too many.
+    Skip(u64, Option<Past>),
+    /// So many first bytes are these, with a third segment of so many.
+    Prefix(u64, &'static [u8], usize),
+    /// So many first bytes are more than there are.
+    PrefixPast(u64, u64),
+    Bytes(&'static [u8]),
+    Size(u64),
+    Segments(usize),
+    IsSend,
+}
+
+/// Puts a segment of these bytes behind.
+fn pushes(alloc: Global, vector: &mut IoVec, bytes: &[u8]) -> bool {
+    match Piece::of_slice(alloc, bytes) {
+        Ok(piece) => vector.push(piece).is_ok(),
+        Err(_) => false,
+    }
+}
+
+/// Puts a segment of no bytes behind.
+fn pushes_none(vector: &mut IoVec) -> bool {
+    vector.push(Piece::empty()).is_ok()
+}
+
+/// A vector of one segment, whose bytes come from a list.
+fn listed(alloc: Global, bytes: &[u8]) -> Option<IoVec> {
+    let piece = Piece::of_vec(bytes.to_vec(alloc).ok()?).ok()?;
+    Some(IoVec::of_piece(alloc, piece))
+}
+
+/// Puts a vector of these bytes behind.
+fn appends(alloc: Global, vector: &mut IoVec, bytes: &[u8]) -> bool {
+    match listed(alloc, bytes) {
+        Some(other) => vector.append(other).is_ok(),
+        None => false,
+    }
 }
 
 /// A vector of three segments, `head`, none and `body`.
 fn framed(alloc: Global) -> Option<IoVec> {
     let mut vector = IoVec::new(alloc);
-    push(&mut vector, Piece::of_slice(alloc, b"head").ok()?)?;
-    push(&mut vector, Piece::empty())?;
-    let body = Piece::of_vec(b"body".to_vec(alloc).ok()?).ok()?;
-    vector.append(IoVec::of_piece(alloc, body)).ok()?;
-    Some(vector)
+    let is_made = pushes(alloc, &mut vector, b"head")
+        && pushes_none(&mut vector)
+        && appends(alloc, &mut vector, b"body");
+    is_made.then_some(vector)
 }
 
 fn has_bytes(vector: &IoVec, bytes: &[u8]) -> bool {
@@ -26,72 +61,123 @@ fn skip_fault(vector: &mut IoVec, n: u64) -> Option<Past> {
     vector.skip(n).err()
 }
 
-/// The vector of the first bytes, if there are so many.
-fn front_of(vector: &IoVec, n: u64) -> Option<IoVec> {
-    vector.prefix(n).ok()
+/// The length of the third segment.
+fn third_len(vector: &IoVec) -> Option<usize> {
+    vector.segment(2).map(|segment| segment.len())
 }
 
-/// The length of a segment.
-fn segment_len(vector: &IoVec, at: usize) -> Option<usize> {
-    vector.segment(at).map(|segment| segment.len())
-}
-
-/// Drops the first bytes of a piece, if its first bytes are the shared ones.
-fn advance_past(piece: &mut Piece, shared: &Piece, n: usize) -> bool {
-    if piece.len() != n {
-        return false;
+/// Whether so many first bytes are these, with a third segment of so many.
+fn has_front(vector: &IoVec, n: u64, bytes: &[u8], third: usize) -> bool {
+    match &vector.prefix(n) {
+        Ok(front) => has_bytes(front, bytes) && third_len(front) == Some(third),
+        Err(_) => false,
     }
-    let is_shared = matches!(piece.part(0, n), Ok(part) if part == *shared);
-    piece.advance(n);
-    is_shared
+}
+
+/// Whether so many first bytes are more than the bytes, of which there are so many.
+fn has_no_front(vector: &IoVec, n: u64, wanted: u64) -> bool {
+    matches!(&vector.prefix(n), Err(PrefixFault::Past { size }) if *size == wanted)
 }
 
 fn is_send<T: Send>(_value: &T) -> bool {
     true
 }
 
+/// Whether a step goes so.
+fn goes(vector: &mut IoVec, step: VectorStep) -> bool {
+    match step {
+        VectorStep::Skip(n, past) => skip_fault(vector, n) == past,
+        VectorStep::Prefix(n, bytes, third) => has_front(vector, n, bytes, third),
+        VectorStep::PrefixPast(n, size) => has_no_front(vector, n, size),
+        VectorStep::Bytes(bytes) => has_bytes(vector, bytes),
+        VectorStep::Size(size) => vector.size() == size,
+        VectorStep::Segments(count) => {
+            vector.segments() == count && vector.as_slice().len() == count
+        }
+        VectorStep::IsSend => is_send(vector),
+    }
+}
+
+/// The number of the first step that goes otherwise, if one does, or of the step behind the last where memory is wanting.
+fn first_wrong(vector: Option<IoVec>, steps: &[VectorStep]) -> Option<usize> {
+    let Some(mut vector) = vector else {
+        return Some(steps.len());
+    };
+    for (at, step) in steps.iter().enumerate() {
+        if !goes(&mut vector, *step) {
+            return Some(at);
+        }
+    }
+    None
+}
+
+const SKIPPED: [VectorStep; 4] = [
+    VectorStep::Skip(5, None),
+    VectorStep::Bytes(b"ody"),
+    VectorStep::Segments(1),
+    VectorStep::Skip(4, Some(Past { size: 3 })),
+];
+
 #[test]
-fn a_skip_cuts_one_segment(rt: HostRuntime) -> Result<(), Fail> {
-    let mut vector = framed(rt.alloc()).ok_or("memory")?;
-    assert!(rt; skip_fault(&mut vector, 5).is_none());
-    assert!(rt; has_bytes(&vector, b"ody"));
-    assert!(rt; vector.segments() == 1);
-    assert!(rt; skip_fault(&mut vector, 4) == Some(Past { size: 3 }));
-    Ok(())
+fn a_skip_cuts_one_segment(rt: HostRuntime) {
+    assert_eq!(rt; first_wrong(framed(rt.alloc()), &SKIPPED), None);
+}
+
+const PREFIXED: [VectorStep; 2] = [
+    VectorStep::Prefix(6, b"headbo", 2),
+    VectorStep::PrefixPast(9, 8),
+];
+
+#[test]
+fn a_prefix_shares_its_segments(rt: HostRuntime) {
+    assert_eq!(rt; first_wrong(framed(rt.alloc()), &PREFIXED), None);
+}
+
+/// A vector that was shared with one that is gone.
+fn shared(alloc: Global) -> Option<IoVec> {
+    match &framed(alloc) {
+        Some(vector) => vector.share().ok(),
+        None => None,
+    }
+}
+
+const SHARED: [VectorStep; 4] = [
+    VectorStep::Bytes(b"headbody"),
+    VectorStep::Size(8),
+    VectorStep::Segments(3),
+    VectorStep::IsSend,
+];
+
+#[test]
+fn a_shared_vector_outlives_the_first(rt: HostRuntime) {
+    assert_eq!(rt; first_wrong(shared(rt.alloc()), &SHARED), None);
+}
+
+/// Drops all bytes of a piece, whose bytes are these and the shared ones.
+fn advance_past(piece: &mut Piece, shared: &Piece, bytes: &[u8]) -> bool {
+    let n = piece.len();
+    let is_shared = matches!(piece.part(0, n), Ok(part) if part == *shared);
+    piece.advance(n);
+    n == bytes.len() && is_shared && piece.is_empty() && shared.as_slice() == bytes
+}
+
+/// Whether a piece is shared, and then loses its bytes alone.
+fn is_shared_and_cut(alloc: Global, bytes: &[u8]) -> bool {
+    let Ok(mut piece) = Piece::of_slice(alloc, bytes) else {
+        return false;
+    };
+    match &piece.share() {
+        Ok(shared) => advance_past(&mut piece, shared, bytes),
+        Err(_) => false,
+    }
 }
 
 #[test]
-fn a_prefix_shares_its_segments(rt: HostRuntime) -> Result<(), Fail> {
-    let vector = framed(rt.alloc()).ok_or("memory")?;
-    let front = front_of(&vector, 6).ok_or("memory")?;
-    assert!(rt; has_bytes(&front, b"headbo"));
-    assert!(rt; segment_len(&front, 2) == Some(2));
-    assert!(rt; matches!(vector.prefix(9), Err(PrefixFault::Past { size: 8 })));
-    Ok(())
-}
-
-#[test]
-fn a_shared_vector_outlives_the_first(rt: HostRuntime) -> Result<(), Fail> {
-    let copy = framed(rt.alloc()).ok_or("memory")?.share()?;
-    assert!(rt; has_bytes(&copy, b"headbody"));
-    assert!(rt; copy.size() == 8);
-    assert!(rt; copy.as_slice().len() == 3);
-    assert!(rt; is_send(&copy));
-    Ok(())
-}
-
-#[test]
-fn a_piece_is_shared_and_cut(rt: HostRuntime) -> Result<(), Fail> {
-    let mut piece = Piece::of_slice(rt.alloc(), b"abcd")?;
-    let shared = piece.share()?;
-    assert!(rt; advance_past(&mut piece, &shared, 4));
-    assert!(rt; piece.is_empty());
-    assert!(rt; shared.as_slice() == b"abcd".as_slice());
-    Ok(())
+fn a_piece_is_shared_and_cut(rt: HostRuntime) {
+    assert!(rt; is_shared_and_cut(rt.alloc(), b"abcd"));
 }
 
 #[test]
 fn flags_differ(rt: HostRuntime) {
-    assert_ne!(rt; Flag::Eol, Flag::Noeol);
-    assert_ne!(rt; Flag::Plain, Flag::Eol);
+    assert!(rt; Flag::Eol != Flag::Noeol && Flag::Plain != Flag::Eol);
 }
