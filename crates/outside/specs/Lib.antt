@@ -4,6 +4,7 @@ pub mod Disk
 pub mod Log
 pub mod Plan
 pub mod Programs
+pub mod Reading
 pub mod Rounds
 pub mod Spawning
 pub mod Starting

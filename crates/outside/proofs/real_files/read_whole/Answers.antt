@@ -15,6 +15,6 @@ taken_whole (Some all) limit front bytes empty taken shorter =
 
 pub returns-in-Ok-2-clause-whole : goal.returns-in-Ok-2-clause-whole
 returns-in-Ok-2-clause-whole g c =
-    taken_whole _ c.take.result.limit c.new-bytes.result.items c.read_to_end.new.buf.items c.new-bytes.ensures.items
-    (rw c.take.ensures.inner at c.in-Ok-2.ensures.bytes)
-    (let buf = c.read_to_end.new.buf in omega (arith, c.take.ensures.limit, c.saturating_add.ensures, c.len.ensures, c.if-len-max.false, buf.ok.0, buf.ok.1, buf.small))
+    taken_whole _ c.take.result.limit c.in_ok-bytes.bytes.items c.read_rest.new.bytes.items c.in_ok-bytes.ensures.items
+    (rw c.take.ensures.inner at c.in-Ok-2.ensures)
+    (let buf = c.read_rest.new.bytes in omega (arith, c.take.ensures.limit, c.saturating_add.ensures, c.len.ensures, c.if-len-max.false, buf.ok.0, buf.ok.1, buf.small))
