@@ -8,3 +8,4 @@ pub mod Ranges
 pub mod Configs
 pub mod Turns
 pub mod Plans
+pub mod FirstLine

@@ -7,7 +7,7 @@ ghost use Rattle.gateway_script.specs.Script.{script, with_line, IsFaultOf};
 use crate::draft::Draft;
 use crate::forms::statement_of;
 use crate::line_fault::LineFault;
-use crate::lines::number_of;
+use crate::lines::{first_line, number_behind};
 use script_plan::{Script, ScriptFault};
 use std::alloc::Global;
 
@@ -52,11 +52,15 @@ pub fn read_script(alloc: Global, bytes: &[u8]) -> Result<Script, ScriptFault>
     ensures fault { IfErr result (λ f. IsFaultOf (script bytes.now) f) }
 {
     let mut draft = Draft::new(alloc)?;
-    for (place, line) in bytes.split(|byte| *byte == b'\n').enumerate() {
-        let number = number_of(place)?;
+    let mut number = 0;
+    let mut left = Some(bytes);
+    while let Some(text) = left {
+        number = number_behind(number)?;
+        let (line, rest) = first_line(text);
         if let Err(fault) = take_line(alloc, &mut draft, number, line) {
             return Err(fault.at(number));
         }
+        left = rest;
     }
     Ok(draft.into_script())
 }
