@@ -28,6 +28,7 @@ use Rattle.load_summary.specs.run_output.script_run.declared.running.RunFault.Th
 use Rattle.load_summary.specs.run_output.script_run.declared.running.ScriptRan.{ScriptRan}
 use Rattle.load_summary.specs.run_output.script_run.Ends.{IsNotRun}
 use Rattle.load_summary.specs.run_output.script_run.Ran.{HasRun}
+use Rattle.load_summary.specs.run_output.saved_output.Served.{ProgramsServed}
 use Rattle.gateway.specs.Fixed.{AnswersAreFixed, IsSummaryOf}
 use Rattle.gateway.specs.Run.{Run, AskFor, PlanFound, HasInput}
 use Rattle.gateway.specs.Ran.{PutOut, Ran}
@@ -188,6 +189,7 @@ module _ {D : Type 0} (kind : D → Kind) (stage : D → Life) (faults : D → �
     input : HasInput run.words run.files read plan i
     has_run : HasRun kind stage faults own program i.script run.hosts run.hosts_after run.answered run.answered_after left
     fixed : AnswersAreFixed i.script left
+    programs : ProgramsServed kind program i.script has_run.places run.hosts_after left
     summary : IsSummaryOf input.loaded.script.asked.source (report_of i.names left)
 
   -- where its script comes from
@@ -206,6 +208,7 @@ module _ {D : Type 0} (kind : D → Kind) (stage : D → Life) (faults : D → �
     left = left;
     has_run = m.has_run;
     fixed = m.fixed;
+    programs = m.programs;
     report_is = refl;
     summary = m.summary;
     written = o;
@@ -263,13 +266,13 @@ module _ {D : Type 0} (kind : D → Kind) (stage : D → Life) (faults : D → �
   -- the run was made
   pub ends_made : (run : Run D) (plan : Plan) (i : RunInput) (source : Source) (read : FilesView) (left : ScriptRan) (cause : Cause) (told : Option Report) → NothingWritten run.files read
       → (h : HasInput run.words run.files read plan i) → AskFor run.words source → ((number : ℕ) → AskFor run.words (FromLoad number) → NothingRead run.files read)
-      → HasRun kind stage faults own program i.script run.hosts run.hosts_after run.answered run.answered_after left → AnswersAreFixed i.script left
-      → IsSummaryOf h.loaded.script.asked.source (report_of i.names left) → run.waits_after ≡ Some run.waits
+      → (r : HasRun kind stage faults own program i.script run.hosts run.hosts_after run.answered run.answered_after left) → AnswersAreFixed i.script left
+      → ProgramsServed kind program i.script r.places run.hosts_after left → IsSummaryOf h.loaded.script.asked.source (report_of i.names left) → run.waits_after ≡ Some run.waits
       → WriteEnds source i.writes (report_of i.names left) read run.files_after run.sink run.sink_after cause told → AllCameBack kind stage faults run.hosts run.hosts_after
       → Ends kind stage faults own program run cause told
   unfolding Untouched
-  ends_made run plan i source read left cause told n h asks quiet r fixed summary p w back =
-      let m : Made run plan i read left = record { unwritten = n; input = h; has_run = r; fixed = fixed; summary = summary } in
+  ends_made run plan i source read left cause told n h asks quiet r fixed programs summary p w back =
+      let m : Made run plan i read left = record { unwritten = n; input = h; has_run = r; fixed = fixed; programs = programs; summary = summary } in
       let asked = h.loaded.script.asked in
       let so = λ (s : Source). WriteEnds s i.writes (report_of i.names left) read run.files_after run.sink run.sink_after cause told in
       let w' : WriteEnds asked.source i.writes (report_of i.names left) read run.files_after run.sink run.sink_after cause told =

@@ -32,7 +32,7 @@ use Rattle.script_plan.specs.declared.fault.ScriptFault.{ScriptFault}
 use Rattle.script_plan.specs.declared.step.Step.{Step}
 use Rattle.script_plan.specs.Plan.{Plan}
 use Rattle.gateway.specs.Run.{Run, AskFor, SaysPlan, PlanRead, PlanFound}
-use Rattle.gateway.specs.Causes.{IsNoScript, ScriptUnread, ScriptOver, StepUnread, StepOver, CauseComes, AreThere, AllStart, FilesThere, ScriptThere, NoDriverFailed, IsValid}
+use Rattle.gateway.specs.Causes.{IsNoScript, ScriptUnread, ScriptOver, StepUnread, StepOver, CauseComes, AreThere, AllStart, FilesThere, ScriptThere, NoStartFailed, IsValid}
 use Rattle.gateway.proofs.Asked.{ok≢err, ok-same, same-source}
 use Rattle.gateway.proofs.Loads.{names-split, load-starts}
 
@@ -202,7 +202,7 @@ module _ {D : Type 0} where
       (bytes_eq-Decides (kind_name (kind driver)) name).0 n
 
   no-refusal : (kind : D → Kind) (stage : D → Life) (faults : D → ℕ) (plan : Plan) (hosts after : List (Hosted D)) (line : ℕ) (refusal : StartRefusal) → AllStart plan
-      → NoDriverFailed faults hosts after → RefusedAt kind stage faults plan.ports hosts after line refusal → ⊥
+      → NoStartFailed faults hosts after → RefusedAt kind stage faults plan.ports hosts after line refusal → ⊥
   no-refusal kind stage faults plan hosts after line refusal starts calm r =
       let within = r.refused.within in
       let place : r.at < length r.places = rw r.found.len within in
@@ -210,11 +210,10 @@ module _ {D : Type 0} where
       let host = slice_index_or hosts spot no-host in
       let u = r.served.unstarted no-decl no-host in
       let is : host.driver ≡ Some u.before = ap (λ (h : Hosted D). h.driver) u.back.handed in
-      let came : (slice_index_or after spot no-host).driver ≡ Some u.after = ap (λ (h : Hosted D). h.driver) u.back.returned in
       let named : is_named kind (slice_index_or plan.ports r.at no-decl).driver host ≡ true = r.found.named r.at no-decl no-host place in
       starts-not (kind u.before) (slice_index_or plan.ports r.at no-decl).config (faults u.before) (faults u.after) refusal r.own u.refuses
       (starts r.at no-decl (kind u.before) within (named-kind kind (slice_index_or plan.ports r.at no-decl).driver host u.before is named))
-      (calm spot no-host u.before u.after is came)
+      (calm spot no-host u.before u.after (r.found.within r.at 0 place) is u.back.returned)
 
   -- ---- a valid run
 
@@ -341,7 +340,7 @@ module _ {D : Type 0} where
         absurd (no-lack kind stage faults run.hosts v.plan.ports line handed v.drivers (subst (λ (p : Plan). LacksAt kind stage faults p.ports run.hosts line handed) same c.0.lacks))
     completes (StartRefused line refusal) c v =
         let same = found-same c.0.plan v c.0.found in
-        absurd (no-refusal kind stage faults v.plan run.hosts run.hosts_after line refusal (starts v.asked.source v.plan v.there) v.calm
+        absurd (no-refusal kind stage faults v.plan run.hosts run.hosts_after line refusal (starts v.asked.source v.plan v.there) v.starts
         (subst (λ (p : Plan). RefusedAt kind stage faults p.ports run.hosts run.hosts_after line refusal) same c.0.refused))
     completes PollFault c v = absurd (no-wait-failed run.waits_after c.0.rose v.waits)
     completes NoMemory c v = inr refl

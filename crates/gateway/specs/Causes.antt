@@ -78,7 +78,7 @@ module _ {D : Type 0} where
   abbrev pub Unwritten : Run D → Type 0
   Unwritten run = NothingWritten run.files run.files_after × (run.sink_after ≡ run.sink)
 
-  -- no count of faults rose
+  -- no count of failed reads, writes, puts or waits rose. Those of drivers may have risen: a call of a program that fails ends its port, and not the run
   pub record NoneRose (run : Run D) : Type 0 where
     pub reads : run.files_after.reads ≡ run.files.reads
     pub writes : run.files_after.writes ≡ run.files.writes
@@ -104,7 +104,7 @@ module _ {D : Type 0} where
       pub found : PlanFound run.words run.files run.files_after plan
       pub rose : IsSomeAnd run.waits_after (λ waits. Rose run.waits waits)
 
-    -- Each cause comes only where this holds. What a run found no memory for, it didn't read or write: no read and no write failed, and where anything was written, the run was made
+    -- Each cause comes only where this holds. Where memory ran out no read failed, and what was written, if anything, is a front of what a run that was made writes
     abbrev pub CauseComes : Run D → Cause → Type 0
     CauseComes run Done = NoneRose run
     CauseComes run (Usage at) = (run.words ≡ Err at) × NothingRead run.files run.files_after × NoneTouched run × Unwritten run
@@ -163,12 +163,13 @@ ScriptThere (FromFile name) before after plan = FilesThere before after name pla
 ScriptThere (FromLoad number) before after plan = plan ≡ load_plan number
 
 module _ {D : Type 0} where
-  -- the count of the faults of no driver rose, or stood at its end
-  abbrev pub NoDriverFailed : (D → ℕ) → List (Hosted D) → List (Hosted D) → Type 0
-  NoDriverFailed faults old new = (at : ℕ) (d : Hosted D) (before after : D) → (slice_index_or old at d).driver ≡ Some before → (slice_index_or new at d).driver ≡ Some after
-      → driver.Rose (faults before) (faults after) → ⊥
+  -- the count of the faults of no driver that is back without a port rose, or stood at its end: no start failed
+  abbrev pub NoStartFailed : (D → ℕ) → List (Hosted D) → List (Hosted D) → Type 0
+  NoStartFailed faults old new = (at : ℕ) (d : Hosted D) (before after : D) → at < length old → (slice_index_or old at d).driver ≡ Some before
+      → slice_index_or new at d ≡ record { port = None; driver = Some after } → driver.Rose (faults before) (faults after) → ⊥
 
-  -- What the words ask for is there and valid, within the limits of its size. A driver that starts is there for each of its ports, and no count of faults rose, or stood at its end
+  -- What the words ask for is there and valid, within the limits of its size. A driver is there for each of its ports, and no start failed; and no count of failed reads, writes, puts or waits rose, or stood
+  -- at its end
   pub record IsValid (kind : D → Kind) (faults : D → ℕ) (run : Run D) : Type 0 where
     pub asked : Asked
     pub plan : Plan
@@ -179,7 +180,7 @@ module _ {D : Type 0} where
     pub writes : Rose run.files.writes run.files_after.writes → ⊥
     pub puts : Rose run.sink.faults run.sink_after.faults → ⊥
     pub waits : IfSome run.waits_after (λ waits. Rose run.waits waits → ⊥)
-    pub calm : NoDriverFailed faults run.hosts run.hosts_after
+    pub starts : NoStartFailed faults run.hosts run.hosts_after
 
   -- How a run ends with this cause and this report: why, what was written, and how the drivers come back. A load reads and writes no file. A valid run is made and its report or its summary is written,
   -- or memory is wanting

@@ -12,8 +12,8 @@ use crate::preparing::{Prepared, prepare};
 use crate::writing::{Output, Written, write_left};
 use driver_hosts::{Driver, Hosted};
 use load_summary::{
-    RunEnd, RunFault, commands_are_echoed, output_is_saved_in_every_run, run_script,
-    summary_is_of_number,
+    RunEnd, RunFault, commands_are_echoed, output_is_saved_in_every_run,
+    programs_are_served_in_every_run, run_script, summary_is_of_number,
 };
 use outside::{Files, Gate, PollSet, Sink};
 use run_report::{Cause, Report};
@@ -106,9 +106,10 @@ pub fn run_hosted<
         names,
         writes,
     } = input;
-    // What is the same in each run, by laws: these calls do nothing.
+    // What holds of each run, by laws: these calls do nothing.
     commands_are_echoed::<D>();
     output_is_saved_in_every_run::<D>();
+    programs_are_served_in_every_run::<D>();
     summary_is_of_number::<D>();
     let RunEnd { ran, poll } = run_script(rt, alloc, gate, &mut drivers, script, poll);
     let left = match ran {
@@ -136,7 +137,7 @@ pub fn run_hosted<
 ///
 /// The call may wait, and what is promised holds if it returns, whatever the schedule.
 ///
-/// Whatever the status, each driver comes back in its place: stopped, or as it was handed in.
+/// Whatever the status, each driver comes back in its place: fresh or stopped, of its kind, with no fewer faults.
 pub fn gateway<
     F: Files,
     K: Sink,

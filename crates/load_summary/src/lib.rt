@@ -8,7 +8,7 @@ ghost use Rattle.load_summary.specs.Law.{SummaryIsOfNumber};
 use port_driver::Driver;
 pub use run_output::{
     OutputFault, RunEnd, RunFault, ScriptRan, commands_are_echoed, output_is_saved_in_every_run,
-    report_of, run_script, write_output, write_summary,
+    programs_are_served_in_every_run, report_of, run_script, write_output, write_summary,
 };
 
 /// The summary of a run of the load of a number is a function of the number: all its commands are handled, none comes late, and what is counted of each port is what the script says.

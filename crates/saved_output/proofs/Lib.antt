@@ -3,3 +3,4 @@ mod Asks
 mod Came
 mod Tasks
 mod Runs
+mod Programs

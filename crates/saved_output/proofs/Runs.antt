@@ -41,7 +41,7 @@ element [] some = absurd (omega (arith, some))
 element (x ∷ xs) some = x
 
 -- a driver of this name serves a program: no other name has this second letter
-named-spawn : (kind : Kind) → kind_name kind ≡ codes "spawn" → kind ≡ Spawn
+pub named-spawn : (kind : Kind) → kind_name kind ≡ codes "spawn" → kind ≡ Spawn
 named-spawn Echo e = absurd (let h : 99 ≡ 112 = ap (λ (name : List ℕ). get_or name 1 0) e in omega (arith, h))
 named-spawn Tally e = absurd (let h : 97 ≡ 112 = ap (λ (name : List ℕ). get_or name 1 0) e in omega (arith, h))
 named-spawn (Valve true) e = absurd (let h : 97 ≡ 112 = ap (λ (name : List ℕ). get_or name 1 0) e in omega (arith, h))
@@ -62,7 +62,7 @@ pair-keeps number ports process processes kind decl port program left came pair 
     (accepted-keep number (calls_of ports program left).asks (calls_of ports program left).receipts (asks-keep number ports program.steps.items program.files.items left.receipts keeps))
 
 -- the history of the port is one of a program's port, whose opener stays its owner
-of-program : (number processes workers : ℕ) (kind : Kind) (decl : PortDecl) (port : PortLeft) → PortHolds number processes workers kind decl port → decl.driver ≡ codes "spawn"
+pub of-program : (number processes workers : ℕ) (kind : Kind) (decl : PortDecl) (port : PortLeft) → PortHolds number processes workers kind decl port → decl.driver ≡ codes "spawn"
     → is_served decl.config.mode ≡ true → IsOfProgram (opening_of number processes kind decl port) (history_of port)
 of-program number processes workers kind decl port holds driver served = record { kind = named-spawn kind (holds.named ∙ driver); served = served; lawful = holds.lawful }
 
@@ -71,7 +71,7 @@ senders-are : (number processes workers : ℕ) (kind : Kind) (decl : PortDecl) (
 senders-are number processes workers kind decl port holds =
     all-reverse (IsFrom processes workers) port.journal.rows (recursion_from_All (IsFrom processes workers) port.journal.rows holds.senders)
 
-config-served : (config : Config) → is_config config ≡ true → is_served config.mode ≡ true
+pub config-served : (config : Config) → is_config config ≡ true → is_served config.mode ≡ true
 config-served config is =
     (and_parts (is_served config.mode) (is_pair config.busy_low config.busy_high)
     (and_parts (is_served config.mode && is_pair config.busy_low config.busy_high) (is_pair config.msgq_low config.msgq_high) is).0).0

@@ -11,3 +11,4 @@ pub mod Others
 pub mod Declared
 pub mod Input
 pub mod Whole
+pub mod Taken

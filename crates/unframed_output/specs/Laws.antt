@@ -15,7 +15,7 @@ use Rattle.driver_model.specs.port_model.declared.row.Row.{Row}
 use Rattle.driver_model.specs.port_model.declared.row.Row.TheVariants.{Handled}
 use Rattle.driver_model.specs.port_signal.Reasons.{is_kill}
 use Rattle.driver_model.specs.Calls.{Spawn}
-use Rattle.driver_model.specs.Spawn.{asked, given}
+use Rattle.driver_model.specs.Spawn.{asked, given, taken_bytes}
 use Rattle.port_history.specs.Counts.{saved_of}
 use Rattle.port_history.specs.Mail.{mails}
 use Rattle.port_history.specs.Opening.{Opening}
@@ -46,6 +46,10 @@ abbrev pub KeepsOwner : List Row → Type 0
 KeepsOwner [] = Unit {0}
 KeepsOwner (Handled from seq task outside effects ∷ older) = (is_connect task.signal ≡ false) × KeepsOwner older
 KeepsOwner (row ∷ older) = KeepsOwner older
+
+-- the calls of the driver took what the rows tell
+abbrev pub OutputIsTaken : Type 0
+OutputIsTaken = (port : Opening) (history : List Row) → IsOfProgram port history → taken_bytes (state port history).calls ≡ bytes_taken history
 
 abbrev pub OutputIsUnframed : Type 0
 OutputIsUnframed = (port : Opening) (history : List Row) → IsOfProgram port history

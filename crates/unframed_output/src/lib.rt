@@ -2,10 +2,12 @@
 //! what it was asked to. Definitions and laws alone.
 #![tactic(auto)]
 
-ghost use Rattle.unframed_output.specs.Laws.{ChunkFails, InputIsTaken, InputIsWhole, MessagesAreDeclared, OutputIsSaved, OutputIsUnframed};
+ghost use Rattle.unframed_output.specs.Laws.{ChunkFails, InputIsTaken, InputIsWhole, MessagesAreDeclared, OutputIsSaved, OutputIsTaken, OutputIsUnframed};
 
-/// The messages that the rows of a program's port sent are those of the bytes that the port took, but for a chunk that failed it; and what its opener saves of them is a function of these bytes.
+/// The calls of the driver took the bytes that the rows tell. The messages that the rows of a program's port sent are those of these bytes, but for a chunk that failed the port; and what its opener saves of
+/// them, as long as it stays the owner, is a function of these bytes and of whether their end was told.
 pub fn output_is_unframed()
+    ensures taken { OutputIsTaken }
     ensures messages { OutputIsUnframed }
     ensures saved { OutputIsSaved }
 {}
@@ -20,7 +22,7 @@ pub fn messages_are_declared()
     ensures { MessagesAreDeclared }
 {}
 
-/// The program took the front of the frames of the commands, as many bytes as it answered; and all of them where the port has ended, wasn't killed, and no call of the program failed.
+/// The program took no more bytes than the frames of the commands have, and the driver counts what it answered; and it took as many where the port has ended, wasn't killed, and no call of the program failed.
 pub fn input_is_taken()
     ensures taken { InputIsTaken }
     ensures whole { InputIsWhole }

@@ -43,6 +43,7 @@ returns-clause-run g c =
     ends_made g.D.Driver.kind g.D.Driver.stage g.D.Driver.faults g.D.Driver.own g.D.Driver.program _ c.in-Ok.ensures.input.0 c.in-Ok.prepared.input _ _ c.in-Ok-ran.left _ _ c.prepare.ensures.files
     c.in-Ok.ensures.input.1 c.in-Ok.ensures.source c.prepare.ensures.load ran
     (answers-fixed g.D.Driver.kind g.D.Driver.stage g.D.Driver.faults g.D.Driver.own g.D.Driver.program laws _ _ _ _ _ _ ran c.in-Ok.ensures.runnable)
+    (c.programs_are_served_in_every_run.ensures _ _ _ _ _ _ ran)
     (summed g.D.Driver.kind g.D.Driver.stage g.D.Driver.faults g.D.Driver.own g.D.Driver.program laws _ _ _ c.in-Ok.ensures.input.0 c.in-Ok.prepared.input c.in-Ok.ensures.input.1 _ _ _ _ c.in-Ok-ran.left ran)
     (poll-kept g.P.PollSet.faults c.args.poll c.run_script-ran.result.poll c.in-Ok-ran.left poll)
     c.write_left-cause.ensures c.run_script-ran.ensures.back
