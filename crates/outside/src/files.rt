@@ -1,4 +1,5 @@
 ghost use Rattle.std.specs.Prelude.{◌≡◌, ℕ, ◌^◌, ◌<◌, ◌≤◌, List, Option, MatchResult};
+ghost use Rattle.std.specs.List.{flat_map};
 ghost use Rattle.outside.specs.Causes.{ReadOk, ReadErr, WriteOk, WriteErr};
 ghost use Rattle.outside.specs.Log.{NamedBytes, noted};
 
@@ -58,15 +59,15 @@ pub trait Files {
         ensures answered { MatchResult result (λ bytes. answered self.new ≡ noted (answered self.old) name.now bytes.items) (λ _. answered self.new ≡ answered self.old) }
         ensures wrote { wrote self.new ≡ wrote self.old };
 
-    /// Makes `bytes` the whole named file, and makes the file where there is none.
+    /// Makes these parts, joined in their order, the whole named file, and makes the file where there is none.
     ///
     /// It answers `Failed` or `NoMemory` alone. After `Failed` the named file is unknown.
-    fn write(&mut self, alloc: Global, name: &str, bytes: &[u8]) -> Result<(), FileFault>
+    fn write(&mut self, alloc: Global, name: &str, parts: &[&[u8]]) -> Result<(), FileFault>
         ensures write { MatchResult result
-            (λ _. WriteOk (writes self.old) (writes self.new) (told self.old) (told self.new) name.now bytes.now)
+            (λ _. WriteOk (writes self.old) (writes self.new) (told self.old) (told self.new) name.now (flat_map (λ part. part.now) parts.now))
             (λ fault. WriteErr (writes self.old) (writes self.new) (told self.old) (told self.new) name.now fault) }
         ensures rises { writes self.old ≤ writes self.new }
         ensures reads { reads self.new ≡ reads self.old }
-        ensures wrote { MatchResult result (λ _. wrote self.new ≡ noted (wrote self.old) name.now bytes.now) (λ _. wrote self.new ≡ wrote self.old) }
+        ensures wrote { MatchResult result (λ _. wrote self.new ≡ noted (wrote self.old) name.now (flat_map (λ part. part.now) parts.now)) (λ _. wrote self.new ≡ wrote self.old) }
         ensures answered { answered self.new ≡ answered self.old };
 }

@@ -26,6 +26,7 @@ mod mem_poll;
 mod mem_program;
 mod mem_sink;
 mod mem_spawner;
+mod part_writer;
 mod poll_set;
 mod real_files;
 mod real_sink;

@@ -1,5 +1,6 @@
 //! What calls answered so far, as clauses see it. A log has no bytes at run time.
 ghost use Rattle.std.specs.Prelude.{◌≡◌, [], ◌++◌};
+ghost use Rattle.std.specs.List.{flat_map};
 ghost use Rattle.outside.specs.Log.{noted};
 
 use std::fmt;
@@ -67,6 +68,14 @@ struct NextFile<'a> {
     bytes: &'a [u8],
 }
 
+/// A log with what it is to note, as another log tells it.
+#[derive(Drop)]
+struct NextTold<'a> {
+    log: &'a FileLog,
+    name: &'a str,
+    bytes: &'a ByteLog,
+}
+
 impl FileLog {
     pub fn new() -> Self
         ensures { result ≡ [] }
@@ -95,6 +104,31 @@ impl FileLog {
         ensures { self.new ≡ noted self.old name.now bytes.now }
     {
         *self = self.with(name, bytes);
+    }
+
+    fn with_told(&self, name: &str, bytes: &ByteLog) -> Self
+        ensures { result ≡ noted self.now name.now bytes.now }
+    {
+        let blank = Snapshot::of(&FileEntries { marker: () });
+        let next = NextTold {
+            log: self,
+            name,
+            bytes,
+        };
+        FileLog {
+            entries: named(blank, &next),
+        }
+    }
+
+    /// Notes one more answer, whose bytes are these parts joined.
+    pub fn note_parts(&mut self, name: &str, parts: &[&[u8]])
+        ensures { self.new ≡ noted self.old name.now (flat_map (λ part. part.now) parts.now) }
+    {
+        let mut bytes = ByteLog::new();
+        for part in parts {
+            bytes.note(*part);
+        }
+        *self = self.with_told(name, &bytes);
     }
 }
 

@@ -1,5 +1,6 @@
 ghost use Rattle.std.specs.Prelude.{◌≡◌, ◌≢◌, ◌^◌, ◌<◌, ◌≤◌, ◌↔◌, [], Some, IsTrue, IsErrOf, OnOk, OnErr, IfOk, MatchResult, position};
 ghost use Rattle.std.specs.Option.{option_copied};
+ghost use Rattle.std.specs.List.{flat_map};
 ghost use Rattle.std.specs.Str.{bytes_eq};
 ghost use Rattle.outside.specs.Causes.{ReadOk, ReadErr, WriteOk, WriteErr};
 ghost use Rattle.outside.specs.Disk.{contents, Rewrites};
@@ -8,7 +9,7 @@ ghost use Rattle.outside.specs.Plan.{fails, after_call, faults_after, no_calls, 
 
 use crate::call_plan::CallPlan;
 use crate::{FaultCount, FileFault, FileLog, Files, NoMemory};
-use std::alloc::Global;
+use std::alloc::{AllocError, Global};
 use std::marker::Model;
 
 /// A file in memory.
@@ -28,12 +29,12 @@ impl Model for NamedFile {
 }
 
 impl NamedFile {
-    fn new(alloc: Global, name: &str, bytes: &[u8]) -> Result<Self, NoMemory>
-        ensures { IfOk result (λ file. file ≡ record { name = name.now; bytes = bytes.now }) }
+    fn new(alloc: Global, name: &str, bytes: Vec<u8>) -> Result<Self, NoMemory>
+        ensures { IfOk result (λ file. file ≡ record { name = name.now; bytes = bytes.items }) }
     {
         Ok(NamedFile {
             name: String::from_str(alloc, name)?,
-            bytes: Vec::from_slice(alloc, bytes)?,
+            bytes,
         })
     }
 
@@ -42,6 +43,17 @@ impl NamedFile {
     {
         self.name.as_str() == name
     }
+}
+
+/// The parts, joined in their order.
+fn joined(alloc: Global, parts: &[&[u8]]) -> Result<Vec<u8>, AllocError>
+    ensures { IfOk result (λ bytes. bytes.items ≡ flat_map (λ part. part.now) parts.now) }
+{
+    let mut bytes = Vec::new(alloc);
+    for part in parts {
+        bytes.extend_from_slice(*part)?;
+    }
+    Ok(bytes)
 }
 
 /// Files in memory, with reads and writes that can be made to fail. It tells what it holds.
@@ -109,11 +121,11 @@ impl MemFiles {
         ensures others { self.new ≡ record self.old { files = self.new.files } }
     {
         let alloc = *self.files.allocator();
-        self.store(alloc, name, bytes)
+        self.store(alloc, name, Vec::from_slice(alloc, bytes)?)
     }
 
-    fn store(&mut self, alloc: Global, name: &str, bytes: &[u8]) -> Result<(), NoMemory>
-        ensures ok { OnOk result (Rewrites self.old.files self.new.files name.now bytes.now) }
+    fn store(&mut self, alloc: Global, name: &str, bytes: Vec<u8>) -> Result<(), NoMemory>
+        ensures ok { OnOk result (Rewrites self.old.files self.new.files name.now bytes.items) }
         ensures err { OnErr result (self.new.files ≡ self.old.files) }
         ensures others { self.new ≡ record self.old { files = self.new.files } }
     {
@@ -204,13 +216,13 @@ impl Files for MemFiles {
     }
 
     /// A write that is to fail changes no file.
-    fn write(&mut self, alloc: Global, name: &str, bytes: &[u8]) -> Result<(), FileFault>
+    fn write(&mut self, alloc: Global, name: &str, parts: &[&[u8]]) -> Result<(), FileFault>
         ensures write { MatchResult result
-            (λ _. WriteOk self.old.write_faults self.new.write_faults (Some (contents self.old.files)) (Some (contents self.new.files)) name.now bytes.now)
+            (λ _. WriteOk self.old.write_faults self.new.write_faults (Some (contents self.old.files)) (Some (contents self.new.files)) name.now (flat_map (λ part. part.now) parts.now))
             (λ fault. WriteErr self.old.write_faults self.new.write_faults (Some (contents self.old.files)) (Some (contents self.new.files)) name.now fault) }
         ensures rises { self.old.write_faults ≤ self.new.write_faults }
         ensures reads { self.new.read_faults ≡ self.old.read_faults }
-        ensures wrote { MatchResult result (λ _. self.new.wrote ≡ noted self.old.wrote name.now bytes.now) (λ _. self.new.wrote ≡ self.old.wrote) }
+        ensures wrote { MatchResult result (λ _. self.new.wrote ≡ noted self.old.wrote name.now (flat_map (λ part. part.now) parts.now)) (λ _. self.new.wrote ≡ self.old.wrote) }
         ensures answered { self.new.answered ≡ self.old.answered }
 
         // A write fails exactly where it is to fail.
@@ -226,9 +238,10 @@ impl Files for MemFiles {
         if self.writes.next_fails(&mut self.write_faults) {
             return Err(FileFault::Failed);
         }
+        let bytes = joined(alloc, parts)?;
         match self.store(alloc, name, bytes) {
             Ok(()) => {
-                self.wrote.note(name, bytes);
+                self.wrote.note_parts(name, parts);
                 Ok(())
             }
             Err(NoMemory) => Err(FileFault::NoMemory),

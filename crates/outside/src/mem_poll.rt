@@ -10,6 +10,8 @@ use crate::{FaultCount, NoMemory, PollFault, PollSet};
 use std::alloc::{AllocError, Global};
 use std::collections::VecDeque;
 use std::marker::Model;
+use std::sync::Arc;
+use wake_ups::Waiter;
 
 /// The events that one wait finds ready.
 #[derive(Debug, Drop)]
@@ -124,6 +126,8 @@ impl PollSet for MemPoll {
     ghost faults = { λ p. p.faults };
 
     ghost answered = { λ p. p.answered };
+
+    fn wake_at(&self, _waiter: &Arc<Waiter, Global>) {}
 
     fn wait(&mut self, alloc: Global, armed: &[u32]) -> Result<Vec<u32>, PollFault>
         requires { IsDistinct (λ a b. a == b) armed.now }

@@ -3,6 +3,8 @@ ghost use Rattle.std.specs.List.{IsDistinct};
 ghost use Rattle.outside.specs.Causes.{WaitOk, WaitErr};
 
 use std::alloc::{AllocError, Global};
+use std::sync::Arc;
+use wake_ups::Waiter;
 
 /// Why a wait answered no events.
 #[derive(Clone, Copy, Debug, PartialEq, Eq)]
@@ -32,6 +34,10 @@ pub trait PollSet {
 
     /// All events that waits answered so far, in order.
     ghost answered: { Self → List ℕ };
+
+    /// Says where the thread waits that is to be woken as soon as an event is ready. The first one that it is told counts. It is a hint as well: a set that knows of no
+    /// readiness beforehand, as one in memory, wakes nobody.
+    fn wake_at(&self, waiter: &Arc<Waiter, Global>);
 
     /// Answers some of the armed events, in their order, each once at most. An empty answer says
     /// nothing.

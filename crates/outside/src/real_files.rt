@@ -2,7 +2,7 @@ ghost use Rattle.std.specs.Prelude.{◌≡◌, ◌<◌, ◌≤◌, [], ◌++◌,
 ghost use Rattle.std.specs.Io.KnownBytes.{IsAtEnd};
 ghost use Rattle.outside.specs.Reading.{Grows};
 
-use crate::real_sink::write_out;
+use crate::part_writer::{part_buffer, write_parts};
 use crate::{FaultCount, FileFault, FileLog, Files};
 use std::alloc::Global;
 use std::fs::OpenFile;
@@ -47,9 +47,11 @@ impl<R: rt::Files> RealFiles<R> {
         }
     }
 
-    fn write_file(&self, name: &str, bytes: &[u8]) -> io::Result<()> {
+    fn write_file(&self, name: &str, buffer: &mut Vec<u8>, parts: &[&[u8]]) -> io::Result<()>
+        requires { buffer.old.items ≡ [] }
+    {
         let mut file = fs::create(&self.rt, name)?;
-        write_out(&mut file, bytes)
+        write_parts(&mut file, buffer, parts)
     }
 }
 
@@ -143,12 +145,14 @@ impl<R: rt::Files> Files for RealFiles<R> {
         }
     }
 
-    fn write(&mut self, _alloc: Global, name: &str, bytes: &[u8]) -> Result<(), FileFault> {
-        if self.write_file(name, bytes).is_err() {
+    /// Where no memory is found, the file is as it was.
+    fn write(&mut self, alloc: Global, name: &str, parts: &[&[u8]]) -> Result<(), FileFault> {
+        let mut buffer = part_buffer(alloc)?;
+        if self.write_file(name, &mut buffer, parts).is_err() {
             self.writes.rise();
             return Err(FileFault::Failed);
         }
-        self.wrote.note(name, bytes);
+        self.wrote.note_parts(name, parts);
         Ok(())
     }
 }

@@ -27,7 +27,7 @@ fn write_fault<F: Files>(
     name: &str,
     bytes: &[u8],
 ) -> Option<FileFault> {
-    files.write(alloc, name, bytes).err()
+    files.write(alloc, name, &[bytes]).err()
 }
 
 /// Files of memory with one of three bytes.
@@ -51,6 +51,7 @@ fn fails_write(files: &mut MemFiles, number: u64) -> bool {
 fn memory_files_give_back_what_was_written(rt: HostRuntime) -> Result<(), Fail> {
     let alloc = rt.alloc();
     let mut files = three_bytes(alloc)?;
+    assert!(rt; joins_parts(alloc, &mut files, "parts.txt")?);
     assert!(rt; write_fault(alloc, &mut files, "out.txt", b"ab").is_none());
     assert!(rt; write_fault(alloc, &mut files, "in.txt", b"second").is_none());
     assert!(rt; reads(alloc, &mut files, "in.txt", 6, b"second"));
@@ -146,12 +147,26 @@ fn removes(rt: &HostRuntime, name: &str) -> bool {
     fs::remove_file(rt, name).is_ok()
 }
 
+/// Whether small parts, one that is larger than any buffer and an empty one are read back joined.
+fn joins_parts<F: Files>(alloc: Global, files: &mut F, name: &str) -> Result<bool, Fail> {
+    let large = vec![in alloc; b'x'; 100000]?;
+    let parts = [b"a".as_slice(), b"bc", large.as_slice(), b"", b"d"];
+    let mut joined = Vec::from_slice(alloc, b"abc")?;
+    joined.extend_from_slice(large.as_slice())?;
+    joined.push(b'd')?;
+    Ok(
+        files.write(alloc, name, &parts).is_ok()
+            && reads(alloc, files, name, 100004, joined.as_slice()),
+    )
+}
+
 #[test]
 fn real_files_give_back_what_was_written(rt: HostRuntime) -> Result<(), Fail> {
     let alloc = rt.alloc();
     let path = file_name(&rt)?;
     let name = path.as_str();
     let mut files = RealFiles::new(rt.clone()?);
+    assert!(rt; joins_parts(alloc, &mut files, name)?);
     assert!(rt; write_fault(alloc, &mut files, name, b"abc").is_none());
     assert!(rt; reads(alloc, &mut files, name, 3, b"abc"));
     assert!(rt; read_fault(alloc, &mut files, name, 2) == Some(FileFault::Over));

@@ -1,3 +1,4 @@
+mod Held
 pub mod Journal
 pub mod Paired
 pub mod Written

@@ -1,6 +1,6 @@
 -- Writes behind writes.
 use Rattle.std.proofs.Common.{rules, arith, ◌≡◌, ◌≢◌, ℕ, ◌+◌, ◌<◌, inl, inr, List, [], ◌∷◌, ◌++◌, length, map, subst, take, drop, get_or, refl, sym, ap, ◌∙◌, append_assoc, length-append}
-use Rattle.std.specs.Prelude.{All, Some, None, Result, Ok, Err}
+use Rattle.std.specs.Prelude.{All, Some, None, IfSome, Result, Ok, Err}
 use Rattle.std.proofs.lemmas.List.{append-nil, get_or_append_left, get_or-append-add, map-append, map_more, take-append-drop}
 use Rattle.outside.specs.Causes.{Told}
 use Rattle.outside.specs.Causes.{OthersStay as OthersStayBut}
@@ -8,6 +8,7 @@ use Rattle.outside.specs.Log.{NamedBytes}
 use Rattle.script_input.specs.Files.{FilesView}
 use Rattle.run_output.specs.declared.writing.OutputFault.{OutputFault}
 use Rattle.run_output.specs.declared.writing.OutputFault.TheVariants.{WriteFault, NoMemory}
+use Rattle.run_output.proofs.Held.{hold-none, hold-one, hold-then}
 use Rattle.run_output.specs.Ends.{OthersStay, TouchesOnly, WroteAll, WroteFront, FilesEnd, SinkView, TextEnds, OutputEnds}
 
 all-left : {X : Type 0} (P : X → Type 0) (xs ys : List X) → All P (xs ++ ys) → All P xs
@@ -48,6 +49,7 @@ others-more old new all more h = others-then old new new all more h (others-same
 pub wrote-none : (files : FilesView) → WroteAll [] files files
 wrote-none files = record {
   touches = record { answered = refl; reads = refl; others = others-same files.told [] };
+  held = hold-none files.told;
   wrote = sym (append-nil files.wrote);
   faults = refl;
 }
@@ -62,6 +64,7 @@ touches-then all more old mid new h k = record {
 pub wrote-then : (all more : List NamedBytes) (old mid new : FilesView) → WroteAll all old mid → WroteAll more mid new → WroteAll (all ++ more) old new
 wrote-then all more old mid new h k = record {
   touches = touches-then all more old mid new h.touches k.touches;
+  held = hold-then old.told mid.told new.told all more h.touches.others h.held k.held;
   wrote = k.wrote ∙ ap (λ log. log ++ more) h.wrote ∙ append_assoc old.wrote all more;
   faults = k.faults ∙ h.faults;
 }
@@ -101,9 +104,10 @@ ends-nothing all old new h = record { touches = h.touches; front = all; rest = [
 
 -- one write answered
 pub wrote-one : (write : NamedBytes) (old new : FilesView) → new.answered ≡ old.answered → new.reads ≡ old.reads → OthersStayBut old.told new.told write.name
-    → new.wrote ≡ old.wrote ++ write ∷ [] → new.writes ≡ old.writes → WroteAll (write ∷ []) old new
-wrote-one write old new answered reads others wrote faults = record {
+    → IfSome new.told (λ files. files write.name ≡ Some write.bytes) → new.wrote ≡ old.wrote ++ write ∷ [] → new.writes ≡ old.writes → WroteAll (write ∷ []) old new
+wrote-one write old new answered reads others holds wrote faults = record {
   touches = record { answered = answered; reads = reads; others = others-one old.told new.told write others };
+  held = hold-one old.told new.told write others holds;
   wrote = wrote;
   faults = faults;
 }

@@ -1,5 +1,6 @@
 -- How what a run left is written, and why not.
-use Rattle.std.specs.Prelude.{◌≡◌, ◌≢◌, ℕ, ◌⊎◌, List, ◌++◌, All, Some, None, Result, Ok, Err, IsSomeAnd}
+use Rattle.std.specs.Prelude.{◌≡◌, ◌≢◌, ℕ, ◌⊎◌, List, [], ◌∷◌, ◌++◌, All, Option, Some, None, Result, Ok, Err, IsSomeAnd, if◌then◌else◌}
+use Rattle.std.specs.Str.{bytes_eq}
 use Rattle.outside.specs.Causes.{Told, Rose}
 use Rattle.outside.specs.Log.{NamedBytes}
 use Rattle.script_input.specs.Files.{FilesView}
@@ -12,19 +13,30 @@ abbrev pub OthersStay : Told → Told → List NamedBytes → Type 0
 OthersStay None new all = new ≡ None
 OthersStay (Some files) new all = IsSomeAnd new (λ files'. (other : List ℕ) → All (λ w. other ≢ w.name) all → files' other ≡ files other)
 
--- nothing was read, and no file was touched but by these writes
+-- what each name holds after these writes
+abbrev pub held_after : List NamedBytes → (List ℕ → Option (List ℕ)) → List ℕ → Option (List ℕ)
+held_after [] files name = files name
+held_after (write ∷ all) files name = held_after all (λ other. if bytes_eq write.name other then Some write.bytes else files other) name
+
+-- the files tell that each name holds what it held before these writes, or what the last of them with that name gave it
+abbrev pub HoldWritten : Told → Told → List NamedBytes → Type 0
+HoldWritten (Some files) (Some files') all = (name : List ℕ) → files' name ≡ held_after all files name
+HoldWritten old new all = Unit {0}
+
+-- nothing was read, and what is told of a name that none of these writes has stays
 pub record TouchesOnly (all : List NamedBytes) (old new : FilesView) : Type 0 where
   pub answered : new.answered ≡ old.answered
   pub reads : new.reads ≡ old.reads
   pub others : OthersStay old.told new.told all
 
--- these writes answered, in this order, and none failed
+-- these writes answered, in this order, and none failed; the files hold what they gave
 pub record WroteAll (all : List NamedBytes) (old new : FilesView) : Type 0 where
   pub touches : TouchesOnly all old new
+  pub held : HoldWritten old.told new.told all
   pub wrote : new.wrote ≡ old.wrote ++ all
   pub faults : new.writes ≡ old.writes
 
--- the first of these writes answered, and no other
+-- some of the first of these writes answered, perhaps all, and no other; of the name of one that didn't nothing is told
 pub record WroteFront (all : List NamedBytes) (old new : FilesView) : Type 0 where
   pub touches : TouchesOnly all old new
   pub front : List NamedBytes

@@ -1,4 +1,5 @@
 ghost use Rattle.std.specs.Prelude.{◌≡◌, ◌<◌, [], ◌∷◌, map, length, All, IfOk};
+ghost use Rattle.std.specs.List.{flat_map};
 ghost use Rattle.run_report.specs.Ports.{HasEnded, IsOfProcesses};
 ghost use Rattle.run_report.specs.Report.{summary_of, text_of};
 ghost use Rattle.run_output.specs.Ends.{sink_view, FilesEnd, OutputEnds, TextEnds};
@@ -9,7 +10,7 @@ use journal_text::print_histories;
 use no_memory::NoMemory;
 use outside::{FileFault, Files, Sink};
 use port_model::Reason;
-use run_report::{ProcessRecord, Report, load_text, report_text, saved_bytes};
+use run_report::{ProcessRecord, Report, load_text, report_text, saved_parts};
 use script_input::RunWrites;
 use script_plan::SaveDecl;
 use std::alloc::Global;
@@ -33,16 +34,17 @@ impl From<NoMemory> for OutputFault {
     }
 }
 
+/// Makes these parts, joined, the whole file of this name.
 fn write_file<F: Files>(
     alloc: Global,
     files: &mut F,
     name: &str,
-    bytes: &[u8],
+    parts: &[&[u8]],
 ) -> Result<(), OutputFault>
-    ensures { FilesEnd (record { name = name.now; bytes = bytes.now } ∷ [])
+    ensures { FilesEnd (record { name = name.now; bytes = flat_map (λ part. part.now) parts.now } ∷ [])
         (files_view F.told F.answered F.wrote F.reads F.writes files.old) (files_view F.told F.answered F.wrote F.reads F.writes files.new) result }
 {
-    match files.write(alloc, name, bytes) {
+    match files.write(alloc, name, parts) {
         Ok(()) => Ok(()),
         Err(FileFault::NoMemory) => Err(OutputFault::NoMemory),
         Err(FileFault::Failed) => Err(OutputFault::WriteFault),
@@ -62,8 +64,8 @@ fn write_save<F: Files>(
         (files_view F.told F.answered F.wrote F.reads F.writes files.old) (files_view F.told F.answered F.wrote F.reads F.writes files.new) result }
 {
     let process = &report.processes.as_slice()[save.process as usize];
-    let bytes = saved_bytes(alloc, save.port, &process.mails)?;
-    write_file(alloc, files, save.file.as_str(), bytes.as_slice())
+    let parts = saved_parts(alloc, save.port, &process.mails)?;
+    write_file(alloc, files, save.file.as_str(), parts.as_slice())
 }
 
 fn write_saves<F: Files>(
@@ -94,7 +96,7 @@ fn write_journal<F: Files>(
 {
     let names = process_names(alloc, report.processes.as_slice())?;
     let text = print_histories(alloc, names.as_slice(), report.ports.as_slice())?;
-    write_file(alloc, files, name, text.as_slice())
+    write_file(alloc, files, name, &[text.as_slice()])
 }
 
 /// The names of these processes, in their order.

@@ -24,7 +24,7 @@ pub use laws::counts_ask_for_owner_and_processes_alone;
 pub use lines::{check_text, replay_text};
 pub use port_driver::StartRefusal;
 pub use report::{Mails, ProcessRecord, Report};
-pub use saved::saved_bytes;
+pub use saved::saved_parts;
 pub use script_plan::ScriptFault;
 pub use summary::load_text;
 pub use text::report_text;

@@ -1,4 +1,5 @@
 ghost use Rattle.std.specs.Prelude.{◌≡◌, ◌++◌, IfOk, OnOk};
+ghost use Rattle.std.specs.List.{flat_map};
 ghost use Rattle.port_history.specs.Counts.{saved_mail, saved_of};
 
 use crate::report::Mails;
@@ -6,21 +7,25 @@ use no_memory::NoMemory;
 use port_model::{Flag, Mail};
 use std::alloc::Global;
 
-/// What a save of the data of a port writes: the bytes of the port's data messages in the order in which they came, each that ends a
-/// line (`Eol`) followed by byte 10.
-pub fn saved_bytes(alloc: Global, port: u32, mails: &Mails) -> Result<Vec<u8>, NoMemory>
-    ensures { IfOk result (λ bytes. bytes.items ≡ saved_of port mails.now) }
+/// What a save of the data of a port writes, in parts that lie where the mail has them: the bytes of the port's data messages in the
+/// order in which they came, each that ends a line (`Eol`) followed by byte 10.
+pub fn saved_parts<'a>(
+    alloc: Global,
+    port: u32,
+    mails: &'a Mails,
+) -> Result<Vec<&'a [u8]>, NoMemory>
+    ensures { IfOk result (λ parts. flat_map (λ part. part.now) parts.items ≡ saved_of port mails.now) }
 {
-    let mut bytes = Vec::new(alloc);
+    let mut parts = Vec::new(alloc);
     for mail in mails.as_slice() {
-        append_data(&mut bytes, port, mail)?;
+        add_data(&mut parts, port, mail)?;
     }
-    Ok(bytes)
+    Ok(parts)
 }
 
-/// Appends what is written of a mail, if it is data of the port.
-fn append_data(out: &mut Vec<u8>, port: u32, mail: &Mail) -> Result<(), NoMemory>
-    ensures { OnOk result (out.new.items ≡ out.old.items ++ saved_mail port mail.now) }
+/// Adds the parts that are written of a mail, if it is data of the port.
+fn add_data<'a>(parts: &mut Vec<&'a [u8]>, port: u32, mail: &'a Mail) -> Result<(), NoMemory>
+    ensures { OnOk result (flat_map (λ part. part.now) parts.new.items ≡ flat_map (λ part. part.now) parts.old.items ++ saved_mail port mail.now) }
 {
     match mail {
         Mail::Message {
@@ -28,9 +33,9 @@ fn append_data(out: &mut Vec<u8>, port: u32, mail: &Mail) -> Result<(), NoMemory
             flag,
             bytes,
         } if *from == port => {
-            out.extend_from_slice(bytes.as_slice())?;
+            parts.push(bytes.as_slice())?;
             if *flag == Flag::Eol {
-                out.push(b'\n')?;
+                parts.push(b"\n".as_slice())?;
             }
             Ok(())
         }

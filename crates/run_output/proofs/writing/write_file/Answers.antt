@@ -4,7 +4,7 @@ use Rattle.run_output.proofs.writing.write_file.Goals as goal
 pub returns-in-Ok : goal.returns-in-Ok
 returns-in-Ok g c =
     let write = c.in-Ok.ensures.write in
-    wrote-one _ _ _ c.in-Ok.ensures.answered c.in-Ok.ensures.reads write.1 c.in-Ok.ensures.wrote write.0
+    wrote-one _ _ _ c.in-Ok.ensures.answered c.in-Ok.ensures.reads write.1 write.2 c.in-Ok.ensures.wrote write.0
 
 pub returns-in-Err-NoMemory : goal.returns-in-Err-NoMemory
 returns-in-Err-NoMemory g c =
