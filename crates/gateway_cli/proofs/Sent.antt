@@ -1,4 +1,4 @@
--- A child of the machine may cross threads.
+-- A child and the poll set of the machine may cross threads.
 use denote.RattleType.{RattleType}
 use denote.Struct.Field.{row_field}
 use denote.Param.Send.{IsSend, sendable}
@@ -10,11 +10,14 @@ use Rattle.outside_programs.specs.contracts.threads.OutputPart as told
 use Rattle.outside_programs.specs.contracts.ends.InputEnd as input
 use Rattle.outside_programs.specs.contracts.ends.OutputEnd as output
 use Rattle.outside_programs.specs.contracts.counts.Counts as counts
+use Rattle.outside_programs.proofs.counts.Counts.TheSendSync as counts_sent
 use Rattle.outside_programs.specs.contracts.real_child.Piped as piped
 use Rattle.outside_programs.specs.contracts.real_child.RealChild as child
+use Rattle.outside_programs.specs.contracts.real_poll.RealPoll as poll
+use Rattle.outside_programs.proofs.pauses.Pauses.TheSendSync as pauses_sent
 
 counts_send : IsSend counts.the_row
-counts_send = declared_send counts.the_type (search (sendable, crosses) depth 20, tt)
+counts_send = counts_sent.the_send
 
 told_send : IsSend told.the_row
 told_send = search (sendable, crosses) depth 20
@@ -56,4 +59,10 @@ child_send R t = declared_send (child.the_type R) (
       ),
     ),
   ),
+)
+
+pub poll_send : (R : RattleType) → IsSend R → IsSend (poll.the_row R)
+poll_send R t = declared_send (poll.the_type R) (
+  as_row_send (row_field R) t,
+  (counts_send, (pauses_sent.the_send, (search (sendable, crosses) depth 20, (search (sendable, crosses) depth 20, tt)))),
 )

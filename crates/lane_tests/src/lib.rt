@@ -16,3 +16,5 @@ mod queues;
 mod ties;
 #[cfg(test)]
 mod vectors;
+#[cfg(test)]
+mod waits;

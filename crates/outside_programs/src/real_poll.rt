@@ -6,15 +6,18 @@ use crate::counts::Counts;
 use crate::pauses::Pauses;
 use outside::{EventLog, FaultCount, NoMemory, PollFault, PollSet};
 use std::alloc::{AllocError, Global};
+use std::sync::Arc;
 use std::thread;
 use std::time::{Clock, Duration};
+use wake_ups::Waiter;
 
 /// The readiness of the events of real children.
 ///
 /// A read event is ready as long as something is there to fetch, and a write event as long as the input
 /// takes a piece: an event stays ready until it is met. Where none is ready, a wait pauses for a
-/// millisecond at most, or ten where nothing was ready for long, and looks once more. It never
-/// fails.
+/// millisecond at most, or ten where nothing was ready for long, and looks once more. Once it was
+/// told whom to wake, the threads of the children wake that one, and a wait doesn't pause. It
+/// never fails.
 #[derive(Drop)]
 pub struct RealPoll<R> {
     rt: R,
@@ -56,7 +59,7 @@ impl<R: Clock + Drop> RealPoll<R> {
         Ok(events)
     }
 
-    /// The ready events. Where there are none, those that are ready after a pause.
+    /// The ready events. Where there are none and nobody is woken, those that are ready after a pause.
     fn ready_soon(
         &self,
         alloc: Global,
@@ -66,7 +69,7 @@ impl<R: Clock + Drop> RealPoll<R> {
         ensures { IfOk result (λ events. IsSublist events.items armed.now) }
     {
         let events = self.ready(alloc, armed)?;
-        if !events.is_empty() {
+        if !events.is_empty() || self.counts.has_waiter() {
             return Ok(events);
         }
         thread::sleep(&self.rt, pause);
@@ -78,6 +81,10 @@ impl<R: Clock + Drop> PollSet for RealPoll<R> {
     ghost faults = { λ p. p.faults };
 
     ghost answered = { λ p. p.answered };
+
+    fn wake_at(&self, waiter: &Arc<Waiter, Global>) {
+        self.counts.wake_at(waiter);
+    }
 
     fn wait(&mut self, alloc: Global, armed: &[u32]) -> Result<Vec<u32>, PollFault> {
         let pause = self.pauses.next(armed.len());

@@ -1,7 +1,7 @@
 // The start of jobs that wait for each other.
-use crate::idle::Idle;
 use crossbeam_utils::atomic::AtomicCell;
 use std::sync::Wait;
+use wake_ups::Idle;
 
 // How often a job looks for the others: with the pauses behind the looks, which grow to ten milliseconds, for ten seconds or a little more.
 const LOOKS: u32 = 1_060;

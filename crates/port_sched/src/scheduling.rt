@@ -9,7 +9,6 @@ ghost use Rattle.port_sched.specs.Tickets.{Serves};
 
 use crate::body::{PortBody, Turn};
 use crate::counts::TurnCounts;
-use crate::idle::Idle;
 use crate::turns::{Home, claim_turn, idle_turn, next_ticket};
 use no_memory::NoMemory;
 use outside::Gate;
@@ -17,6 +16,7 @@ use port_words::home::Ticket;
 use port_words::over::OverSeat;
 use run_queue::RunSeat;
 use std::sync::Wait;
+use wake_ups::Idle;
 
 /// How a scheduler ended.
 #[derive(Clone, Copy, Debug, PartialEq, Eq)]
@@ -233,7 +233,7 @@ fn serve_all<B: PortBody, G: Gate, R: Wait>(
         }
         match serve(rt, homes, run, gate, counts) {
             Ok(true) => idle.reset(),
-            Ok(false) => idle.wait(rt),
+            Ok(false) => run.rest(rt, &idle),
             Err(NoMemory) => return SchedEnd::NoMemory,
         }
     }
@@ -241,7 +241,7 @@ fn serve_all<B: PortBody, G: Gate, R: Wait>(
 }
 
 /// Runs turns until the run is over. It answers Done only where its last look found that all counted seats had finished, or a stop, and stops the run itself where a
-/// turn or a push found no memory. Every body is home when it returns. It may wait, and sleeps for short times while it finds nothing to do.
+/// turn or a push found no memory. Every body is home when it returns. It may wait, and sleeps while it finds nothing to do. The other schedulers that sleep are woken where it ends.
 pub fn scheduler<B: PortBody, G: Gate, R: Wait>(
     rt: &R,
     seats: &mut SchedSeats<B>,
@@ -275,9 +275,10 @@ pub fn counted_scheduler<B: PortBody, G: Gate, R: Wait>(
     let mut counts = TurnCounts { queued: 0, idle: 0 };
     let end = serve_all(rt, homes, run, over, gate, &mut counts);
     match end {
-        SchedEnd::Done => {}
+        SchedEnd::Done => run.wake_all(),
         SchedEnd::NoMemory => {
             over.stop();
+            run.wake_all();
         }
     }
     (end, counts)

@@ -13,7 +13,8 @@ use std::sync::Wait;
 // The steps of one turn.
 const STEPS: u32 = 64;
 
-pub(crate) type Home<B> = HomeSeat<Lodger<B>>;
+/// A seat of a port's home, in which a body lies.
+pub type Home<B> = HomeSeat<Lodger<B>>;
 
 /// Begins the turn of a ticket, makes it, and puts the body home. None where the ticket was found stale.
 pub(crate) fn claim_turn<B: PortBody, G: Gate, R: Wait>(

@@ -22,6 +22,11 @@ pub struct JobSeats<B: PortBody> {
 }
 
 impl<B: PortBody> JobSeats<B> {
+    /// Wakes each scheduler that waits, so that it looks whether the run is over.
+    pub fn wake_schedulers(&self) {
+        self.entry.wake_all();
+    }
+
     /// Queues the next turn of this port, where it is idle. Where its ticket can't be put for want of memory, the ticket is dropped and stays waiting: the run has to
     /// be stopped then. It may spin while another thread is in a call.
     pub fn wake<R: Wait>(&mut self, rt: &R, port: usize) -> Result<(), NoMemory>

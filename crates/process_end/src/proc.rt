@@ -19,6 +19,7 @@ use process_receipts::How;
 use std::alloc::Global;
 use std::marker::Model;
 use std::sync::Wait;
+use task_queue::Idle;
 
 /// A process that may send to its ports.
 #[derive(Drop)]
@@ -119,6 +120,11 @@ impl Proc {
         ensures asked { (asks : List Asked) → HasAsked asks self.old → HasAsked asks self.new }
     {
         self.sides.mail(rt)
+    }
+
+    /// Waits a little for mail, longer each time, as `Idle::wait_at`. Mail that is put ends the wait. It takes none.
+    pub fn rest<R: Wait>(&self, rt: &R, idle: &Idle) {
+        self.sides.rest(rt, idle);
     }
 
     /// Ends the process for a reason, as `exit/1` of module erlang: the ports are told by rising number, but for those that are found closed, each with a receipt of line 0.

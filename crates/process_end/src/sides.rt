@@ -25,7 +25,7 @@ use process_receipts::{How, Receipt};
 use std::alloc::Global;
 use std::marker::Model;
 use std::sync::Wait;
-use task_queue::{Item, SendEnd, TakeEnd};
+use task_queue::{Idle, Item, SendEnd, TakeEnd};
 
 /// A process with its ports.
 #[derive(Drop)]
@@ -128,6 +128,11 @@ impl Sides {
         ensures { result ≡ self.now.number }
     {
         self.number
+    }
+
+    /// Waits a little for mail.
+    pub(crate) fn rest<R: Wait>(&self, rt: &R, idle: &Idle) {
+        self.mailbox.rest(rt, idle);
     }
 
     /// Takes the next mail.

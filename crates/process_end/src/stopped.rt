@@ -11,6 +11,7 @@ use port_model::Mail;
 use std::marker::Model;
 use std::sync::Wait;
 use suspend_list::{StopNote, may_go};
+use task_queue::Idle;
 
 /// A process that a busy port suspended. It has no call that sends.
 #[derive(Drop)]
@@ -47,6 +48,11 @@ impl Stopped {
         ensures { result ≡ self.now.note }
     {
         self.note
+    }
+
+    /// Waits a little for mail, longer each time, as `Idle::wait_at`. Mail that is put ends the wait, as the one that resumes does. It takes none.
+    pub fn rest<R: Wait>(&self, rt: &R, idle: &Idle) {
+        self.sides.rest(rt, idle);
     }
 
     /// Looks at the port's words, and goes on where the busy period of the command is over or the port is closed.

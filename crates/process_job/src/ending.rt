@@ -49,5 +49,6 @@ pub(crate) fn end_process<B: PortBody, R: Wait>(
     };
     wake_told(rt, seats, end.receipts.as_slice())?;
     seats.over.finished();
+    seats.ports.wake_schedulers();
     Ok(end)
 }

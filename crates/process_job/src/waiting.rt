@@ -17,14 +17,30 @@ use port_words::over::OverSeat;
 use process_end::{NotYet, Proc, Stopped};
 use std::sync::Wait;
 
-/// Pauses, where the run wasn't stopped.
-fn pause<R: Wait>(rt: &R, over: &mut OverSeat, idle: &Idle) -> Result<(), Halt>
+/// Pauses until mail comes or a little while is over, where the run wasn't stopped.
+fn pause<R: Wait>(rt: &R, over: &mut OverSeat, proc: &Proc, idle: &Idle) -> Result<(), Halt>
     ensures { OverAfter result over.old over.new }
 {
     if is_stopped(over) {
         return Err(Halt::Stopped);
     }
-    idle.wait(rt);
+    proc.rest(rt, idle);
+    Ok(())
+}
+
+/// As `pause`, of a suspended process.
+fn pause_suspended<R: Wait>(
+    rt: &R,
+    over: &mut OverSeat,
+    stopped: &Stopped,
+    idle: &Idle,
+) -> Result<(), Halt>
+    ensures { OverAfter result over.old over.new }
+{
+    if is_stopped(over) {
+        return Err(Halt::Stopped);
+    }
+    stopped.rest(rt, idle);
     Ok(())
 }
 
@@ -44,7 +60,7 @@ pub(crate) fn wait_for_reply<R: Wait>(
     let idle = Idle::new();
     'mail: for _ in rt.forever() {
         match take_next(rt, log, proc)? {
-            NextMail::Nothing => pause(rt, over, &idle)?,
+            NextMail::Nothing => pause(rt, over, proc, &idle)?,
             NextMail::Reply {
                 port: from,
                 seq: number,
@@ -84,7 +100,7 @@ pub(crate) fn wait_for_data<R: Wait>(
         }
         closed = stat_closed(proc.look(port));
         if !closed {
-            pause(rt, over, &idle)?;
+            pause(rt, over, proc, &idle)?;
         }
     }
     unreachable!()
@@ -142,7 +158,7 @@ pub(crate) fn go_on<R: Wait>(
                 if took_mail {
                     idle.reset();
                 } else {
-                    pause(rt, over, &idle)?;
+                    pause_suspended(rt, over, &waiting, &idle)?;
                 }
             }
         }

@@ -41,7 +41,7 @@ fn wait_for_end<R: Wait>(rt: &R, over: &mut OverSeat)
         if is_over(over) {
             return;
         }
-        idle.wait(rt);
+        over.rest(rt, &idle);
     }
 }
 

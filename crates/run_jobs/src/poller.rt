@@ -181,7 +181,7 @@ fn poll<B: PortBody, S: PollSet, R: Wait>(
                 if is_stopped(over) {
                     return PollerEnd::Stopped;
                 }
-                idle.wait(rt);
+                watch.asks.rest(rt, &idle);
             }
             RoundEnd::Finished => return PollerEnd::Finished,
             RoundEnd::Failed => return PollerEnd::PollFault,
@@ -199,6 +199,7 @@ impl<B: PortBody, S: PollSet> ThreadJob for PollerJob<B, S> {
     ghost went = { HasPolled S.faults S.answered };
 
     fn run<R: Wait>(&mut self, rt: &R) {
+        self.watch.poll.wake_at(self.watch.asks.waiter());
         let end = poll(
             rt,
             self.alloc,

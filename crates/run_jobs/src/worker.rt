@@ -126,7 +126,7 @@ fn work<B: PortBody, R: Wait>(
                 if is_stopped(over) {
                     return WorkerEnd::Stopped;
                 }
-                idle.wait(rt);
+                jobs.rest(rt, &idle);
             }
             WorkerTurn::Finished => return WorkerEnd::Finished,
             WorkerTurn::NoMemory => return WorkerEnd::NoMemory,

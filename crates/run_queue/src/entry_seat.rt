@@ -12,16 +12,19 @@ use port_words::home::Ticket;
 use std::alloc::Global;
 use std::marker::Model;
 use std::sync::{Arc, Wait};
+use wake_ups::{Idle, Waiter};
 
 pub(crate) type Inlet = Injector<Ticket, Global, QueueHand, EachOnce>;
 
-pub(crate) type Pass = InjectorPass<Ticket, QueueHand>;
+pub(crate) type EntryPass = InjectorPass<Ticket, QueueHand>;
 
 /// An end of the injector, for a job beside the schedulers. A clause sees which injector it is, and what this end knows of it.
 #[derive(Drop)]
 pub struct EntrySeat {
     injector: Arc<Inlet, Global>,
-    pass: Pass,
+    pass: EntryPass,
+    // where each scheduler waits, by its number
+    waiters: Arc<Vec<Waiter>, Global>,
 }
 
 impl Model for EntrySeat {
@@ -38,13 +41,18 @@ impl Model for EntrySeat {
 }
 
 impl EntrySeat {
-    // The first end of a new injector, with every part.
-    pub(crate) fn open(alloc: Global) -> Result<EntrySeat, NoMemory>
+    // The first end of a new injector, with every part, beside so many schedulers.
+    pub(crate) fn open(alloc: Global, schedulers: u32) -> Result<EntrySeat, NoMemory>
         ensures { IfOk result (λ e. e.hand ≡ first_hand) }
     {
         let (injector, pass) = Inlet::new_as(alloc)?;
         let injector = Arc::new(alloc, injector)?;
-        Ok(EntrySeat { injector, pass })
+        let waiters = Arc::new(alloc, waiters(alloc, schedulers)?)?;
+        Ok(EntrySeat {
+            injector,
+            pass,
+            waiters,
+        })
     }
 
     // Another end, with one part.
@@ -54,11 +62,17 @@ impl EntrySeat {
         ensures refused { OnErr result (self.new ≡ self.old) }
     {
         let injector = Arc::try_clone(&self.injector)?;
+        let waiters = Arc::try_clone(&self.waiters)?;
         let pass = self.injector.another::<OnePart>(&mut self.pass);
-        Ok(EntrySeat { injector, pass })
+        Ok(EntrySeat {
+            injector,
+            pass,
+            waiters,
+        })
     }
 
-    /// Puts a ticket behind all that the injector has. Where no memory is found the ticket comes back. It may spin while another thread is in a call.
+    /// Puts a ticket behind all that the injector has, and wakes a scheduler, where one waits. Where no memory is found the ticket comes back. It may spin while another
+    /// thread is in a call.
     pub fn put<R: Wait>(&mut self, rt: &R, ticket: Ticket) -> Result<(), (Ticket, NoMemory)>
         ensures ok { OnOk result (self.new ≡ put_entry (ticket ∷ []) self.old) }
         ensures refused { IfErr result (λ e. (e.0 ≡ ticket) × (self.new ≡ self.old)) }
@@ -67,8 +81,35 @@ impl EntrySeat {
             .injector
             .push_as::<PutsTicket, R>(rt, &mut self.pass, ticket)
         {
-            Ok(()) => Ok(()),
+            Ok(()) => {
+                self.wake_one();
+                Ok(())
+            }
             Err(ticket) => Err((ticket, NoMemory)),
+        }
+    }
+
+    // Wakes the first scheduler that waits.
+    fn wake_one(&self) {
+        for waiter in self.waiters.iter() {
+            if waiter.wake() {
+                return;
+            }
+        }
+    }
+
+    /// Wakes each scheduler that waits, so that it looks whether the run is over.
+    pub fn wake_all(&self) {
+        for waiter in self.waiters.iter() {
+            waiter.wake();
+        }
+    }
+
+    // The scheduler of this number waits a little.
+    pub(crate) fn rest<R: Wait>(&self, rt: &R, number: usize, idle: &Idle) {
+        match self.waiters.get(number) {
+            Some(waiter) => idle.wait_at(rt, waiter),
+            None => idle.wait(rt),
         }
     }
 
@@ -98,13 +139,27 @@ impl EntrySeat {
         requires { other.injector ≡ self.old.injector }
         ensures { self.new ≡ joined_entry self.old other }
     {
-        let EntrySeat { injector, pass } = other;
+        let EntrySeat {
+            injector,
+            pass,
+            waiters,
+        } = other;
         self.injector.absorb::<Together>(&mut self.pass, pass);
         drop(injector);
+        drop(waiters);
     }
 }
 
-fn take_by<R: Wait>(rt: &R, injector: &Inlet, pass: &mut Pass) -> Option<Ticket>
+// Where schedulers wait, one for each.
+fn waiters(alloc: Global, schedulers: u32) -> Result<Vec<Waiter>, NoMemory> {
+    let mut all = Vec::new(alloc);
+    for _ in 0..schedulers {
+        all.push(Waiter::new())?;
+    }
+    Ok(all)
+}
+
+fn take_by<R: Wait>(rt: &R, injector: &Inlet, pass: &mut EntryPass) -> Option<Ticket>
     requires { IsInjectorPassOf injector.now pass.old × (0 < (injector_view pass.old).parts) }
     ensures same { IsInjectorPassOf injector.now pass.new }
     ensures some { IfSome result (λ t. injector_view pass.new ≡ after_take (t ∷ []) (injector_view pass.old)) }

@@ -160,7 +160,7 @@ pub fn run_queue(
 {
     let mut owners = owners(alloc, schedulers)?;
     let rows = rows(alloc, &mut owners, schedulers)?;
-    let mut first = EntrySeat::open(alloc)?;
+    let mut first = EntrySeat::open(alloc, schedulers)?;
     let others = split_ends(alloc, &mut first, entries)?;
     let mut all = seats(alloc, owners, rows, &mut first, schedulers)?;
     give_rest(&mut all, first);

@@ -8,6 +8,7 @@ use no_memory::NoMemory;
 use port_words::home::Ticket;
 use std::marker::Model;
 use std::sync::Wait;
+use wake_ups::Idle;
 
 /// A scheduler's seat: it owns the deque of its number, from 0, and can take of each other deque and of the injector. A clause sees what it knows of each.
 #[derive(Drop)]
@@ -156,6 +157,17 @@ impl RunSeat {
             return Some(ticket);
         }
         self.take_other(rt)
+    }
+
+    /// Waits a little, longer each time, as `Idle::wait_at`. The wait of one scheduler ends where a ticket is put into the injector, and those of all where `wake_all` is called: a
+    /// ticket that a scheduler pushes wakes nobody, since that scheduler takes it next.
+    pub fn rest<R: Wait>(&self, rt: &R, idle: &Idle) {
+        self.entry.rest(rt, self.number, idle);
+    }
+
+    /// Wakes each scheduler that waits, so that it looks whether the run is over.
+    pub fn wake_all(&self) {
+        self.entry.wake_all();
     }
 
     /// How many tickets it stole, which are those that it took of the deques of others. What the seats stole that it took in counts too. It counts no further

@@ -59,7 +59,7 @@ impl ThreadJob for Nothing {
     fn run<R: Wait>(&mut self, _rt: &R) {}
 }
 
-pub type Home = HomeSeat<Lodger<Errand>>;
+pub type ErrandHome = HomeSeat<Lodger<Errand>>;
 
 /// An errand of three turns.
 pub fn three_turns(port: u32, memory: bool) -> Errand {
@@ -83,7 +83,12 @@ pub fn places(alloc: Global) -> Option<(OverSeat, OverSeat, OverSeat)>
 }
 
 /// The two seats of the home of an errand.
-pub fn two_seats(alloc: Global, errand: Errand, port: u32, over: OverSeat) -> Option<(Home, Home)>
+pub fn two_seats(
+    alloc: Global,
+    errand: Errand,
+    port: u32,
+    over: OverSeat,
+) -> Option<(ErrandHome, ErrandHome)>
     requires counted { (is_counted over.known ≡ true) × (has_finished over.known ≡ false) }
     ensures { IfSome result (λ r. IsSeatOfTwo port r.0 × IsSeatOfTwo port r.1 × (r.1.home ≡ r.0.home)) }
 {
@@ -104,7 +109,7 @@ pub fn two_queues(alloc: Global) -> Option<(RunSeat, RunSeat)> {
 }
 
 /// The seats of the one port of a run.
-pub fn one_home(alloc: Global, home: Home) -> Result<Vec<Home>, NoMemory>
+pub fn one_home(alloc: Global, home: ErrandHome) -> Result<Vec<ErrandHome>, NoMemory>
     requires { (home.port ≡ 0) × (home.known.running ≡ None) }
     ensures { IfOk result (λ homes. (homes.items ≡ home ∷ []) × AreHomes homes.items) }
 {
@@ -114,7 +119,7 @@ pub fn one_home(alloc: Global, home: Home) -> Result<Vec<Home>, NoMemory>
 }
 
 /// Queues the next turn in the deque of this seat.
-pub fn queue(home: Home, run: RunSeat) -> Option<(Home, RunSeat)>
+pub fn queue(home: ErrandHome, run: RunSeat) -> Option<(ErrandHome, RunSeat)>
     requires { IsSeatOfTwo 0 home }
     ensures { IfSome result (λ r. IsSeatBack home r.0) }
 {

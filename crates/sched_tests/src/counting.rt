@@ -2,7 +2,9 @@ ghost use Rattle.std.specs.Prelude.{◌≡◌, None, IfSome};
 ghost use Rattle.port_words.specs.over.Over.{HasNotStopped};
 ghost use Rattle.sched_tests.specs.Seats.{IsSeatOfTwo};
 
-use crate::bodies::{Home, Nothing, one_home, places, queue, three_turns, two_queues, two_seats};
+use crate::bodies::{
+    ErrandHome, Nothing, one_home, places, queue, three_turns, two_queues, two_seats,
+};
 use outside::OpenGate;
 use port_sched::{SchedSeats, Scheduler, TurnCounts, run};
 use port_words::over::OverSeat;
@@ -36,7 +38,7 @@ fn wanted(queued: u64, idle: u64, stolen: u64) -> Option<Told> {
 fn run_one<R: Threads + Wait + Sync>(
     rt: &R,
     alloc: Global,
-    home: Home,
+    home: ErrandHome,
     queue: RunSeat,
     over: OverSeat,
 ) -> Option<Told>

@@ -2,7 +2,7 @@ ghost use Rattle.std.specs.Prelude.{◌≡◌, None, IfSome};
 ghost use Rattle.port_words.specs.over.Over.{HasNotStopped};
 ghost use Rattle.sched_tests.specs.Seats.{IsSeatOfTwo, IsSeatBack};
 
-use crate::bodies::{Home, one_home, places, queue, three_turns, two_queues, two_seats};
+use crate::bodies::{ErrandHome, one_home, places, queue, three_turns, two_queues, two_seats};
 use outside::OpenGate;
 use port_sched::{SchedEnd, SchedSeats, scheduler};
 use port_words::over::OverSeat;
@@ -15,10 +15,10 @@ use std::test::Fail;
 fn serve_one<R: Wait>(
     rt: &R,
     alloc: Global,
-    home: Home,
+    home: ErrandHome,
     run: RunSeat,
     over: OverSeat,
-) -> Option<(Home, SchedEnd)>
+) -> Option<(ErrandHome, SchedEnd)>
     requires home { IsSeatOfTwo 0 home }
     requires over { HasNotStopped over.known.places }
     ensures { IfSome result (λ r. IsSeatBack home r.0) }
@@ -33,7 +33,7 @@ fn serve_one<R: Wait>(
 }
 
 // Closes the home, and tells how many turns are left.
-fn left(home: Home, other: Home) -> u32
+fn left(home: ErrandHome, other: ErrandHome) -> u32
     requires rests { (home.known.running ≡ None) × (other.known.running ≡ None) }
     requires home { other.home ≡ home.home }
     requires all { (home.known.shares ≡ 1) × (other.known.shares ≡ 1) × (home.known.seats ≡ 2) }

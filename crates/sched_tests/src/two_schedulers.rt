@@ -4,7 +4,7 @@ ghost use Rattle.port_sched.specs.Homes.{AreHomes};
 ghost use Rattle.port_sched.specs.Schedulers.{CanBegin};
 ghost use Rattle.sched_tests.specs.Seats.{IsSeatOfTwo, AreFour};
 
-use crate::bodies::{Errand, Home, Nothing, one_home, three_turns, two_queues, two_seats};
+use crate::bodies::{Errand, ErrandHome, Nothing, one_home, three_turns, two_queues, two_seats};
 use outside::Gate;
 use port_sched::{NoMemory, SchedEnd, SchedSeats, Scheduler, run};
 use port_words::over::{OverSeat, over_word};
@@ -61,7 +61,11 @@ impl Gate for MeetingPoint {
 }
 
 // The seats of the two ports of a run.
-fn two_homes(alloc: Global, first: Home, second: Home) -> Result<Vec<Home>, NoMemory>
+fn two_homes(
+    alloc: Global,
+    first: ErrandHome,
+    second: ErrandHome,
+) -> Result<Vec<ErrandHome>, NoMemory>
     requires first { IsSeatOfTwo 0 first }
     requires second { IsSeatOfTwo 1 second }
     ensures { IfOk result (λ homes. (homes.items ≡ first ∷ second ∷ []) × AreHomes homes.items) }
@@ -73,8 +77,8 @@ fn two_homes(alloc: Global, first: Home, second: Home) -> Result<Vec<Home>, NoMe
 
 fn scheduler_of(
     alloc: Global,
-    first: Home,
-    second: Home,
+    first: ErrandHome,
+    second: ErrandHome,
     run: RunSeat,
     over: OverSeat,
 ) -> Option<Scheduler<Errand>>

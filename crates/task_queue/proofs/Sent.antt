@@ -15,6 +15,8 @@ use Rattle.crossbeam_queue.specs.contracts.seg_queue.LapsBlockRuleOptionGoingEnd
 use Rattle.crossbeam_queue.proofs.seg_queue.Chained.TheSendSync as chained_sent
 use Rattle.atomic_blocks.specs.contracts.web.Seat as seat
 use Rattle.atomic_blocks.proofs.web.Seat.TheSendSync as seat_sent
+use Rattle.wake_ups.specs.contracts.waiter.Waiter as waiter
+use Rattle.wake_ups.proofs.waiter.Waiter.TheSendSync as waiter_sent
 use Rattle.task_queue.specs.declared.fits.Fits as fits
 use Rattle.task_queue.specs.contracts.item.Item as item
 use Rattle.task_queue.specs.contracts.protocol.Hand as hand
@@ -25,6 +27,12 @@ use Rattle.task_queue.specs.contracts.send_end.SendEnd as send_end
 use Rattle.task_queue.specs.contracts.send_end.SendEnd.TheInside as send_inside
 use Rattle.task_queue.specs.contracts.take_end.TakeEnd as take_end
 use Rattle.task_queue.specs.contracts.take_end.TakeEnd.TheInside as take_inside
+
+waiter_send : IsSend waiter.the_row
+waiter_send = waiter_sent.the_send
+
+waiter_sync : IsSync waiter.the_row
+waiter_sync = waiter_sent.the_sync
 
 module _ (T K : RattleType) (F : fits.Ghosts T.Denot K.Denot) (s : IsSend T) where
   slot_send : IsSend (option.the_row (item.the_row T))
@@ -46,14 +54,14 @@ module _ (T K : RattleType) (F : fits.Ghosts T.Denot K.Denot) (s : IsSend T) whe
   channel_send = declared_send (channel.the_type T K F) (
     chained_sent.the_send _ (going.the_row (item.the_row T) (hand.the_row T K)) _ (laps.the_row rule.the_row) _
         (lapped.ghosts (item.the_row T) (hand.the_row T K) rule.the_row (ruled.ghosts T K F ruled.no_dict) lapped.no_dict) heap_impl.ghosts slot_send ends_send heap_send frees,
-    (search (sendable, crosses) depth 20, tt),
+    (search (sendable, crosses) depth 20, (search (crosses, waiter_send, waiter_sync) depth 20, tt)),
   )
 
   pub channel_sync : IsSync (channel.the_row T K F)
   channel_sync = declared_sync (channel.the_type T K F) (
     chained_sent.the_sync _ (going.the_row (item.the_row T) (hand.the_row T K)) _ (laps.the_row rule.the_row) _
         (lapped.ghosts (item.the_row T) (hand.the_row T K) rule.the_row (ruled.ghosts T K F ruled.no_dict) lapped.no_dict) heap_impl.ghosts slot_send heap_send ends_sync heap_sync frees,
-    (search (sendable, crosses) depth 20, tt),
+    (search (sendable, crosses) depth 20, (search (crosses, waiter_send, waiter_sync) depth 20, tt)),
   )
 
   arc_send : IsSend (arc.the_row (channel.the_row T K F) heap.the_row heap_impl.ghosts)

@@ -15,20 +15,27 @@ use std::alloc::{AllocError, Global};
 use std::marker::Brand;
 use std::snapshot::Snapshot;
 use std::sync::Arc;
+use wake_ups::Waiter;
 
 pub(crate) type Queue<T> = RuledSegQueue<Item<T>, Hand<T, <T as Fits>::Key>, Rule>;
 
-pub(crate) type Pass<T> = SegPass<Item<T>, Hand<T, <T as Fits>::Key>>;
+pub(crate) type LanePass<T> = SegPass<Item<T>, Hand<T, <T as Fits>::Key>>;
 
-/// The queue of a lane with the lane's key, shared by the lane's ends. The last end frees it, with the values that are left.
+/// The queue of a lane with the lane's key, and where its taker waits, shared by the lane's ends. The last end frees it, with the values that are left.
 pub(crate) struct Channel<T: Fits + Drop> {
     pub(crate) queue: Queue<T>,
     pub(crate) key: Snapshot<T::Key>,
+    pub(crate) waiter: Arc<Waiter, Global>,
 }
 
 impl<T: Fits + Drop> Drop for Channel<T> {
     fn drop(self) {
-        let Channel { queue, key: _ } = self;
+        let Channel {
+            queue,
+            key: _,
+            waiter,
+        } = self;
+        drop(waiter);
         queue.destroy();
     }
 }
@@ -43,8 +50,9 @@ pub fn lane<T: Fits + Drop>(
     ensures sender { IfOk result (λ ends. ends.0 ≡ record { lane = ends.1.lane; key = key.value; number = 0; made = 1; sent = [] }) }
     ensures taker { IfOk result (λ ends. ends.1 ≡ record { lane = ends.1.lane; key = key.value; taken = []; ended = [] }) }
 {
+    let waiter = Arc::new(alloc, Waiter::new())?;
     let (queue, taker, sender) = open::<T, Brand>(alloc, &key)?;
-    let Ok(channel) = Arc::new(alloc, Channel { queue, key }) else {
+    let Ok(channel) = Arc::new(alloc, Channel { queue, key, waiter }) else {
         return Err(NoMemory);
     };
     let Ok(theirs) = Arc::try_clone(&channel) else {
@@ -57,7 +65,7 @@ pub fn lane<T: Fits + Drop>(
 fn open<T: Fits + Drop, B: Keyed<T::Key>>(
     alloc: Global,
     key: &Snapshot<T::Key>,
-) -> Result<(Queue<T>, Pass<T>, Pass<T>), AllocError>
+) -> Result<(Queue<T>, LanePass<T>, LanePass<T>), AllocError>
     requires { B.key ≡ Some key.now.value }
     ensures taker { IfOk result (λ r. IsSegPassOf r.0 r.1 × (r.1.me.view.client ≡ taker_hand (Some key.now.value) [] [])) }
     ensures sender { IfOk result (λ r. IsSegPassOf r.0 r.2 × (r.2.me.view.client ≡ sender_hand (Some key.now.value) 0 1 [])) }

@@ -2,8 +2,8 @@
 //!
 //! A lane has any number of sending ends and one taking end, and each end may be held by another thread. It keeps the order of
 //! each sender: what was taken of a sender is at every moment a prefix of what it sent, and all of it once the sender's end was
-//! taken in and a take then found nothing. It says nothing of the order between two senders, wakes nobody, bounds nothing and
-//! has no priorities: a taker that wants to wait does so by itself.
+//! taken in and a take then found nothing. It says nothing of the order between two senders, bounds nothing and has no priorities.
+//! A taker that finds nothing may rest at its end, and a put wakes it, which no contract promises.
 #![tactic(auto)]
 
 mod channel;
@@ -22,3 +22,4 @@ pub use no_memory::NoMemory;
 pub use protocol::{Ended, Hand, Rule};
 pub use send_end::SendEnd;
 pub use take_end::TakeEnd;
+pub use wake_ups::{Idle, Waiter};

@@ -3,7 +3,7 @@ ghost use Rattle.std.specs.Arc.{arc_value};
 ghost use Rattle.crossbeam_queue.specs.SegTies.{IsSegPassOf};
 ghost use Rattle.task_queue.specs.Lane.{sender_hand};
 
-use crate::channel::{Pass, Shared};
+use crate::channel::{LanePass, Shared};
 use crate::fits::Fits;
 use crate::item::Item;
 use crate::protocol::{Puts, Splits};
@@ -18,7 +18,7 @@ const MOST: u64 = 1 << 62;
 #[derive(Drop)]
 pub struct SendEnd<T: Fits + Drop> {
     channel: Shared<T>,
-    pass: Pass<T>,
+    pass: LanePass<T>,
     number: u32,
     made: u32,
     count: u64,
@@ -42,7 +42,7 @@ impl<T: Fits + Drop> Model for SendEnd<T> {
 }
 
 impl<T: Fits + Drop> SendEnd<T> {
-    pub(crate) fn first(channel: Shared<T>, pass: Pass<T>) -> SendEnd<T>
+    pub(crate) fn first(channel: Shared<T>, pass: LanePass<T>) -> SendEnd<T>
         requires queue { IsSegPassOf (arc_value channel).queue pass }
         requires hand { pass.me.view.client ≡ sender_hand (Some (arc_value channel).key.value) 0 1 [] }
         ensures { result ≡ record { lane = (arc_value channel).queue.web; key = (arc_value channel).key.value; number = 0; made = 1; sent = [] } }
@@ -87,7 +87,7 @@ impl<T: Fits + Drop> SendEnd<T> {
         })
     }
 
-    /// Puts a value behind all that the lane has, and answers its place among this end's values, from 0.
+    /// Puts a value behind all that the lane has, wakes the taker where it waits, and answers the value's place among this end's values, from 0.
     /// Where no memory is found the value comes back. It may spin while another thread is in a call.
     pub fn put<R: Wait>(&mut self, rt: &R, value: T) -> Result<u64, (T, NoMemory)>
         requires { T.fits self.old.key self.old.number value }
@@ -112,13 +112,14 @@ impl<T: Fits + Drop> SendEnd<T> {
         {
             Ok(()) => {
                 self.count += 1;
+                self.channel.waiter.wake();
                 Ok(seq)
             }
             Err(Item { value, .. }) => Err((value, NoMemory)),
         }
     }
 
-    pub(crate) fn into_pass(self) -> Pass<T>
+    pub(crate) fn into_pass(self) -> LanePass<T>
         ensures pass { (result.web ≡ self.lane) × (result.me.hand ≡ None) × (result.me.spare ≡ None) }
         ensures hand { result.me.view.client ≡ sender_hand (Some self.key) self.number self.made self.sent }
     {

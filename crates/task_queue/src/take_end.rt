@@ -5,19 +5,21 @@ ghost use Rattle.task_queue.specs.Items.{of};
 ghost use Rattle.task_queue.specs.Lane.{taker_hand};
 ghost use Rattle.task_queue.specs.Ends.{ended_of, KeepsOrder, TookAll, WasEmpty, WasFront};
 
-use crate::channel::{Pass, Shared};
+use crate::channel::{LanePass, Shared};
 use crate::fits::Fits;
 use crate::item::Item;
 use crate::protocol::{Takes, TakesIn};
 use crate::send_end::SendEnd;
+use std::alloc::Global;
 use std::marker::Model;
-use std::sync::Wait;
+use std::sync::{Arc, Wait};
+use wake_ups::{Idle, Waiter};
 
 /// The end of a lane that takes. It also takes in the sending ends that are not used any more.
 #[derive(Drop)]
 pub struct TakeEnd<T: Fits + Drop> {
     channel: Shared<T>,
-    pass: Pass<T>,
+    pass: LanePass<T>,
 }
 
 impl<T: Fits + Drop> Model for TakeEnd<T> {
@@ -36,7 +38,7 @@ impl<T: Fits + Drop> Model for TakeEnd<T> {
 }
 
 impl<T: Fits + Drop> TakeEnd<T> {
-    pub(crate) fn new(channel: Shared<T>, pass: Pass<T>) -> TakeEnd<T>
+    pub(crate) fn new(channel: Shared<T>, pass: LanePass<T>) -> TakeEnd<T>
         requires queue { IsSegPassOf (arc_value channel).queue pass }
         requires hand { pass.me.view.client ≡ taker_hand (Some (arc_value channel).key.value) [] [] }
         ensures { result ≡ record { lane = (arc_value channel).queue.web; key = (arc_value channel).key.value; taken = []; ended = [] } }
@@ -58,6 +60,16 @@ impl<T: Fits + Drop> TakeEnd<T> {
         ensures order { KeepsOrder T.fits self.new }
     {
         self.channel.queue.pop_as::<Takes, R>(rt, &mut self.pass)
+    }
+
+    /// Waits a little for something to take, longer each time, as `Idle::wait_at`. A put ends the wait. It takes nothing.
+    pub fn rest<R: Wait>(&self, rt: &R, idle: &Idle) {
+        idle.wait_at(rt, &self.channel.waiter);
+    }
+
+    /// Where the thread waits that rests at this end, for others that have something for it beside what is put into the lane.
+    pub fn waiter(&self) -> &Arc<Waiter, Global> {
+        &self.channel.waiter
     }
 
     /// Takes in a sending end of this lane, which then sends no more. It takes no memory and never waits.

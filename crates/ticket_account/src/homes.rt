@@ -5,12 +5,10 @@ ghost use Rattle.run_queue.specs.Seats.{changed_at};
 ghost use Rattle.ticket_account.specs.Opening.{IsCounted, AreAlike, HomesOfBodies, GivesEach};
 
 use no_memory::NoMemory;
-use port_sched::{Lodger, PortBody, join_homes};
-use port_words::home::{HomeSeat, home};
+use port_sched::{Home, Lodger, PortBody, join_homes};
+use port_words::home::home;
 use port_words::over::OverSeat;
 use std::alloc::Global;
-
-pub(crate) type Home<B> = HomeSeat<Lodger<B>>;
 
 // A push that has room.
 pub(crate) fn add<T: Drop>(all: &mut Vec<T>, one: T)

@@ -6,9 +6,9 @@ ghost use Rattle.port_sched.specs.Schedulers.{CanBegin};
 ghost use Rattle.ticket_account.specs.Run.{IsOpenedFor};
 ghost use Rattle.ticket_account.specs.Opening.{IsOther, ArePlaces, AreSeated, AreJobSeats, IsReadyJob};
 
-use crate::homes::{Home, add, deal_homes, empty_lists};
+use crate::homes::{add, deal_homes, empty_lists};
 use no_memory::NoMemory;
-use port_sched::{JobSeats, PortBody, SchedSeats, Scheduler};
+use port_sched::{Home, JobSeats, PortBody, SchedSeats, Scheduler};
 use port_words::over::{OverSeat, over_word};
 use run_queue::{EntrySeat, RunSeat, run_queue};
 use std::alloc::Global;

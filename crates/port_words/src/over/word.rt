@@ -9,7 +9,8 @@ use atomic_table::{Join, Play, Seat, Split, Table, TableRule};
 use no_memory::NoMemory;
 use std::alloc::{AllocError, Global};
 use std::marker::Model;
-use std::sync::Arc;
+use std::sync::{Arc, Wait};
+use wake_ups::{Idle, Waiter};
 
 type OverWord = Table<(), OverView, OverSize, Counting, Global>;
 
@@ -63,6 +64,7 @@ pub struct OverSeat {
     word: Arc<OverWord, Global>,
     seat: Seat<(), OverView>,
     counted: u32,
+    waiter: Arc<Waiter, Global>,
 }
 
 impl Model for OverSeat {
@@ -80,9 +82,12 @@ impl OverSeat {
         ensures seat { self.new ≡ over_known self.old.word (finished_view self.old.known result) }
         ensures word { TellsOver self.old.known result }
     {
-        self.word
+        let found = self
+            .word
             .shared
-            .fetch_add::<Finishing>(&mut self.seat, 0, 1)
+            .fetch_add::<Finishing>(&mut self.seat, 0, 1);
+        self.waiter.wake();
+        found
     }
 
     /// Stops the run. Answers the word before: the one seat that found less than 2^32 stopped it first.
@@ -91,9 +96,12 @@ impl OverSeat {
         ensures seat { self.new ≡ over_known self.old.word (stopped_view self.old.known result) }
         ensures word { TellsOver self.old.known result }
     {
-        self.word
+        let found = self
+            .word
             .shared
-            .fetch_add::<Stopping>(&mut self.seat, 0, ONE_STOP)
+            .fetch_add::<Stopping>(&mut self.seat, 0, ONE_STOP);
+        self.waiter.wake();
+        found
     }
 
     /// The word as it stands.
@@ -102,6 +110,12 @@ impl OverSeat {
         ensures word { TellsOver self.old.known result }
     {
         self.word.shared.load::<OverLooking>(&mut self.seat, 0)
+    }
+
+    /// Waits a little for the end of the run, longer each time, as `Idle::wait_at`. Where a seat finishes or stops the run, the wait ends. Of all seats of a word one
+    /// thread alone may rest at a time: another one would take the wake-ups that are meant for it.
+    pub fn rest<R: Wait>(&self, rt: &R, idle: &Idle) {
+        idle.wait_at(rt, &self.waiter);
     }
 
     /// The number of counted seats with which the word was made.
@@ -120,10 +134,12 @@ impl OverSeat {
             word,
             seat,
             counted: _,
+            waiter,
         } = other;
         let shared = &self.word.shared;
         shared.join_seat::<AllPlaces>(&mut self.seat, seat);
         drop(word);
+        drop(waiter);
     }
 }
 
@@ -132,6 +148,7 @@ fn cut(
     word: &Arc<OverWord, Global>,
     rest: &mut Seat<(), OverView>,
     size: OverSize,
+    waiter: &Arc<Waiter, Global>,
 ) -> Result<OverSeat, AllocError>
     requires seat { (rest.old.table_id ≡ (arc_value word.now).shared.table_id) × (rest.old.table_id.words ≡ 1) × (rest.old.me.1 ≡ []) }
     requires places { (0 < length rest.old.me.0.places) × (rest.old.me.0.size ≡ size) }
@@ -139,11 +156,13 @@ fn cut(
     ensures cut { IfOk result (λ s. (s ≡ over_known rest.old.table_id (own_place rest.old.me.0)) × (rest.new.me.0 ≡ other_places rest.old.me.0)) }
 {
     let word = Arc::try_clone(word)?;
+    let waiter = Arc::try_clone(waiter)?;
     let seat = word.shared.split_seat::<OnePlace>(rest);
     Ok(OverSeat {
         word,
         seat,
         counted: size.counted,
+        waiter,
     })
 }
 
@@ -159,9 +178,10 @@ pub fn over_word(alloc: Global, counted: u32, others: u32) -> Result<Vec<OverSea
     };
     let (table, mut rest) = OverWord::of_words(alloc, &[0], &size)?;
     let word = Arc::new(alloc, table)?;
+    let waiter = Arc::new(alloc, Waiter::new())?;
     let mut seats = Vec::new(alloc);
     'numbers: for _ in 0..size.seats {
-        seats.push(cut(&word, &mut rest, size)?)?;
+        seats.push(cut(&word, &mut rest, size, &waiter)?)?;
     }
     Ok(seats)
 }

@@ -19,6 +19,6 @@ tries-preserved-then-took_mail g c =
 
 pub tries-preserved : goal.tries-preserved
 tries-preserved g c = (
-  looked_then _ _ _ c.tries.invariant.0 c.in_ok-pause-in-Waits.ensures,
+  looked_then _ _ _ c.tries.invariant.0 c.in_ok-pause_suspended-in-Waits.ensures,
   waits_then _ _ _ c.tries.invariant.1 (subst (λ r. GoesFrom c.tries.waiting.proc c.tries.log r c.try_go_on.new.log) c.in-Waits.is c.in_ok-proc.ensures),
 )

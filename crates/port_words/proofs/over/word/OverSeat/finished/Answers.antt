@@ -3,8 +3,8 @@ use Rattle.port_words.proofs.lemmas.over.OverLemmas.{finishes}
 use Rattle.port_words.specs.over.Over.{HasToFinish}
 use Rattle.port_words.proofs.over.word.OverSeat.finished.Goals as goal
 
-pub fetch_add-requires : goal.fetch_add-requires
-fetch_add-requires c =
+pub fetch_add-found-requires : goal.fetch_add-found-requires
+fetch_add-found-requires c =
     let own = c.self.invariant.0 ∙ ap (λ t. t.shared.table_id) (sym c.deref.ensures) in
     let wide = ap (λ z. z.words) own in
     let one = c.self.invariant.1 in
