@@ -10,7 +10,8 @@ has a name, the project's figure, that of Erlang/OTP, and the project's in perce
                        the first that is made to the end of the last, so a little more than from the first command to the last data; by Erlang/OTP from the first
                        command to the last data, with a linked-in driver in C
   load_floor           the puts, takes, copies and lists of these commands in C on one thread, with records as large as the project's, in microseconds
-  load_process         `load 7` with 1 scheduler, the whole process, in microseconds; and that of `erl`
+  load_process         `load 7`, the whole process, with the 4 schedulers that it has where nothing is said, in microseconds; and that of `erl` with 4
+  load_process_1       the same with 1 scheduler each
   growth               131,072 commands of 8 bytes at an echo port in percent of 16,384
   memory               bytes that a run keeps a command of 8 bytes at an echo port with the limits that it has where nothing is said, from the difference of runs of
                        131,072 and 16,384
@@ -24,6 +25,8 @@ has a name, the project's figure, that of Erlang/OTP, and the project's in perce
   cat_floor            the same bytes through `cat` by two pipes in C
   cat_memory           the most memory of the run in stream mode, in percent of the file
   wait                 processor time of a run that waits five seconds for a slow program, in microseconds
+  read_33, read_1000   how many megabytes of a script `check` reads in a second, of 16,000 commands of 33 bytes and of 1,000 commands of 1,000 bytes: behind the time that
+                       an empty script takes
 """
 import os
 import shutil
@@ -134,11 +137,12 @@ def time_load(program, runs, erlang):
         for schedulers in ("1", "4"):
             name, words = f"load_{schedulers}", [program, "load", "7", schedulers, "1"]
             times[name], times[f"{name}_erlang"] = span.once(words), erlang.told(schedulers, "load", 7, 3)
-        times["load_process"] = run([program, "load", "7", "1", "1"])[0]
-        times["load_process_erlang"] = run(erlang.words(1, "load", 7, 1))[0] if erlang.found else None
+        for name, schedulers, words in (("load_process", 4, []), ("load_process_1", 1, ["1", "1"])):
+            times[name] = run([program, "load", "7", *words])[0]
+            times[f"{name}_erlang"] = run(erlang.words(schedulers, "load", 7, 1))[0] if erlang.found else None
         rounds.append(times)
     middle = {name: time and statistics.median(it[name] for it in rounds) for name, time in rounds[0].items()}
-    for name in ("load_1", "load_4", "load_process", "load_floor"):
+    for name in ("load_1", "load_4", "load_process", "load_process_1", "load_floor"):
         row(name, middle[name], middle.get(f"{name}_erlang"))
 
 
@@ -186,6 +190,18 @@ def time_wait(program):
     row("wait", median(3, [program, "run", write("wait.txt", slow)], 1))
 
 
+def time_reading(program, runs):
+    """The rate at which scripts are read: the file is read, and the script is dropped, in this time."""
+    names = [f"process p{at}" for at in range(8)] + [f"port q{at} p{at} echo" for at in range(4)]
+    empty = [program, "check", write("empty.txt", "")]
+    for count, length in ((16_000, 33), (1_000, 1_000)):
+        steps = [f'p{at % 8} command q{at % 4} "{"abcdefghijk"[at % 11] * length}"' for at in range(count)]
+        text = "\n".join(names + steps) + "\n"
+        script = [program, "check", write(f"read{length}.txt", text)]
+        took = [run(script)[0] - run(empty)[0] for _ in range(runs)]
+        row(f"read_{length}", len(text) / statistics.median(took))
+
+
 def main(program, runs):
     program = os.path.realpath(program)
     with tempfile.TemporaryDirectory() as folder:
@@ -196,6 +212,7 @@ def main(program, runs):
         time_replay(program, runs)
         time_cat(program, runs, erlang)
         time_wait(program)
+        time_reading(program, runs)
         os.chdir("/")
 
 

@@ -354,12 +354,12 @@ ended_well() {
     esac
 }
 
-# Limits of threads: what needs none ends as ever, and a run that gets too few ends for want of memory, after ten seconds. Each limit is that of a user of its own.
+# Limits of threads: what needs none ends as ever, and a run that gets too few ends for want of memory, after about twenty seconds. Each limit is that of a user of its own.
 few_threads() {
     local threads script user most whole=0
     for threads in 2 3 4 6 8 9 10 11 12 13 14 15 16; do
         for script in bad first filter; do
-            case $script in bad) user=64200 most=$seconds ;; first) user=64400 most=20 ;; *) user=64600 most=20 ;; esac
+            case $script in bad) user=64200 most=$seconds ;; first) user=64400 most=40 ;; *) user=64600 most=40 ;; esac
             run_limited threads.$threads.$script "-u $threads" $((user + threads)) $script "$most" 2>/dev/null &
         done
     done
@@ -930,7 +930,7 @@ refused_memory() {
     for script in first filter; do
         for batch in 0 15; do
             for ((step = batch + 1; step <= batch + 15; step++)); do
-                run_limited memory.$step "-v $((least * step / 27))" '' $script 12 2>/dev/null &
+                run_limited memory.$step "-v $((least * step / 27))" '' $script 40 2>/dev/null &
             done
             wait
             for ((step = batch + 1; step <= batch + 15; step++)); do
@@ -944,7 +944,7 @@ refused_memory() {
             done
         done
     done
-    echo "hostile: under limits of memory $whole runs had their report, and $hung didn't end in twelve seconds"
+    echo "hostile: under limits of memory $whole runs had their report, and $hung didn't end in forty seconds"
 }
 
 little_memory() {

@@ -5,7 +5,7 @@
 #
 # A run may end with status 0 and the report of a run in which none is refused, or with status 8 and nothing printed; where it saves a file and ends with status 0,
 # the file is whole. A script with a program may also end with status 6, a start that was refused, or tell by its report that a call of the program failed (`end=eio`):
-# want of memory in the threads that serve programs is a failure of the outside. All else is wrong, and so is a run that goes on for thirty seconds. The last line is 'refused allocations: N runs of M scripts, K without memory, W wrong',
+# want of memory in the threads that serve programs is a failure of the outside. All else is wrong, and so is a run that goes on for sixty seconds. The last line is 'refused allocations: N runs of M scripts, K without memory, W wrong',
 # and the status is 1 where W isn't 0. Allocations that the C library makes, for threads for instance, aren't refused.
 set -u
 top=$(cd "$(dirname "$0")/.." && pwd)
@@ -29,7 +29,7 @@ saved_by() {
 
 # Runs the script with this allocation refused. What it prints lies in $room/out, its status is told.
 run_with() {
-    timeout 30 env REFUSE="$1" REFUSED="$room/refused" LD_PRELOAD="$room/refuse.so" "$program" run "$2" > "$room/out" 2> "$room/err"
+    timeout 60 env REFUSE="$1" REFUSED="$room/refused" LD_PRELOAD="$room/refuse.so" "$program" run "$2" > "$room/out" 2> "$room/err"
 }
 
 # Whether it printed what it prints where none is refused, and saved the same file.
