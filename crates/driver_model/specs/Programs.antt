@@ -1,18 +1,18 @@
 -- What is told of a program, and that the calls of its driver agree with it.
-use Rattle.std.specs.Prelude.{◌≡◌, ℕ, ℤ, List, [], ◌∷◌, ◌++◌, take, Bool, true, false, ◌||◌, All, Option, Some, IsSome}
+use Rattle.std.specs.Prelude.{◌≡◌, ℕ, ℤ, List, [], ◌∷◌, ◌++◌, take, Bool, true, false, ◌||◌, All, Option, Some, IfSome, IsSome}
 use Rattle.port_config.specs.declared.config.Config.{Config}
 use Rattle.port_model.specs.port_signal.declared.outside.Outside.{Outside}
 use Rattle.port_model.specs.port_signal.declared.outside.Outside.TheVariants.{Status}
 use Rattle.driver_model.specs.Calls.{DriverCall}
 use Rattle.driver_model.specs.Spawn.{asked, given, has_end, taken_bytes}
 
--- the command text with which a program was started, the bytes that it was given and that were taken from it, and its status, once its
--- output has ended and all of it was taken
+-- the command text with which a program was started, and the bytes that it was given and that were taken from it; and its status, once its
+-- output has ended and all of it was taken, where a program tells this
 pub record ToldProgram : Type 0 where
   pub command : List ℕ
   pub given : List ℕ
   pub taken : List ℕ
-  pub status : Option ℤ
+  pub status : Option (Option ℤ)
 
 -- the program told the end of its output
 abbrev pub output_ended : List DriverCall → Bool
@@ -29,11 +29,11 @@ abbrev pub statuses : List DriverCall → List ℤ
 statuses [] = []
 statuses (call ∷ earlier) = statuses_in call.outside ++ statuses earlier
 
--- the program was started with the config's command text, was given the front of the frames, and gave the bytes that were taken; its output has
--- ended where an end was told, and its status is each that was told
+-- the program was started with the config's command text, was given the front of the frames, and gave the bytes that were taken; where it tells
+-- its status, its output has ended where an end was told, and its status is each that was told
 pub record Tells (config : Config) (calls : List DriverCall) (program : ToldProgram) : Type 0 where
   pub command : program.command ≡ config.run
   pub given : program.given ≡ take (given config calls) (asked config calls)
   pub taken : program.taken ≡ taken_bytes calls
-  pub ended : output_ended calls ≡ true → IsSome program.status
-  pub status : All (λ status. program.status ≡ Some status) (statuses calls)
+  pub ended : output_ended calls ≡ true → IfSome program.status (λ (own : Option ℤ). IsSome own)
+  pub status : IfSome program.status (λ (own : Option ℤ). All (λ (status : ℤ). own ≡ Some status) (statuses calls))

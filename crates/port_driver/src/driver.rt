@@ -32,7 +32,7 @@ pub trait Driver: Drop {
     /// How often its outside failed.
     ghost faults: { Self → ℕ };
 
-    /// Its program, where it has one that tells.
+    /// Its program, where it has one that was started and of which it tells.
     ghost program: { Self → Option ToldProgram };
 
     /// The name of its kind: `driver_name` of driver_entry.

@@ -22,8 +22,9 @@ pub record OpensProgram (script : RunScript) (number : ℕ) (decl : PortDecl) : 
   pub driver : decl.driver ≡ codes "spawn"
   pub config : is_config decl.config ≡ true
 
--- What the program took is a front of the frames of the commands that its driver handled, in their order, and all of them where the port wasn't killed and no call of the program failed. The data that
--- the port sent are the messages of the bytes that it took from the program, but for a chunk that failed it. A program that tells what it was given and gave was given that front, and gave these bytes
+-- The program took no more bytes than the frames of the commands that its driver handled have, and as many where the port wasn't killed and no call of the program failed. Where the driver tells of its
+-- program, as one that starts programs does, the program was given just so many bytes from the front of these frames, in the order of the commands, and gave the bytes that the port took from it. The data
+-- that the port sent are the messages of these bytes, but for a chunk that failed it
 pub record IsFramed (opening : Opening) (history : List Row) (program : Option ToldProgram) : Type 0 where
   pub took : bytes_took history ≤ length (frames_asked opening history)
   pub whole : is_killed (state opening history).reason ≡ false → has_fault history ≡ false → bytes_took history ≡ length (frames_asked opening history)

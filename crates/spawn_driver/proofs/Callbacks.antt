@@ -48,22 +48,22 @@ pub Did-asked : (event : ℕ) (status : StatusGot) (b a : ℕ) (s : Serving) (en
 Did-asked event (got.Ended status) b a s ended child new before after asks over first has ends =
     Did-ended event (Status status ∷ []) s.child child s.kept new before after (status-told s.kept.config.exit_status status asks)
     (λ config earlier effects before'.
-    tells-asked config earlier event before.caller (Status status ∷ []) effects s.child ended child s.child.stand ended.stand child.stand refl refl refl over first.stand has.shows.stand
+    tells-asked config earlier event before.caller (Status status ∷ []) effects s.child ended child over first.stand has.shows.stand
     (ap (λ (v : ChildView). v.command) has.shows.shown ∙ ap (λ (v : ChildView). v.command) first.shown)
     (ap (λ (v : ChildView). v.given) has.shows.shown ∙ ap (λ (v : ChildView). v.given) first.shown)
     (ap (λ (v : ChildView). v.fetched) has.shows.shown ∙ ap (λ (v : ChildView). v.fetched) first.shown) refl refl
-    (λ st st_e st' is on none.
+    (λ st_e st' is on none.
     let is' = rw is at has.status in
     All-cons (λ answer. status_of st' ≡ Some answer) status [] (status-stays st_e st' status on (exact-status st_e status none is')) (All-nil _)) before')
     ends
 Did-asked event got.Failed b a s ended child new before after asks over first has ends =
     Did-ended event (Failed ∷ []) s.child child s.kept new before after (status-failed s.kept.config.exit_status asks)
     (λ config earlier effects before'.
-    tells-asked config earlier event before.caller (Failed ∷ []) effects s.child ended child s.child.stand ended.stand child.stand refl refl refl over first.stand has.shows.stand
+    tells-asked config earlier event before.caller (Failed ∷ []) effects s.child ended child over first.stand has.shows.stand
     (ap (λ (v : ChildView). v.command) has.shows.shown ∙ ap (λ (v : ChildView). v.command) first.shown)
     (ap (λ (v : ChildView). v.given) has.shows.shown ∙ ap (λ (v : ChildView). v.given) first.shown)
     (ap (λ (v : ChildView). v.fetched) has.shows.shown ∙ ap (λ (v : ChildView). v.fetched) first.shown) refl refl
-    (λ st st_e st' is on none. All-nil _) before')
+    (λ st_e st' is on none. All-nil _) before')
     ends
 
 -- what `stop` of a driver with a program left

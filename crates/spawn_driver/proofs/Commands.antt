@@ -43,7 +43,7 @@ output-goes config earlier bytes caller queue child fit queued before =
     (ap (λ q'. write_selected (write_event earlier) (is_empty (spawn_queue config earlier)) q' ++ busy_set config.busy_high (holds_busy config earlier) q') q
     ∙ ap (λ f. if f then write_selected (write_event earlier) (is_empty (spawn_queue config earlier)) (spawn_queue config (call ∷ earlier))
     ++ busy_set config.busy_high (holds_busy config earlier) (spawn_queue config (call ∷ earlier)) else Fail (codes "einval") ∷ []) (sym fit))
-    refl (quiet-tells config earlier (Outputv bytes) caller effects child child.stand before)
+    refl (quiet-tells config earlier (Outputv bytes) caller effects child before)
 
 -- a command that no frame can have
 refused-goes : (config : Config) (earlier : List DriverCall) (bytes : List ℕ) (caller : ℕ) (child : ChildView) → fits config.mode (length bytes) ≡ false
@@ -57,7 +57,7 @@ refused-goes config earlier bytes caller child fit before =
     goes config earlier call (program config earlier) (spawn_queue config earlier) (told child) (Fail (codes "einval") ∷ [])
     (unread-program config earlier call (holds_busy config earlier) (program_failed earlier) refl refl refl refl
     (sym (ap (λ f. holds_busy config earlier || (f && nat_le config.busy_high (length (spawn_queue config (call ∷ earlier))))) fit ∙ or-none (holds_busy config earlier))) refl)
-    q (rw fit refl) refl (quiet-tells config earlier (Outputv bytes) caller (Fail (codes "einval") ∷ []) child child.stand before)
+    q (rw fit refl) refl (quiet-tells config earlier (Outputv bytes) caller (Fail (codes "einval") ∷ []) child before)
   where
     or-none : (b : Bool) → (b || false) ≡ b
     or-none true = refl

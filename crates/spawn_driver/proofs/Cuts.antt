@@ -28,7 +28,7 @@ use Rattle.spawn_driver.specs.Steps.{effects_in}
 use Rattle.spawn_driver.specs.Told.{GoesOnBy, IsCutAs, ReceivesAsTold}
 use Rattle.spawn_driver.proofs.Histories.{kept-is}
 use Rattle.spawn_driver.proofs.Fetches.{Did-got}
-use Rattle.spawn_driver.proofs.Silent.{silent, goes-on-by}
+use Rattle.spawn_driver.proofs.Silent.{Did-untold, silent, goes-on-by}
 
 both : (a b : Bool) → (a && b) ≡ true → (a ≡ true) × (b ≡ true)
 both true b e = (refl, e)
@@ -155,8 +155,10 @@ pub got-told : (event : ℕ) (bytes : List ℕ) (row : List Effect) (old new : P
 got-told event bytes row old new before after served fetched r =
     let size = both (nat_le 1 (length bytes)) (nat_le (length bytes) 65536) fetched in
     let d : Did Spawn (ReadyInput event) (Running old) (Running new) None None before (with_answers after (Got bytes ∷ [])) [] =
-    Did-got event bytes (silent [] [] []) (silent [] [] bytes) old new before (with_answers after (Got bytes ∷ [])) served (leb-true 1 (length bytes) size.0)
-    (leb-true (length bytes) 65536 size.1) (record { shown = refl; stand = refl }) r.receives in
+    Did-untold (ReadyInput event) old new before (with_answers after (Got bytes ∷ [])) [] (λ command given' fetched. silent command given' (fetched ++ bytes))
+    (λ command given' fetched.
+    Did-got event bytes (silent command given' fetched) (silent command given' (fetched ++ bytes)) old new before (with_answers after (Got bytes ∷ [])) served
+    (leb-true 1 (length bytes) size.0) (leb-true (length bytes) 65536 size.1) (record { shown = refl; stand = refl }) r.receives) in
     let found = r.receives.found in
     let added : d.added ++ [] ≡ effects_in found =
     append-nil d.added ∙ append_cancel_left before.effects d.added (effects_in found) (sym d.effects ∙ ap (λ (c : Context). c.effects) r.receives.context) in

@@ -25,7 +25,7 @@ use Rattle.spawn_driver.proofs.Lists.{left-quiet, front-quiet}
 use Rattle.spawn_driver.proofs.Rests.{rest_of-nil}
 use Rattle.spawn_driver.proofs.Oversize.{oversize-nil}
 use Rattle.spawn_driver.proofs.Plain.{IsPlain, plain-messages, plain-if-eof, Did-plain}
-use Rattle.spawn_driver.proofs.Histories.{kept-is, goes, given-within, not-refused, or-stays, same-program, tells-same, tells-call, status-stays, stays-told}
+use Rattle.spawn_driver.proofs.Histories.{kept-is, goes, given-within, not-refused, or-stays, same-program, StatusesGoOn, tells-call, statuses-go-on-same, status-stays, stays-told}
 
 -- what was answered to a question for the status, where it is asked or not
 pub record IsStatus (asks : Bool) (answers : List Outside) : Type 0 where
@@ -101,8 +101,8 @@ plain-end kept answers status =
     last-plain false = record { jobs = refl; none = refl }
 
 pub Did-ended : (event : ℕ) (answers : List Outside) (old_child new_child : ChildView) (old new : Program) (before after : Context) → IsStatus old.config.exit_status answers
-    → ((config : Config) (earlier : List DriverCall) (effects : List Effect) → IfSome (told old_child) (Tells config earlier)
-    → IfSome (told new_child) (Tells config (end_call event before.caller answers effects ∷ earlier)))
+    → ((config : Config) (earlier : List DriverCall) (effects : List Effect) → Tells config earlier (told_of old_child old_child.stand)
+    → Tells config (end_call event before.caller answers effects ∷ earlier) (told_of new_child new_child.stand))
     → Ends answers old new before after
     → Did Spawn (ReadyInput event) (Running old) (Running new) (told old_child) (told new_child) before after []
 Did-ended event answers old_child new_child old new before after status tells ends =
@@ -123,37 +123,29 @@ exact-status s status none e = rw none e
 
 -- what is told where the status isn't asked for
 pub tells-unasked : (config : Config) (earlier : List DriverCall) (event caller : ℕ) (effects : List Effect) (old ended : ChildView)
-    → IfSome old.stand (λ (s : Stand). (s.gives ≡ []) × IsSome s.ended) → Shows (record old { at_end = true }) ended → IfSome (told old) (Tells config earlier)
-    → IfSome (told ended) (Tells config (end_call event caller [] effects ∷ earlier))
+    → IfSome old.stand (λ (s : Stand). (s.gives ≡ []) × IsSome s.ended) → Shows (record old { at_end = true }) ended
+    → Tells config earlier (told_of old old.stand) → Tells config (end_call event caller [] effects ∷ earlier) (told_of ended ended.stand)
 tells-unasked config earlier event caller effects old ended over shows before =
-    tells-same config earlier (end_call event caller [] effects) old ended old.stand ended.stand shows.stand
-    (λ st st' on is t.
+    tells-call config earlier (end_call event caller [] effects) (told_of old old.stand) (told_of ended ended.stand) (ap (λ c. c.command) shows.shown)
+    (ap (λ c. c.given) shows.shown ∙ (before.given ∙ sym (front-quiet (given config earlier) (asked config earlier) [] (given-within config earlier))))
+    (ap (λ c. c.fetched) shows.shown ∙ sym (append-nil old.fetched))
+    (statuses-go-on-same old.stand ended.stand (End ∷ []) shows.stand
+    (λ st st' on is.
     let over' = rw is at over in
-    tells-call config earlier (end_call event caller [] effects) (told_of old st) (told_of ended st') (ap (λ c. c.command) shows.shown)
-    (ap (λ c. c.given) shows.shown ∙ (t.given ∙ sym (front-quiet (given config earlier) (asked config earlier) [] (given-within config earlier))))
-    (ap (λ c. c.fetched) shows.shown ∙ sym (append-nil old.fetched)) (λ status e. status-stays st st' status on e)
-    (λ e. stays-told st st' on (ended-status st over')) (All-nil _) t)
+    record { keeps = λ status e. status-stays st st' status on e; ended = λ e. stays-told st st' on (ended-status st over'); told = All-nil _ }))
     before
 
 -- and where it is, and these answers came
 pub tells-asked : (config : Config) (earlier : List DriverCall) (event caller : ℕ) (answers : List Outside) (effects : List Effect) (old ended new : ChildView)
-    → (s s_e s' : Option Stand) → s ≡ old.stand → s_e ≡ ended.stand → s' ≡ new.stand
-    → IfSome s (λ (s : Stand). (s.gives ≡ []) × IsSome s.ended) → StandGoesOn s s_e → StandGoesOn s_e s'
+    → IfSome old.stand (λ (s : Stand). (s.gives ≡ []) × IsSome s.ended) → StandGoesOn old.stand ended.stand → StandGoesOn ended.stand new.stand
     → new.command ≡ old.command → new.given ≡ old.given → new.fetched ≡ old.fetched → took_by answers ≡ 0 → got_by answers ≡ []
-    → ((st st_e st' : Stand) → s_e ≡ Some st_e → GoesOn st_e st' → st_e.gives ≡ [] → All (λ status. status_of st' ≡ Some status) (statuses_in answers))
-    → IfSome (option_map (told_of old) s) (Tells config earlier)
-    → IfSome (option_map (told_of new) s') (Tells config (end_call event caller answers effects ∷ earlier))
-tells-asked config earlier event caller answers effects old ended new None s_e s' i j k over first second command given' fetched took got all before =
-    let e = rw first at second in rw e tt
-tells-asked config earlier event caller answers effects old ended new (Some st) None s' i j k over first second command given' fetched took got all before = absurd first
-tells-asked config earlier event caller answers effects old ended new (Some st) (Some st_e) None i j k over first second command given' fetched took got all before = absurd second
-tells-asked config earlier event caller answers effects old ended new (Some st) (Some st_e) (Some st') i j k over first second command given' fetched took got all before =
-    let has : IsSome (status_of st_e) = stays-told st st_e first (ended-status st over) in
-    let none : st_e.gives ≡ [] = gives-none st st_e first over.0 over.1 in
-    tells-call config earlier (end_call event caller answers effects) (told_of old st) (told_of new st') command
+    → ((st_e st' : Stand) → ended.stand ≡ Some st_e → GoesOn st_e st' → st_e.gives ≡ [] → All (λ status. status_of st' ≡ Some status) (statuses_in answers))
+    → Tells config earlier (told_of old old.stand) → Tells config (end_call event caller answers effects ∷ earlier) (told_of new new.stand)
+tells-asked config earlier event caller answers effects old ended new over first second command given' fetched took got all before =
+    tells-call config earlier (end_call event caller answers effects) (told_of old old.stand) (told_of new new.stand) command
     (given' ∙ (before.given ∙ rw took (sym (front-quiet (given config earlier) (asked config earlier) [] (given-within config earlier)))))
     (fetched ∙ (sym (append-nil old.fetched) ∙ ap (λ xs. old.fetched ++ xs) (sym got)))
-    (λ status e. status-stays st_e st' status second (status-stays st st_e status first e)) (λ e. stays-told st_e st' second has) (all st st_e st' refl second none) before
+    (asked-statuses old.stand ended.stand new.stand over first second all) before
   where
     gives-none : (st st_e : Stand) → GoesOn st st_e → st.gives ≡ [] → IsSome st.ended → st_e.gives ≡ []
     gives-none st st_e on none some =
@@ -161,3 +153,18 @@ tells-asked config earlier event caller answers effects old ended new (Some st) 
           | None ↦ λ e. let bad = rw e at some in absurd (cc)
           | (Some status) ↦ λ e. let after = rw e at on.ended in after.0 ∙ none
         ] refl
+
+    asked-statuses : (s s_e s' : Option Stand) → IfSome s (λ (s : Stand). (s.gives ≡ []) × IsSome s.ended) → StandGoesOn s s_e → StandGoesOn s_e s'
+        → ((st_e st' : Stand) → s_e ≡ Some st_e → GoesOn st_e st' → st_e.gives ≡ [] → All (λ status. status_of st' ≡ Some status) (statuses_in answers))
+        → StatusesGoOn (option_map status_of s) (option_map status_of s') (End ∷ answers)
+    asked-statuses None s_e s' over' first' second' all' = let e = rw first' at second' in rw e refl
+    asked-statuses (Some st) None s' over' first' second' all' = absurd first'
+    asked-statuses (Some st) (Some st_e) None over' first' second' all' = absurd second'
+    asked-statuses (Some st) (Some st_e) (Some st') over' first' second' all' =
+        let has : IsSome (status_of st_e) = stays-told st st_e first' (ended-status st over') in
+        let none : st_e.gives ≡ [] = gives-none st st_e first' over'.0 over'.1 in
+        record {
+          keeps = λ status e. status-stays st_e st' status second' (status-stays st st_e status first' e);
+          ended = λ e. stays-told st_e st' second' has;
+          told = all' st_e st' refl second' none;
+        }

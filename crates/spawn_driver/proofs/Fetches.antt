@@ -28,7 +28,7 @@ use Rattle.spawn_driver.proofs.Rests.{rest_of-append}
 use Rattle.spawn_driver.proofs.Oversize.{told-not-oversize, oversize-found}
 use Rattle.spawn_driver.proofs.Messages.{brought-are}
 use Rattle.spawn_driver.proofs.Plain.{IsPlain, plain-nil, plain-fail, plain-messages, Did-plain}
-use Rattle.spawn_driver.proofs.Histories.{kept-is, goes, given-within, not-refused, same-program, tells-on, tells-call, status-stays}
+use Rattle.spawn_driver.proofs.Histories.{kept-is, goes, given-within, not-refused, same-program, tells-call, statuses-go-on, status-stays}
 
 drop-nil : (n : ℕ) (xs : List ℕ) → xs ≡ [] → drop n xs ≡ []
 drop-nil zero xs none = none
@@ -47,14 +47,17 @@ abbrev got_call : ℕ → ℕ → List ℕ → List Effect → DriverCall
 got_call event caller bytes effects = call_of (ReadyInput event) caller (Got bytes ∷ []) effects
 
 got-tells : (config : Config) (earlier : List DriverCall) (event caller : ℕ) (bytes : List ℕ) (effects : List Effect) (old new : ChildView) → Shows (after_fetch old bytes) new
-    → IfSome (told old) (Tells config earlier) → IfSome (told new) (Tells config (got_call event caller bytes effects ∷ earlier))
+    → Tells config earlier (told_of old old.stand) → Tells config (got_call event caller bytes effects ∷ earlier) (told_of new new.stand)
 got-tells config earlier event caller bytes effects old new shows before =
-    tells-on config earlier (got_call event caller bytes effects) old new old.stand new.stand (λ stand. record stand { gives = drop (length bytes) stand.gives }) shows.stand
-    (λ st st' on is t. tells-call config earlier (got_call event caller bytes effects) (told_of old st) (told_of new st') (ap (λ c. c.command) shows.shown)
-    (ap (λ c. c.given) shows.shown ∙ (t.given ∙ sym (front-quiet (given config earlier) (asked config earlier) [] (given-within config earlier))))
+    tells-call config earlier (got_call event caller bytes effects) (told_of old old.stand) (told_of new new.stand) (ap (λ c. c.command) shows.shown)
+    (ap (λ c. c.given) shows.shown ∙ (before.given ∙ sym (front-quiet (given config earlier) (asked config earlier) [] (given-within config earlier))))
     (ap (λ c. c.fetched) shows.shown ∙ ap (λ xs. old.fetched ++ xs) (sym (append-nil bytes)))
-    (λ status e. status-stays (record st { gives = drop (length bytes) st.gives }) st' status on (fetched-status st (length bytes) status e))
-    (λ e. absurd (cc)) (All-nil _) t)
+    (statuses-go-on old.stand new.stand (λ stand. record stand { gives = drop (length bytes) stand.gives }) (Got bytes ∷ []) shows.stand
+    (λ st st' on is. record {
+      keeps = λ status e. status-stays (record st { gives = drop (length bytes) st.gives }) st' status on (fetched-status st (length bytes) status e);
+      ended = λ e. absurd (cc);
+      told = All-nil _;
+    }))
     before
 
 got-goes : (config : Config) (earlier : List DriverCall) (event caller : ℕ) (bytes left : List ℕ) (refused : Bool) (effects : List Effect) (old new : ChildView)

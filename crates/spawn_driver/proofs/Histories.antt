@@ -1,12 +1,13 @@
 -- What the driver of a program keeps and tells, one call after another.
 use Rattle.std.proofs.Common.{◌≡◌, ◌≤◌, ℕ, List, [], ◌∷◌, ◌++◌, length, take, Bool, true, false, ◌||◌, Option, None, Some, IfSome, refl, sym, ◌∙◌, ap, arith}
-use Rattle.std.specs.Prelude.{ℤ, IsSome, nat_lt, if◌then◌else◌}
+use Rattle.std.specs.Prelude.{ℤ, IsSome, IsSomeAnd, nat_lt, if◌then◌else◌}
 use Rattle.std.specs.Option.{option_map}
 use Rattle.std.specs.Prelude.{All}
 use Rattle.std.proofs.lemmas.List.{append-nil}
-use Rattle.std.proofs.lemmas.List.Elements.{All-append}
+use Rattle.std.proofs.lemmas.List.Elements.{All-append, All-nil}
 use Rattle.packet_framing.specs.Messages.{rest_of}
 use Rattle.port_config.specs.declared.config.Config.{Config}
+use Rattle.port_signal.specs.declared.outside.Outside.{Outside}
 use Rattle.port_model.specs.declared.effect.Effect.{Effect}
 use Rattle.outside.specs.Children.{ChildView, Stand, GoesOn, StandGoesOn}
 use Rattle.driver_model.specs.Calls.{DriverCall, Program, Running, Spawn, is_empty}
@@ -111,33 +112,55 @@ stays-told old new on some =
       | (Some status) ↦ λ e. let n = status-stays old new status on e in rw n refl
     ] refl
 
--- what is told of a child after a call, from what was told before it
-pub tells-on : (config : Config) (earlier : List DriverCall) (call : DriverCall) (old new : ChildView) (s s' : Option Stand) (h : Stand → Stand)
-    → StandGoesOn (option_map h s) s'
-    → ((st st' : Stand) → GoesOn (h st) st' → s ≡ Some st → Tells config earlier (told_of old st) → Tells config (call ∷ earlier) (told_of new st'))
-    → IfSome (option_map (told_of old) s) (Tells config earlier) → IfSome (option_map (told_of new) s') (Tells config (call ∷ earlier))
-tells-on config earlier call old new None s' h on f before = rw on tt
-tells-on config earlier call old new (Some st) None h on f before = absurd on
-tells-on config earlier call old new (Some st) (Some st') h on f before = f st st' on refl before
+-- what a program tells as its status goes on over these answers
+pub record StatusGoesOn (old new : Option ℤ) (answers : List Outside) : Type 0 where
+  pub keeps : (status : ℤ) → old ≡ Some status → new ≡ Some status
+  pub ended : has_end answers ≡ true → IsSome new
+  pub told : All (λ status. new ≡ Some status) (statuses_in answers)
 
-pub tells-same : (config : Config) (earlier : List DriverCall) (call : DriverCall) (old new : ChildView) (s s' : Option Stand) → StandGoesOn s s'
-    → ((st st' : Stand) → GoesOn st st' → s ≡ Some st → Tells config earlier (told_of old st) → Tells config (call ∷ earlier) (told_of new st'))
-    → IfSome (option_map (told_of old) s) (Tells config earlier) → IfSome (option_map (told_of new) s') (Tells config (call ∷ earlier))
-tells-same config earlier call old new None s' on f before = rw on tt
-tells-same config earlier call old new (Some st) None on f before = absurd on
-tells-same config earlier call old new (Some st) (Some st') on f before = f st st' on refl before
+-- and whether it tells its status stays
+abbrev pub StatusesGoOn : Option (Option ℤ) → Option (Option ℤ) → List Outside → Type 0
+StatusesGoOn None new answers = new ≡ None
+StatusesGoOn (Some old) new answers = IsSomeAnd new (λ status. StatusGoesOn old status answers)
+
+-- answers that tell no end and no status
+pub status-goes-on : (old new : Stand) (answers : List Outside) → GoesOn old new → has_end answers ≡ false → statuses_in answers ≡ []
+    → StatusGoesOn (status_of old) (status_of new) answers
+status-goes-on old new answers on no_end none = record {
+  keeps = λ status e. status-stays old new status on e;
+  ended = λ e. let bad = sym e ∙ no_end in absurd (cc);
+  told = rw none (All-nil _);
+}
+
+pub statuses-stay : (told' : Option (Option ℤ)) → StatusesGoOn told' told' []
+statuses-stay None = refl
+statuses-stay (Some status) = record { keeps = λ own e. e; ended = λ e. absurd (cc); told = All-nil _ }
+
+-- the statuses of a program that went on from `h` of how it stood
+pub statuses-go-on : (s s' : Option Stand) (h : Stand → Stand) (answers : List Outside) → StandGoesOn (option_map h s) s'
+    → ((st st' : Stand) → GoesOn (h st) st' → s ≡ Some st → StatusGoesOn (status_of st) (status_of st') answers)
+    → StatusesGoOn (option_map status_of s) (option_map status_of s') answers
+statuses-go-on None s' h answers on f = rw on refl
+statuses-go-on (Some st) None h answers on f = absurd on
+statuses-go-on (Some st) (Some st') h answers on f = f st st' on refl
+
+pub statuses-go-on-same : (s s' : Option Stand) (answers : List Outside) → StandGoesOn s s'
+    → ((st st' : Stand) → GoesOn st st' → s ≡ Some st → StatusGoesOn (status_of st) (status_of st') answers)
+    → StatusesGoOn (option_map status_of s) (option_map status_of s') answers
+statuses-go-on-same None s' answers on f = rw on refl
+statuses-go-on-same (Some st) None answers on f = absurd on
+statuses-go-on-same (Some st) (Some st') answers on f = f st st' on refl
 
 -- what is told after a call, from its parts
 pub tells-call : (config : Config) (earlier : List DriverCall) (call : DriverCall) (old new : ToldProgram) → new.command ≡ old.command
     → new.given ≡ take (given config (call ∷ earlier)) (asked config (call ∷ earlier)) → new.taken ≡ old.taken ++ got_by call.outside
-    → ((status : ℤ) → old.status ≡ Some status → new.status ≡ Some status) → (has_end call.outside ≡ true → IsSome new.status)
-    → All (λ status. new.status ≡ Some status) (statuses_in call.outside) → Tells config earlier old → Tells config (call ∷ earlier) new
-tells-call config earlier call old new command given' taken keeps ends statuses' before = record {
+    → StatusesGoOn old.status new.status call.outside → Tells config earlier old → Tells config (call ∷ earlier) new
+tells-call config earlier call old new command given' taken on before = record {
   command = command ∙ before.command;
   given = given';
   taken = taken ∙ ap (λ xs. xs ++ got_by call.outside) before.taken;
-  ended = ended (has_end call.outside) (output_ended earlier) ends (λ e. some-stays old.status new.status keeps (before.ended e));
-  status = All-append (λ status. new.status ≡ Some status) (statuses_in call.outside) (statuses earlier) statuses' (λ k d there. keeps _ (before.status k d there));
+  ended = λ e. ended-on old.status new.status (output_ended earlier) on before.ended e;
+  status = statuses-on old.status new.status (statuses earlier) on before.status;
 }
   where
     ended : {P : Type 0} (a b : Bool) → (a ≡ true → P) → (b ≡ true → P) → (a || b) ≡ true → P
@@ -147,3 +170,25 @@ tells-call config earlier call old new command given' taken keeps ends statuses'
     some-stays : (old new : Option ℤ) → ((status : ℤ) → old ≡ Some status → new ≡ Some status) → IsSome old → IsSome new
     some-stays None new keeps some = let bad = some in absurd (cc)
     some-stays (Some status) new keeps some = rw (keeps status refl) refl
+
+    ended-on : (o n : Option (Option ℤ)) (over : Bool) → StatusesGoOn o n call.outside → (over ≡ true → IfSome o (λ (own : Option ℤ). IsSome own))
+        → (has_end call.outside || over) ≡ true → IfSome n (λ (own : Option ℤ). IsSome own)
+    ended-on None n over on' told' e = rw on' tt
+    ended-on (Some o) None over on' told' e = absurd on'
+    ended-on (Some o) (Some n) over on' told' e = ended (has_end call.outside) over on'.ended (λ e'. some-stays o n on'.keeps (told' e')) e
+
+    statuses-on : (o n : Option (Option ℤ)) (more : List ℤ) → StatusesGoOn o n call.outside → IfSome o (λ (own : Option ℤ). All (λ (status : ℤ). own ≡ Some status) more)
+        → IfSome n (λ (own : Option ℤ). All (λ (status : ℤ). own ≡ Some status) (statuses_in call.outside ++ more))
+    statuses-on None n more on' told' = rw on' tt
+    statuses-on (Some o) None more on' told' = absurd on'
+    statuses-on (Some o) (Some n) more on' told' =
+        All-append (λ (status : ℤ). n ≡ Some status) (statuses_in call.outside) more on'.told (λ k d there. on'.keeps _ (told' k d there))
+
+-- what is told of a child that goes on
+pub tells-same : (config : Config) (earlier : List DriverCall) (call : DriverCall) (old new : ChildView) → new.command ≡ old.command
+    → new.given ≡ take (given config (call ∷ earlier)) (asked config (call ∷ earlier)) → new.fetched ≡ old.fetched ++ got_by call.outside → StandGoesOn old.stand new.stand
+    → has_end call.outside ≡ false → statuses_in call.outside ≡ [] → Tells config earlier (told_of old old.stand)
+    → Tells config (call ∷ earlier) (told_of new new.stand)
+tells-same config earlier call old new command given' taken on no_end none before =
+    tells-call config earlier call (told_of old old.stand) (told_of new new.stand) command given' taken
+    (statuses-go-on-same old.stand new.stand call.outside on (λ st st' on' is. status-goes-on st st' call.outside on' no_end none)) before

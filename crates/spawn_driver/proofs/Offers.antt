@@ -1,9 +1,8 @@
 -- What the program takes of the queue, and its failures.
-use Rattle.std.proofs.Common.{◌≡◌, ◌≤◌, ℕ, min, List, [], ◌∷◌, ◌++◌, length, take, drop, Bool, true, false, ◌&&◌, IfSome, refl, sym, ◌∙◌, ap, arith}
+use Rattle.std.proofs.Common.{◌≡◌, ◌≤◌, ℕ, min, List, [], ◌∷◌, ◌++◌, length, take, drop, Bool, true, false, ◌&&◌, refl, sym, ◌∙◌, ap, arith}
 use Rattle.std.specs.Prelude.{nat_le, codes, if◌then◌else◌}
 use Rattle.std.proofs.lemmas.Bool.{le-leb}
 use Rattle.std.proofs.lemmas.List.{append-nil}
-use Rattle.std.proofs.lemmas.List.Elements.{All-nil}
 use Rattle.port_config.specs.declared.config.Config.{Config}
 use Rattle.port_signal.specs.declared.outside.Outside.{Outside}
 use Rattle.port_signal.specs.declared.outside.Outside.TheVariants.{Took, Again, Failed}
@@ -22,11 +21,11 @@ use Rattle.spawn_driver.specs.Serving.{told, told_of}
 use Rattle.spawn_driver.specs.Steps.{Takes}
 use Rattle.spawn_driver.proofs.Lists.{left-quiet, left-took, front-quiet, front-took}
 use Rattle.spawn_driver.proofs.Plain.{IsPlain, plain-nil, plain-fail, plain-if-busy, Did-plain}
-use Rattle.spawn_driver.proofs.Histories.{kept-is, goes, given-within, unread-program, tells-same, tells-call, status-stays}
+use Rattle.spawn_driver.proofs.Histories.{kept-is, goes, given-within, unread-program, tells-same}
 
 took-goes : (config : Config) (earlier : List DriverCall) (event caller count : ℕ) (queue : List ℕ) (old new : ChildView) → count ≤ min (length (spawn_queue config earlier)) 65536
     → queue ≡ drop count (spawn_queue config earlier) → Shows (record old { given = old.given ++ take count (spawn_queue config earlier) }) new
-    → IfSome (told old) (Tells config earlier)
+    → Tells config earlier (told_of old old.stand)
     → Goes Spawn config earlier
     (call_of (ReadyOutput event) caller (Took count ∷ []) (busy_cleared config.busy_low (holds_busy config earlier) queue ++ write_deselected (write_event earlier) queue))
     (Running (record (program config earlier) { busy = holds_busy config earlier && nat_le config.busy_low (length queue) })) (told new) queue
@@ -43,12 +42,10 @@ took-goes config earlier event caller count queue old new within dropped shows b
     q
     (ap (λ q'. busy_cleared config.busy_low (holds_busy config earlier) q' ++ write_deselected (write_event earlier) q') q)
     (le-leb count (min (length (spawn_queue config earlier)) most_at_once) within)
-    (tells-same config earlier call old new old.stand new.stand shows.stand
-    (λ st st' on is t. tells-call config earlier call (told_of old st) (told_of new st') (ap (λ c. c.command) shows.shown)
-    (ap (λ c. c.given) shows.shown ∙ (ap (λ g. g ++ take count (spawn_queue config earlier)) t.given
+    (tells-same config earlier call old new (ap (λ c. c.command) shows.shown)
+    (ap (λ c. c.given) shows.shown ∙ (ap (λ g. g ++ take count (spawn_queue config earlier)) before.given
     ∙ sym (front-took (program_failed earlier) (given config earlier) count (asked config earlier) (given-within config earlier) few)))
-    (ap (λ c. c.fetched) shows.shown ∙ sym (append-nil old.fetched)) (λ status e. status-stays st st' status on e) (λ e. absurd (cc)) (All-nil _) t)
-    before)
+    (ap (λ c. c.fetched) shows.shown ∙ sym (append-nil old.fetched)) shows.stand refl refl before)
 
 pub Did-took : (event count : ℕ) (old_child new_child : ChildView) (old new : Program) (before after : Context) → count ≤ min (length before.queue) 65536
     → Shows (record old_child { given = old_child.given ++ take count before.queue }) new_child → Takes count old new before after
@@ -117,18 +114,15 @@ again-nothing = record { took = refl; got = refl; end = refl; statuses = refl }
 
 -- what is told after a call that gave and took nothing
 pub tells-nothing : (config : Config) (earlier : List DriverCall) (callback : Callback) (caller : ℕ) (answer : Outside) (effects : List Effect) (old new : ChildView)
-    → IsNothing answer → Shows old new → IfSome (told old) (Tells config earlier)
-    → IfSome (told new) (Tells config (call_of callback caller (answer ∷ []) effects ∷ earlier))
+    → IsNothing answer → Shows old new → Tells config earlier (told_of old old.stand)
+    → Tells config (call_of callback caller (answer ∷ []) effects ∷ earlier) (told_of new new.stand)
 tells-nothing config earlier callback caller answer effects old new nothing shows before =
-    tells-same config earlier (call_of callback caller (answer ∷ []) effects) old new old.stand new.stand shows.stand
-    (λ st st' on is t. tells-call config earlier (call_of callback caller (answer ∷ []) effects) (told_of old st) (told_of new st') (ap (λ c. c.command) shows.shown)
-    (ap (λ c. c.given) shows.shown ∙ (t.given ∙ rw nothing.took (sym (front-quiet (given config earlier) (asked config earlier) (framed config callback) (given-within config earlier)))))
-    (ap (λ c. c.fetched) shows.shown ∙ (sym (append-nil old.fetched) ∙ ap (λ xs. old.fetched ++ xs) (sym nothing.got))) (λ status e. status-stays st st' status on e)
-    (λ e. let bad = sym e ∙ nothing.end in absurd (cc)) (rw nothing.statuses (All-nil _)) t)
-    before
+    tells-same config earlier (call_of callback caller (answer ∷ []) effects) old new (ap (λ c. c.command) shows.shown)
+    (ap (λ c. c.given) shows.shown ∙ (before.given ∙ rw nothing.took (sym (front-quiet (given config earlier) (asked config earlier) (framed config callback) (given-within config earlier)))))
+    (ap (λ c. c.fetched) shows.shown ∙ (sym (append-nil old.fetched) ∙ ap (λ xs. old.fetched ++ xs) (sym nothing.got))) shows.stand nothing.end nothing.statuses before
 
 failed-goes : (config : Config) (earlier : List DriverCall) (callback : Callback) (caller : ℕ) (old new : ChildView) → MayFail callback → Shows old new
-    → IfSome (told old) (Tells config earlier)
+    → Tells config earlier (told_of old old.stand)
     → Goes Spawn config earlier (call_of callback caller (Failed ∷ []) (Fail (codes "eio") ∷ [])) (Running (record (program config earlier) { failed = true })) (told new) []
     (Fail (codes "eio") ∷ [])
 failed-goes config earlier callback caller old new may shows before =
@@ -149,7 +143,7 @@ Did-failed callback old_child new_child old new before after may shows same cont
     let e = kept-is config earlier old before.queue stands.holds in
     rw (same, e.0) (failed-goes config earlier callback before.caller old_child new_child may shows stands.told))
 
-waits-goes : (config : Config) (earlier : List DriverCall) (event caller : ℕ) (old new : ChildView) → Shows old new → IfSome (told old) (Tells config earlier)
+waits-goes : (config : Config) (earlier : List DriverCall) (event caller : ℕ) (old new : ChildView) → Shows old new → Tells config earlier (told_of old old.stand)
     → Goes Spawn config earlier (call_of (ReadyInput event) caller (Again ∷ []) []) (Running (program config earlier)) (told new) (spawn_queue config earlier) []
 waits-goes config earlier event caller old new shows before =
     let call : DriverCall = call_of (ReadyInput event) caller (Again ∷ []) [] in

@@ -1,6 +1,5 @@
 -- The callbacks for which nothing is asked of the program.
 use Rattle.std.proofs.Common.{◌≡◌, ℕ, List, [], ◌∷◌, ◌++◌, length, Bool, true, Option, None, Some, IfSome, refl, sym, ◌∙◌, ap, arith}
-use Rattle.std.specs.Prelude.{IsSome, ℤ}
 use Rattle.std.specs.Option.{option_map}
 use Rattle.std.proofs.lemmas.List.{append-nil}
 use Rattle.port_config.specs.declared.config.Config.{Config}
@@ -10,15 +9,14 @@ use Rattle.driver_model.specs.Calls.{Callback, Stop, DriverCall, call_of, Progra
 use Rattle.driver_model.specs.Spawn.{framed, asked, given, program_failed, spawn_queue, held_busy, holds_busy, read_after, write_after, read_event, write_event, program, spawn_effects, spawn_answered}
 use Rattle.driver_model.specs.Drivers.{holds}
 use Rattle.driver_model.specs.Programs.{ToldProgram, Tells}
-use Rattle.outside.specs.Children.{ChildView, Stand, Shows}
+use Rattle.outside.specs.Children.{ChildView, Shows}
 use Rattle.port_driver.specs.Context.{Context}
 use Rattle.port_driver.specs.Replies.{reply_effect}
 use Rattle.port_driver.specs.Driven.{held_of, Did, Ended, Stands}
 use Rattle.port_driver.proofs.Driven.{Goes, Did-nothing, Did-answered, Follows-from_Goes}
-use Rattle.spawn_driver.specs.Serving.{Serving, own_of, program_of, told, told_of}
+use Rattle.spawn_driver.specs.Serving.{Serving, own_of, program_of, status_of, told, told_of}
 use Rattle.spawn_driver.proofs.Lists.{left-quiet, front-quiet}
-use Rattle.std.proofs.lemmas.List.Elements.{All-nil}
-use Rattle.spawn_driver.proofs.Histories.{kept-is, goes, given-within, unread-program, tells-same, tells-call, status-stays}
+use Rattle.spawn_driver.proofs.Histories.{kept-is, goes, given-within, unread-program, tells-same, tells-call, statuses-stay}
 
 -- such a callback
 pub record IsQuiet (callback : Callback) (recorded : List Effect) : Type 0 where
@@ -38,18 +36,6 @@ quiet-queue : (config : Config) (earlier : List DriverCall) (callback : Callback
 quiet-queue config earlier callback caller recorded none =
     rw none (sym (left-quiet (program_failed earlier) (given config earlier) (asked config earlier) (given-within config earlier)))
 
-quiet-told : (config : Config) (earlier : List DriverCall) (callback : Callback) (caller : ℕ) (recorded : List Effect) (old : ToldProgram) (new : ToldProgram)
-    → new.command ≡ old.command → new.given ≡ old.given → new.taken ≡ old.taken
-    → ((status : Option ℤ) → old.status ≡ status → IsSome status → new.status ≡ status)
-    → Tells config earlier old → Tells config (call_of callback caller [] recorded ∷ earlier) new
-quiet-told config earlier callback caller recorded old new command given' taken status before = record {
-  command = command ∙ before.command;
-  given = given' ∙ (before.given ∙ sym (front-quiet (given config earlier) (asked config earlier) (framed config callback) (given-within config earlier)));
-  taken = taken ∙ (before.taken ∙ sym (append-nil _));
-  ended = λ e. let some = before.ended e in rw (status old.status refl some) some;
-  status = λ k d there. let e = before.status k d there in status (Some _) e refl;
-}
-
 -- the calls go on over one
 quiet-goes : (config : Config) (earlier : List DriverCall) (callback : Callback) (caller : ℕ) (recorded : List Effect) (kept : Program) (queue : List ℕ) (tells : Option ToldProgram)
     → IsQuiet callback recorded → held_of (Running kept) queue ≡ holds Spawn config earlier → IfSome tells (Tells config (call_of callback caller [] recorded ∷ earlier))
@@ -63,12 +49,12 @@ quiet-goes config earlier callback caller recorded kept queue tells quiet before
     goes config earlier call kept queue tells recorded (e.0 ∙ same) (e.1 ∙ quiet-queue config earlier callback caller recorded (quiet.framed config))
     (quiet.effects config earlier caller) (quiet.answered config earlier) told'
 
-pub quiet-tells : (config : Config) (earlier : List DriverCall) (callback : Callback) (caller : ℕ) (recorded : List Effect) (child : ChildView) (s : Option Stand)
-    → IfSome (option_map (told_of child) s) (Tells config earlier)
-    → IfSome (option_map (told_of child) s) (Tells config (call_of callback caller [] recorded ∷ earlier))
-quiet-tells config earlier callback caller recorded child None before = tt
-quiet-tells config earlier callback caller recorded child (Some st) before =
-    quiet-told config earlier callback caller recorded (told_of child st) (told_of child st) refl refl refl (λ status e some. e) before
+pub quiet-tells : (config : Config) (earlier : List DriverCall) (callback : Callback) (caller : ℕ) (recorded : List Effect) (child : ChildView)
+    → Tells config earlier (told_of child child.stand) → Tells config (call_of callback caller [] recorded ∷ earlier) (told_of child child.stand)
+quiet-tells config earlier callback caller recorded child before =
+    tells-call config earlier (call_of callback caller [] recorded) (told_of child child.stand) (told_of child child.stand) refl
+    (before.given ∙ sym (front-quiet (given config earlier) (asked config earlier) (framed config callback) (given-within config earlier))) (sym (append-nil _))
+    (statuses-stay (option_map status_of child.stand)) before
 
 -- a callback that changed nothing
 pub Did-quiet : (callback : Callback) (s : Serving) (context : Context) → IsQuiet callback []
@@ -77,7 +63,7 @@ Did-quiet callback s context quiet =
     Did-nothing Spawn callback (Running s.kept) (told s.child) context
     (λ config earlier before.
     quiet-goes config earlier callback context.caller [] s.kept context.queue (told s.child) quiet before.holds
-    (quiet-tells config earlier callback context.caller [] s.child s.child.stand before.told))
+    (quiet-tells config earlier callback context.caller [] s.child before.told))
 
 -- and one that answered
 pub Did-badarg : (callback : Callback) (s : Serving) (context : Context) → IsQuiet callback (reply_effect Badarg ∷ [])
@@ -86,7 +72,7 @@ Did-badarg callback s context quiet =
     Did-answered Spawn callback (Running s.kept) (told s.child) context Badarg
     (λ config earlier before.
     quiet-goes config earlier callback context.caller (reply_effect Badarg ∷ []) s.kept context.queue (told s.child) quiet before.holds
-    (quiet-tells config earlier callback context.caller (reply_effect Badarg ∷ []) s.child s.child.stand before.told))
+    (quiet-tells config earlier callback context.caller (reply_effect Badarg ∷ []) s.child before.told))
 
 -- no calls led to a driver that keeps nothing
 none-stands : {P : Type 0} (config : Config) (earlier : List DriverCall) (context : Context) → Stands Spawn config earlier Nothing None context → P
@@ -115,11 +101,9 @@ Ended-stop kept old new shows = record {
       stands.holds (stop-tells config earlier context.caller stands.told));
 }
   where
-    stop-tells : (config : Config) (earlier : List DriverCall) (caller : ℕ) → IfSome (told old) (Tells config earlier)
-        → IfSome (told new) (Tells config (call_of Stop caller [] [] ∷ earlier))
+    stop-tells : (config : Config) (earlier : List DriverCall) (caller : ℕ) → Tells config earlier (told_of old old.stand)
+        → Tells config (call_of Stop caller [] [] ∷ earlier) (told_of new new.stand)
     stop-tells config earlier caller before =
-        tells-same config earlier (call_of Stop caller [] []) old new old.stand new.stand shows.stand
-        (λ st st' on is t. tells-call config earlier (call_of Stop caller [] []) (told_of old st) (told_of new st') (ap (λ c. c.command) shows.shown)
-        (ap (λ c. c.given) shows.shown ∙ (t.given ∙ sym (front-quiet (given config earlier) (asked config earlier) [] (given-within config earlier))))
-        (ap (λ c. c.fetched) shows.shown ∙ sym (append-nil old.fetched)) (λ status e. status-stays st st' status on e) (λ e. absurd (cc)) (All-nil _) t)
-        before
+        tells-same config earlier (call_of Stop caller [] []) old new (ap (λ c. c.command) shows.shown)
+        (ap (λ c. c.given) shows.shown ∙ (before.given ∙ sym (front-quiet (given config earlier) (asked config earlier) [] (given-within config earlier))))
+        (ap (λ c. c.fetched) shows.shown ∙ sym (append-nil old.fetched)) shows.stand refl refl before

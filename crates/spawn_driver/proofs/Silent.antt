@@ -10,8 +10,9 @@ use Rattle.port_signal.specs.declared.outside.Outside.TheVariants.{Took, Again, 
 use Rattle.port_model.specs.declared.effect.Effect.{Effect}
 use Rattle.port_model.specs.declared.effect.Effect.TheVariants.{Fail, ReplyBadarg}
 use Rattle.driver_model.specs.Calls.{Callback, Outputv, Control, Call, ReadyInput, ReadyOutput, ReadyAsync, ProcessExit, Flush, DriverCall, call_of, Program, Running, Spawn}
-use Rattle.driver_model.specs.Spawn.{fits, is_none, spawn_effects, spawn_answered, answers_fetch}
+use Rattle.driver_model.specs.Spawn.{asked, given, taken_bytes, fits, is_none, spawn_effects, spawn_answered, answers_fetch}
 use Rattle.driver_model.specs.Drivers.{job_count, jobs_by, held_events, held_by}
+use Rattle.driver_model.specs.Programs.{ToldProgram, Tells}
 use Rattle.outside.specs.declared.child.StatusGot.{StatusGot}
 use Rattle.outside.specs.declared.child.StatusGot.TheVariants as got
 use Rattle.outside.specs.Children.{ChildView}
@@ -20,13 +21,13 @@ use Rattle.port_driver.specs.Driven.{Stands, Follows, Did}
 use Rattle.spawn_driver.specs.Recorded.{with_effects, with_answers}
 use Rattle.spawn_driver.specs.Steps.{Queues, Takes, Ends, answers_to}
 use Rattle.spawn_driver.specs.Told.{GoesOnBy, DoesAsTold, Refuses}
-use Rattle.spawn_driver.specs.Serving.{Serving}
+use Rattle.spawn_driver.specs.Serving.{Serving, told, told_of}
 use Rattle.recorded_calls.specs.declared.call.RecordedCall.{RecordedCall}
 use Rattle.recorded_calls.specs.Told.{DidAsTold, callback_of}
 use Rattle.spawn_driver.proofs.Quiet.{IsQuiet, Did-quiet, Did-badarg}
 use Rattle.spawn_driver.proofs.Commands.{Did-output}
 use Rattle.spawn_driver.proofs.Offers.{Did-took, Did-failed, Did-waits, MayFail, output-may-fail, input-may-fail}
-use Rattle.spawn_driver.proofs.Endings.{Did-ended, IsStatus, status-unasked, status-told, status-failed}
+use Rattle.spawn_driver.proofs.Endings.{Did-ended, IsStatus, status-unasked, status-told, status-failed, tells-asked}
 
 -- a child that doesn't tell how it stands
 abbrev pub silent : List ℕ → List ℕ → List ℕ → ChildView
@@ -39,6 +40,38 @@ silent command given fetched = record {
   at_end = false;
   stopped = false;
   stand = None;
+}
+
+-- what is said of a driver that tells of its program is said of one that doesn't
+Follows-untold : (config : Config) (earlier : List DriverCall) (call : DriverCall) (new : Program) (program : Option ToldProgram) (context : Context) (recorded : List Effect)
+    → Follows Spawn config earlier call (Running new) program context recorded → Follows Spawn config earlier call (Running new) None context recorded
+Follows-untold config earlier call new program context recorded f = record {
+  stands = record { holds = f.stands.holds; jobs = f.stands.jobs; events = f.stands.events; told = tt };
+  effects = f.effects;
+  answered = f.answered;
+}
+
+-- what a driver did whatever its silent program was given and gave, it does without a program
+pub Did-untold : (callback : Callback) (old new : Program) (before after : Context) (answer : List Effect) (next : List ℕ → List ℕ → List ℕ → ChildView)
+    → ((command given' fetched : List ℕ) → Did Spawn callback (Running old) (Running new) (told (silent command given' fetched)) (told (next command given' fetched)) before after answer)
+    → Did Spawn callback (Running old) (Running new) None None before after answer
+Did-untold callback old new before after answer next did' = record {
+  answers = (did' [] [] []).answers;
+  added = (did' [] [] []).added;
+  outside = (did' [] [] []).outside;
+  effects = (did' [] [] []).effects;
+  follows = λ config earlier stands.
+      let given' = take (given config earlier) (asked config earlier) in
+      let fetched = taken_bytes earlier in
+      let first = did' [] [] [] in
+      let d = did' config.run given' fetched in
+      let answers : d.answers ≡ first.answers = append_cancel_left before.outside d.answers first.answers (sym d.outside ∙ first.outside) in
+      let added : d.added ≡ first.added = append_cancel_left before.effects d.added first.added (sym d.effects ∙ first.effects) in
+      let tells : Tells config earlier (told_of (silent config.run given' fetched) None) = record { command = refl; given = refl; taken = refl; ended = λ e. tt; status = tt } in
+      let f = d.follows config earlier (record { holds = stands.holds; jobs = stands.jobs; events = stands.events; told = tells }) in
+      let g = Follows-untold config earlier (call_of callback before.caller d.answers (d.added ++ answer)) new (told (next config.run given' fetched)) after (d.added ++ answer) f in
+      subst (λ (os : List Outside). Follows Spawn config earlier (call_of callback before.caller os (first.added ++ answer)) (Running new) None after (first.added ++ answer)) answers
+      (subst (λ (es : List Effect). Follows Spawn config earlier (call_of callback before.caller d.answers (es ++ answer)) (Running new) None after (es ++ answer)) added g);
 }
 
 -- the call of a row leaves what the one with the recorded effects does, where both have the same effects
@@ -109,7 +142,10 @@ pub took-told : (event count : ℕ) (row : List Effect) (old new : Program) (bef
     → Takes count old new before (with_answers after (Took count ∷ [])) → GoesOnBy (ReadyOutput event) (Took count ∷ []) row old new before after
 took-told event count row old new before after within takes =
     goes-on-by (ReadyOutput event) (Took count ∷ []) row old new before after
-    (Did-took event count (silent [] [] []) (silent [] (take count before.queue) []) old new before (with_answers after (Took count ∷ [])) within (record { shown = refl; stand = refl }) takes)
+    (Did-untold (ReadyOutput event) old new before (with_answers after (Took count ∷ [])) [] (λ command given' fetched. silent command (given' ++ take count before.queue) fetched)
+    (λ command given' fetched.
+    Did-took event count (silent command given' fetched) (silent command (given' ++ take count before.queue) fetched) old new before (with_answers after (Took count ∷ [])) within
+    (record { shown = refl; stand = refl }) takes))
     (ap (λ (c : Context). c.outside) takes.context) (λ config earlier stands is. refl)
 
 -- a call of the program failed
@@ -120,8 +156,10 @@ failed-told : (callback : Callback) (row : List Effect) (old new : Program) (bef
     → GoesOnBy callback (Failed ∷ []) row old new before after
 failed-told callback row old new before after may same context uncut =
     let d : Did Spawn callback (Running old) (Running new) None None before (with_answers after (Failed ∷ [])) [] =
-    Did-failed callback (silent [] [] []) (silent [] [] []) old new before (with_answers after (Failed ∷ [])) may (record { shown = refl; stand = refl }) same
-    (ap (λ (c : Context). with_answers c (Failed ∷ [])) context) in
+    Did-untold callback old new before (with_answers after (Failed ∷ [])) [] silent
+    (λ command given' fetched.
+    Did-failed callback (silent command given' fetched) (silent command given' fetched) old new before (with_answers after (Failed ∷ [])) may (record { shown = refl; stand = refl }) same
+    (ap (λ (c : Context). with_answers c (Failed ∷ [])) context)) in
     goes-on-by callback (Failed ∷ []) row old new before after d (ap (λ (c : Context). c.outside ++ Failed ∷ []) context)
     (λ config earlier stands is. uncut config earlier (d.added ++ []))
 
@@ -139,7 +177,9 @@ fetch-failed event row old new before after same context =
 pub waits-told : (event : ℕ) (row : List Effect) (kept : Program) (context : Context) → GoesOnBy (ReadyInput event) (Again ∷ []) row kept kept context context
 waits-told event row kept context =
     goes-on-by (ReadyInput event) (Again ∷ []) row kept kept context context
-    (Did-waits event (silent [] [] []) (silent [] [] []) kept context (with_answers context (Again ∷ [])) (record { shown = refl; stand = refl }) refl) refl
+    (Did-untold (ReadyInput event) kept kept context (with_answers context (Again ∷ [])) [] silent
+    (λ command given' fetched.
+    Did-waits event (silent command given' fetched) (silent command given' fetched) kept context (with_answers context (Again ∷ [])) (record { shown = refl; stand = refl }) refl)) refl
     (λ config earlier stands is. refl)
 
 -- the status was answered as it is asked for
@@ -157,15 +197,22 @@ pub ended-told : (event : ℕ) (status : Option StatusGot) (row : List Effect) (
     → GoesOnBy (ReadyInput event) (End ∷ answers_to status) row old new before after
 ended-told event status row old new before after answered ends =
     goes-on-by (ReadyInput event) (End ∷ answers_to status) row old new before after
-    (Did-ended event (answers_to status) (silent [] [] []) (silent [] [] []) old new before (with_answers after (End ∷ answers_to status))
-    (status-asked old.config.exit_status status answered) (λ config earlier effects told. tt) ends)
+    (Did-untold (ReadyInput event) old new before (with_answers after (End ∷ answers_to status)) [] silent
+    (λ command given' fetched.
+    let child = silent command given' fetched in
+    let is = status-asked old.config.exit_status status answered in
+    Did-ended event (answers_to status) child child old new before (with_answers after (End ∷ answers_to status)) is
+    (λ config earlier effects.
+    tells-asked config earlier event before.caller (answers_to status) effects child child child tt refl refl refl refl refl is.took is.got (λ st_e st' none. absurd (cc)))
+    ends))
     (ap (λ (c : Context). c.outside) ends.context) (λ config earlier stands is. refl)
 
 -- data of a command was taken
 pub output-told : (bytes : List ℕ) (row : List Effect) (old new : Program) (before after : Context) → Queues bytes old new before after
     → GoesOnBy (Outputv bytes) [] row old new before after
 output-told bytes row old new before after queues =
-    goes-on (Outputv bytes) [] row old new before after after [] (Did-output bytes (silent [] [] []) old new before after queues) (unchanged ∙ sym (append-nil before.outside))
+    goes-on (Outputv bytes) [] row old new before after after [] (Did-untold (Outputv bytes) old new before after [] silent
+    (λ command given' fetched. Did-output bytes (silent command given' fetched) old new before after queues)) (unchanged ∙ sym (append-nil before.outside))
     refl refl refl (sym (append-nil after.effects)) (λ config earlier stands is. refl)
   where
     unchanged : after.outside ≡ before.outside
@@ -237,8 +284,8 @@ flush-unasked = record {
 }
 
 -- the program that a driver keeps, silent
-abbrev serves : Program → Serving
-serves kept = record { child = silent [] [] []; faults = 0; kept = kept }
+abbrev serves : Program → List ℕ → List ℕ → List ℕ → Serving
+serves kept command given' fetched = record { child = silent command given' fetched; faults = 0; kept = kept }
 
 -- nothing was asked and done
 pub unasked-told : (callback : Callback) (outside : List Outside) (row : List Effect) (kept : Program) (context : Context) (answered : Bool) → IsUnasked callback []
@@ -251,7 +298,8 @@ unasked-told callback outside row kept context answered unasked none = record {
   where
     goes : GoesOnBy callback [] row kept kept context context
     goes =
-        let d : Did Spawn callback (Running kept) (Running kept) None None context context [] = Did-quiet callback (serves kept) context unasked.quiet in
+        let d : Did Spawn callback (Running kept) (Running kept) None None context context [] =
+        Did-untold callback kept kept context context [] silent (λ command given' fetched. Did-quiet callback (serves kept command given' fetched) context unasked.quiet) in
         goes-on callback [] row kept kept context context context [] d (sym (append-nil context.outside)) refl refl refl (sym (append-nil context.effects))
         (λ config earlier stands is. unasked.uncut config earlier context.caller (d.added ++ []) row)
 
@@ -266,7 +314,8 @@ refused-told callback outside row kept before after answered unasked refuses = r
   where
     goes : after ≡ did before ReplyBadarg → GoesOnBy callback [] row kept kept before after
     goes context =
-        let d : Did Spawn callback (Running kept) (Running kept) None None before before (ReplyBadarg ∷ []) = Did-badarg callback (serves kept) before unasked.quiet in
+        let d : Did Spawn callback (Running kept) (Running kept) None None before before (ReplyBadarg ∷ []) =
+        Did-untold callback kept kept before before (ReplyBadarg ∷ []) silent (λ command given' fetched. Did-badarg callback (serves kept command given' fetched) before unasked.quiet) in
         goes-on callback [] row kept kept before before after (ReplyBadarg ∷ []) d (sym (append-nil before.outside))
         (ap (λ (c : Context). c.queue) context) (ap (λ (c : Context). c.held) context) (ap (λ (c : Context). c.next_job) context) (ap (λ (c : Context). c.effects) context)
         (λ config earlier stands is. unasked.uncut config earlier before.caller (d.added ++ ReplyBadarg ∷ []) row)

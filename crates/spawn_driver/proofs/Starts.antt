@@ -1,7 +1,7 @@
 -- What `start` did.
 use Rattle.std.proofs.Common.{◌≡◌, ◌+◌, ◌<◌, ◌-◌, ◌^◌, ℕ, min, List, [], ◌∷◌, Bool, true, false, Option, None, Some, IfSome, refl, sym, inl, inr, arith, ◌⊎◌}
 use Rattle.std.proofs.lemmas.Bool.{cases_lt}
-use Rattle.std.specs.Prelude.{if◌then◌else◌}
+use Rattle.std.specs.Prelude.{ℤ, All, if◌then◌else◌}
 use Rattle.std.specs.Option.{option_map}
 use Rattle.std.proofs.lemmas.List.Elements.{All-nil}
 use Rattle.packet_framing.specs.declared.mode.Mode.{Mode}
@@ -10,15 +10,15 @@ use Rattle.port_config.specs.declared.config.Config.{Config}
 use Rattle.port_model.specs.declared.event.Dir.TheVariants.{Read}
 use Rattle.port_model.specs.declared.effect.Effect.{Effect}
 use Rattle.port_model.specs.declared.effect.Effect.TheVariants.{Select}
-use Rattle.outside.specs.Children.{ChildView, Stand, Starts}
+use Rattle.outside.specs.Children.{ChildView, Starts}
 use Rattle.outside.specs.Causes as outside
-use Rattle.driver_model.specs.Calls.{Start, DriverCall, call_of, Program, Running, Spawn}
+use Rattle.driver_model.specs.Calls.{Start, DriverCall, call_of, Nothing, Program, Running, Spawn}
 use Rattle.driver_model.specs.Spawn.{program, is_refused}
 use Rattle.driver_model.specs.Programs.{Tells}
 use Rattle.port_driver.specs.Context.{Context}
 use Rattle.port_driver.specs.Driven.{Began}
 use Rattle.spawn_driver.specs.Recorded.{with_effects}
-use Rattle.spawn_driver.specs.Serving.{told, told_of}
+use Rattle.spawn_driver.specs.Serving.{ProgramsAreTold, status_of, told, told_of}
 use Rattle.spawn_driver.proofs.Rests.{rest_of-nil}
 use Rattle.spawn_driver.proofs.Oversize.{oversize-nil}
 use Rattle.spawn_driver.proofs.Histories.{same-program, holds-is}
@@ -38,11 +38,19 @@ start-rest : (mode : Mode) (refused : Bool) → [] ≡ (if refused then [] else 
 start-rest mode true = refl
 start-rest mode false = sym (rest_of-nil mode)
 
-start-told : (config : Config) (read write caller : ℕ) (effects : List Effect) (child : ChildView) (s : Option Stand) → Starts config.run child
-    → IfSome (option_map (told_of child) s) (Tells config (start_call read write caller effects ∷ []))
-start-told config read write caller effects child None starts = tt
-start-told config read write caller effects child (Some st) starts =
-    record { command = starts.command; given = starts.given; taken = starts.fetched; ended = λ e. absurd (cc); status = All-nil _ }
+start-told : (config : Config) (read write caller : ℕ) (effects : List Effect) (child : ChildView) → Starts config.run child
+    → Tells config (start_call read write caller effects ∷ []) (told_of child child.stand)
+start-told config read write caller effects child starts =
+    record { command = starts.command; given = starts.given; taken = starts.fetched; ended = λ e. absurd (cc); status = none (option_map status_of child.stand) }
+  where
+    none : (o : Option (Option ℤ)) → IfSome o (λ (own : Option ℤ). All (λ (status : ℤ). own ≡ Some status) [])
+    none None = tt
+    none (Some own) = All-nil _
+
+-- a driver that keeps what calls leave has a program
+pub programs-told : ProgramsAreTold
+programs-told None kept own = let bad : Nothing ≡ Running kept = own in absurd (cc)
+programs-told (Some s) kept own = refl
 
 pub Began-start : (config : Config) (child : ChildView) (kept : Program) (before after : Context) (read write : ℕ) → kept ≡ fresh_program config read write → before.queue ≡ []
     → before.held ≡ [] → before.next_job ≡ 0 → Starts config.run child → after ≡ with_effects before (Select read Read true ∷ [])
@@ -59,7 +67,7 @@ Began-start config child kept before after read write fresh empty none no_job st
           (start-refused config read write before.caller (Select read Read true ∷ [])) refl refl refl) empty;
       jobs = no_job;
       events = rw none (record { each = λ event. refl; count = refl });
-      told = start-told config read write before.caller (Select read Read true ∷ []) child child.stand starts;
+      told = start-told config read write before.caller (Select read Read true ∷ []) child starts;
     };
     effects = refl;
     answered = refl;
