@@ -3,8 +3,8 @@ use crossbeam_utils::atomic::AtomicCell;
 use std::sync::Wait;
 use wake_ups::Idle;
 
-// How often a job looks for the others: with the pauses behind the looks, which grow to ten milliseconds, for ten seconds or a little more.
-const LOOKS: u32 = 1_060;
+// How often a job looks for the others: with the pauses behind the looks, which grow to 40 milliseconds, for ten seconds or a little more.
+const LOOKS: u32 = 330;
 
 // Where jobs wait for each other before they begin. Each of them runs beside the others only in a thread of its own: where one can't be made, a job is run behind another,
 // and jobs that wait for each other would never end so.
@@ -25,7 +25,7 @@ impl Meeting {
         }
     }
 
-    // Waits until all jobs have come. Answers whether they have: not where one of them left, as each does that has waited for ten seconds in vain.
+    // Waits until all jobs have come. Answers whether they have: not where one of them left, as each does that has waited for some ten seconds in vain.
     pub(crate) fn have_all_come<R: Wait>(&self, rt: &R) -> bool {
         self.came.fetch_add(1);
         let idle = Idle::new();

@@ -84,7 +84,7 @@ fn run_schedulers<B: PortBody + Send, G: Gate + Sync, R: Threads + Wait + Sync>(
 /// Runs the schedulers beside the other jobs, and returns once all have ended. It returns only if OVER tells the end of the run: so the other jobs have to finish
 /// their seats of OVER, or to stop the run.
 ///
-/// All begin once each has a thread of its own. Where they don't within ten seconds, since a thread can't be made, the schedulers stop the run without a turn, and each
+/// All begin once each has a thread of its own. Where they don't within some ten seconds, since a thread can't be made, the schedulers stop the run without a turn, and each
 /// other job is run all the same: it finds the run stopped.
 pub fn run<B: PortBody + Send, G: Gate + Sync, K: ThreadJob + Send, R: Threads + Wait + Sync>(
     rt: &R,

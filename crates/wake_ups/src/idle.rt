@@ -15,19 +15,19 @@ const COMMON: u64 = 1_000;
 const PART: u64 = 16;
 
 // And at most for so many.
-const LONGEST: u64 = 20_000;
+const LONGEST: u64 = 40_000;
 
 // A sleep of so many microseconds or more can be ended by others. A shorter one would end by itself about as soon, and a wake-up costs the one who wakes.
 const WOKEN: u64 = 400;
 
 /// A wait that grows: it spins, then yields the processor, then sleeps, for 100 microseconds at first, twice as long each time, and for a millisecond at most
-/// while it has slept for less than 16 milliseconds; from then on for a sixteenth of the time that it has slept, and for 20 milliseconds at most.
+/// while it has slept for less than 16 milliseconds; from then on for a sixteenth of the time that it has slept, and for 40 milliseconds at most.
 ///
 /// For a loop that looks again and again for something to do, as a scheduler's. Each loop has one of its own. It calls `wait` or `wait_at` after each round that
 /// found nothing, and `reset` after each that found something, so that a loop that has work answers at once, and one that has none for long leaves the
 /// processor to the others. The first eleven waits after a `reset` take some microseconds in all, and each further one sleeps. A sleep at a `Waiter` that would last for 400
 /// microseconds or longer ends where somebody wakes it. Another one ends by itself alone: what comes is found after a millisecond, or after a sixteenth of the time for which nothing came, and a loop that
-/// waits for long looks fifty times a second.
+/// waits for long looks twenty-five times a second.
 ///
 /// A wait has no bound that a contract could tell, and what a loop waits for it has to look for itself: a job of a run looks at its seat of OVER in each round, and
 /// ends where it finds that the run is over.
@@ -55,7 +55,7 @@ impl Idle {
         self.slept.set(0);
     }
 
-    /// The round found nothing to do: waits a little, longer each time up to a sleep of 20 milliseconds. Nobody can end it.
+    /// The round found nothing to do: waits a little, longer each time up to a sleep of 40 milliseconds. Nobody can end it.
     pub fn wait<R: Wait>(&self, rt: &R) {
         if self.has_spun() {
             Parker::new().park_timeout(rt, self.next_nap());
