@@ -26,7 +26,7 @@ use Rattle.script_plan.specs.Plan.{Plan}
 use Rattle.load_summary.specs.run_output.script_run.declared.running.RunFault.{RunFault}
 use Rattle.load_summary.specs.run_output.script_run.declared.running.RunFault.TheVariants as ran
 use Rattle.load_summary.specs.run_output.script_run.declared.running.ScriptRan.{ScriptRan}
-use Rattle.load_summary.specs.run_output.script_run.Ends.{IsNotRun}
+use Rattle.load_summary.specs.run_output.script_run.Ends.{HaveAllServed, IsNotRun}
 use Rattle.load_summary.specs.run_output.script_run.Ran.{HasRun}
 use Rattle.load_summary.specs.run_output.saved_output.Served.{ProgramsServed}
 use Rattle.gateway.specs.Fixed.{AnswersAreFixed, IsSummaryOf}
@@ -165,7 +165,15 @@ module _ {D : Type 0} (kind : D → Kind) (stage : D → Life) (faults : D → �
     },
     (w, s),
   )
-  unmade-comes run plan i ran.PollFault h n p w s = (record { plan = plan; found = found-of run.words run.files run.files_after plan i h; rose = p refl }, (w, s))
+  unmade-comes run plan i ran.PollFault h n p w s = (
+    record {
+      plan = plan;
+      found = found-of run.words run.files run.files_after plan i h;
+      served = subst (λ (ports : List PortDecl). HaveAllServed kind stage faults ports run.hosts run.hosts_after) h.run.ports n;
+      rose = p refl;
+    },
+    (w, s),
+  )
   unmade-comes run plan i ran.NoMemory h n p w s = (reads-same run.words run.files run.files_after plan i h, inl (w, s))
 
   unmade-reported : (run : Run D) (fault : RunFault) → IsReported kind stage faults own program run (run_cause fault) None

@@ -14,6 +14,7 @@ use Rattle.driver_hosts.specs.Finding.{HasDrivers}
 use Rattle.gateway_script.specs.Script.{script}
 use Rattle.load_summary.specs.run_output.run_opening.Faults.{LacksAt, RefusedAt}
 use Rattle.load_summary.specs.run_output.declared.writing.OutputFault.TheVariants as output
+use Rattle.load_summary.specs.run_output.script_run.Ends.{HaveAllServed}
 use Rattle.run_report.specs.declared.cause.Cause.{Cause}
 use Rattle.run_report.specs.declared.cause.Cause.TheVariants.{Done, Usage, Script, ReadFault, WriteFault, NoDriver, StartRefused, PollFault, NoMemory, Illegal, Limit, JournalText}
 use Rattle.run_report.specs.declared.report.Report.{Report}
@@ -98,10 +99,11 @@ module _ {D : Type 0} where
       pub found : PlanFound run.words run.files run.files_after plan
       pub refused : RefusedAt kind stage faults plan.ports run.hosts run.hosts_after line refusal
 
-    -- a wait failed in the run of the script that was read
+    -- a wait failed in the run of the script that was read; the drivers of its ports are back with their ports, and the others are as they were handed in
     pub record WaitFailed (run : Run D) : Type 0 where
       pub plan : Plan
       pub found : PlanFound run.words run.files run.files_after plan
+      pub served : HaveAllServed kind stage faults plan.ports run.hosts run.hosts_after
       pub rose : IsSomeAnd run.waits_after (λ waits. Rose run.waits waits)
 
     -- Each cause comes only where this holds. Where memory ran out no read failed, and what was written, if anything, is a front of what a run that was made writes

@@ -36,7 +36,7 @@ pub record WroteAll (all : List NamedBytes) (old new : FilesView) : Type 0 where
   pub wrote : new.wrote ≡ old.wrote ++ all
   pub faults : new.writes ≡ old.writes
 
--- some of the first of these writes answered, perhaps all, and no other; of the name of one that didn't nothing is told
+-- a front of these writes answered, perhaps all, and no other; what the files hold then for any of their names isn't told
 pub record WroteFront (all : List NamedBytes) (old new : FilesView) : Type 0 where
   pub touches : TouchesOnly all old new
   pub front : List NamedBytes

@@ -9,8 +9,8 @@ use Rattle.port_links.specs.Table.{IsAmong}
 use Rattle.journal_text.specs.declared.book.PortReport.{PortReport}
 use Rattle.run_report.specs.declared.counts.PortCounts.{PortCounts}
 
--- the opening of a reported port, one of whose openers are so many processes. What is counted asks for no more of it than these and its owner, as a law of this crate
--- says: its number and its kind may be any
+-- the opening of a reported port in a run of so many processes. What is counted asks for no more of it than these and its owner, as a law of this crate says: its number
+-- and its kind may be any
 abbrev pub opening_of : ℕ → PortReport → Opening
 opening_of processes port = record {
   number = 0;

@@ -10,6 +10,7 @@ use Rattle.port_body.specs.Body.{BodyView, name_of}
 use Rattle.driver_hosts.specs.declared.hosted.Hosted.{Hosted}
 use Rattle.no_memory.specs.declared.NoMemory.{NoMemory as Wanting}
 use Rattle.run_setting.specs.declared.RunScript.{RunScript}
+use Rattle.script_plan.specs.declared.decl.PortDecl.{PortDecl}
 use Rattle.run_setting.specs.Setting.{AreNamedIn}
 use Rattle.seated_script.specs.declared.seating.SeatedScript.{SeatedScript}
 use Rattle.seated_script.specs.Seated.{IsSeatedScript}
@@ -20,7 +21,7 @@ use Rattle.threaded_jobs.specs.declared.ended.Stop.TheVariants as stop
 use Rattle.script_run.specs.declared.running.RunFault.{RunFault}
 use Rattle.script_run.specs.declared.running.RunFault.TheVariants as fault
 use Rattle.script_run.specs.declared.running.ScriptRan.{ScriptRan}
-use Rattle.script_run.specs.Ends.{PollIsBack, stopped}
+use Rattle.script_run.specs.Ends.{HaveAllServed, IsNotRun, PollIsBack, stopped}
 use Rattle.script_run.specs.Left.{HasEndedIn}
 
 module _ {S : Type 0} (faults : S → ℕ) where
@@ -33,6 +34,13 @@ module _ {S : Type 0} (faults : S → ℕ) where
   pub poll-made : (ran : Result ScriptRan Wanting) (made : Result ScriptRan RunFault) (old new : S) → MatchResult made (λ r. ran ≡ Ok r) (λ f. f ≡ fault.NoMemory) → faults new ≡ faults old → PollIsBack faults old made (Some new)
   poll-made ran (Ok r) old new is same = (new, refl, same)
   poll-made ran (Err f) old new is same = subst (λ x. PollIsBack faults old (Err x) (Some new)) (sym is) tt
+
+module _ {D : Type 0} (kind : D → Kind) (stage : D → Life) (faults : D → ℕ) where
+  -- the drivers of a run that was stopped have served their ports
+  pub not-run : (ports : List PortDecl) (old new : List (Hosted D)) (why : Stop) (f : RunFault) → f ≡ stopped why → HaveAllServed kind stage faults ports old new
+      → IsNotRun kind stage faults ports old new f
+  not-run ports old new stop.PollFault f is served = subst (λ x. IsNotRun kind stage faults ports old new x) (sym is) served
+  not-run ports old new stop.NoMemory f is served = subst (λ x. IsNotRun kind stage faults ports old new x) (sym is) tt
 
 -- what is said of a run that was made is said of what is told of it
 pub told-made : (P : ScriptRan → Type 0) (ran : Result ScriptRan Wanting) (made : Result ScriptRan RunFault) → MatchResult made (λ r. ran ≡ Ok r) (λ f. f ≡ fault.NoMemory) → IfOk ran P → IfOk made P

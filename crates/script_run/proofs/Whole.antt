@@ -73,7 +73,7 @@ use Rattle.run_lanes.specs.Keyed.{key_of}
 use Rattle.port_body.specs.recorded_port.View.{stat_marks}
 use Rattle.port_history.specs.State.{state}
 use Rattle.port_words.specs.busy.Known.{PortKnown}
-use Rattle.port_body.specs.Ends.{IsLeftByCalls}
+use Rattle.port_body.specs.Ends.{HaveRows, IsLeftByCalls}
 use Rattle.run_end.specs.Shown.{WordsHold}
 use Rattle.process_receipts.specs.Receipts.{AreReceipts, accepted}
 use Rattle.port_history.specs.Mail.{mails}
@@ -381,6 +381,7 @@ module _ {D : Type 0} (kind : D → Kind) (stage : D → Life) (faults : D → �
     finished = subst (λ o. IsFinished o (reverse port.journal.rows)) same closed.finished;
     senders = λ n d below. subst (λ p. IsFrom p s.size.workers (get_or port.journal.rows n d)) processes (subst (λ w. IsFrom name.key.processes w (get_or port.journal.rows n d)) workers
         (from-end senders name.key (get_or port.journal.rows n d) (closed.senders n d below)));
+    listed = subst (λ o. HaveRows (state o (reverse port.journal.rows))) same closed.listed.have_rows;
   }
 
 module _ {D S : Type 0} {gh : Ghosts BodyView} (kind : D → Kind) (stage : D → Life) (faults : D → ℕ) (own : D → Own) (program : D → Option ToldProgram) where

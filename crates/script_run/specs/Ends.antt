@@ -5,6 +5,8 @@ use Rattle.outside.specs.Causes.{Rose}
 use Rattle.port_driver.specs.declared.life.Life.{Life}
 use Rattle.script_plan.specs.declared.decl.PortDecl.{PortDecl}
 use Rattle.driver_hosts.specs.declared.hosted.Hosted.{Hosted}
+use Rattle.driver_hosts.specs.Back.{HaveServed}
+use Rattle.driver_hosts.specs.Finding.{Found}
 use Rattle.run_opening.specs.declared.opening.OpenFault.{OpenFault}
 use Rattle.run_opening.specs.declared.opening.OpenFault.TheVariants as opening
 use Rattle.run_opening.specs.Faults.{LacksAt, RefusedAt}
@@ -25,11 +27,17 @@ stopped stop.PollFault = PollFault
 stopped stop.NoMemory = NoMemory
 
 module _ {D : Type 0} where
-  -- no driver is left for a port, and then none was touched; or the driver that was found for a port refused. A fault of the poll set and want of memory may come of any run
+  -- the drivers that the search finds for the ports are back, each with its port and stopped, and the others are as they were handed in
+  pub record HaveAllServed (kind : D → Kind) (stage : D → Life) (faults : D → ℕ) (ports : List PortDecl) (old new : List (Hosted D)) : Type 0 where
+    pub places : List ℕ
+    pub found : Found kind old ports places
+    pub served : HaveServed kind stage faults places old new
+
+  -- no driver is left for a port, and then none was touched; or the driver that was found for a port refused. A fault of the poll set may come of any run whose ports were opened, and want of memory of any
   abbrev pub IsNotRun : (D → Kind) → (D → Life) → (D → ℕ) → List PortDecl → List (Hosted D) → List (Hosted D) → RunFault → Type 0
   IsNotRun kind stage faults ports old new (NoDriver line handed) = LacksAt kind stage faults ports old line handed × (new ≡ old)
   IsNotRun kind stage faults ports old new (StartRefused line refusal) = RefusedAt kind stage faults ports old new line refusal
-  IsNotRun kind stage faults ports old new PollFault = Unit {0}
+  IsNotRun kind stage faults ports old new PollFault = HaveAllServed kind stage faults ports old new
   IsNotRun kind stage faults ports old new NoMemory = Unit {0}
 
 module _ {S : Type 0} where

@@ -19,7 +19,7 @@ use Rattle.process_job.specs.Asks.{made_asks}
 use Rattle.process_job.specs.Mails.{Came, mail_from, own_mails, readable, AreReplied}
 use Rattle.port_body.specs.recorded_port.Asks.{resumed_words}
 use Rattle.port_body.specs.recorded_port.View.{stat_marks}
-use Rattle.port_body.specs.Ends.{IsLeftByCalls}
+use Rattle.port_body.specs.Ends.{HaveRows, IsLeftByCalls}
 use Rattle.port_body.specs.LanePort.{rows_from}
 use Rattle.driver_hosts.specs.declared.hosted.Hosted.{Hosted}
 use Rattle.driver_hosts.specs.Back.{HaveServed}
@@ -79,7 +79,7 @@ all_calls ports (program ∷ programs) (left ∷ rest) = calls_of ports program 
 all_calls ports programs rest = []
 
 -- The history of a port is one lawful and finished history of a driver of this kind, with the port's options and owner, which doesn't refuse to start; each task in it is of one of so many processes or
--- workers, or of the poller
+-- workers, or of the poller; and each task for which its sender was listed has a row in it
 pub record PortHolds (number processes workers : ℕ) (kind : Kind) (decl : PortDecl) (port : PortLeft) : Type 0 where
   pub named : kind_name kind ≡ decl.driver
   pub config_is : port.config ≡ decl.config
@@ -87,6 +87,7 @@ pub record PortHolds (number processes workers : ℕ) (kind : Kind) (decl : Port
   pub lawful : Lawful (opening_of number processes kind decl port) (history_of port)
   pub finished : IsFinished (opening_of number processes kind decl port) (history_of port)
   pub senders : All (IsFrom processes workers) port.journal.rows
+  pub listed : HaveRows (state (opening_of number processes kind decl port) (history_of port))
 
 -- Of a process and a port: the tasks of the process that have a row are those that its receipts show accepted, in the order sent, each once; the calls for which it was listed, and those
 -- after which it was resumed, are those that suspended it, in the order in which it made them, each once; and the mail that came from the port is what the port's rows sent it, in their order, but for mail

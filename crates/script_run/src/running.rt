@@ -99,8 +99,8 @@ fn made(ran: Result<ScriptRan, NoMemory>) -> Result<ScriptRan, RunFault>
 
 /// Runs a script on threads: its schedulers, each of its processes, its workers and its poller, beside each other. Each port is served by the first driver of its name that no earlier port got.
 ///
-/// Whatever becomes of the run, each driver is back in its place: stopped, or as it was handed in. What is promised holds for every schedule, if the call returns: it waits for its processes, and these
-/// for their ports.
+/// Whatever becomes of the run, each driver is back in its place: stopped or fresh, of the kind that it had, and with no fewer faults. What is promised holds for every schedule, if the call returns: it
+/// waits for its processes, and these for their ports.
 pub fn run_script<
     D: Driver + Send,
     S: PollSet + Drop + Send,

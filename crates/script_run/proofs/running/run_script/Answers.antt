@@ -9,7 +9,7 @@ use Rattle.script_run.specs.Ran.{HasRun}
 use Rattle.script_run.specs.Readiness.{ReadyRowsAreAnswered}
 use Rattle.script_run.proofs.Answered.{ready-rows}
 use Rattle.script_run.proofs.Back.{back-at-once}
-use Rattle.script_run.proofs.Run.{has-ended, places-many, poll-made, poll-stopped, told-made, weaker}
+use Rattle.script_run.proofs.Run.{has-ended, not-run, places-many, poll-made, poll-stopped, told-made, weaker}
 use Rattle.script_run.proofs.Whole.{all-served, has-run}
 use Rattle.script_run.proofs.running.run_script.Goals as goal
 
@@ -30,6 +30,22 @@ returns-in-Err-jobs-clause-back g c =
     c.run_ports-bodies.result.bodies.items c.requires.unused is same
     (subst (λ places. HaveComeBack g.D.Driver.kind g.D.Driver.stage g.D.Driver.faults g.D.Driver.own g.D.Driver.program c.run_ports-bodies.result.bodies.items places c.seat_script.new.hosts.items c.take_back.new.hosts.items)
     c.as_slice.ensures.value back)).1
+
+pub returns-in-Err-jobs-clause-fault : goal.returns-in-Err-jobs-clause-fault
+returns-in-Err-jobs-clause-fault g c =
+    let is = c.in-Ok.ensures.seated in
+    let same = c.run_ports-bodies.ensures.bodies is.bodies is.plans is.others c.args.poll c.args.script.schedulers is.run in
+    let back = back-at-once g.D.Driver.kind g.D.Driver.stage g.D.Driver.faults g.D.Driver.own g.D.Driver.program c.run_ports-bodies.result.bodies.items c.as_slice.result.now c.seat_script.new.hosts.items c.take_back.new.hosts.items
+    c.take_back.ensures.returned in
+    not-run g.D.Driver.kind g.D.Driver.stage g.D.Driver.faults c.args.script.ports.items c.args.hosts.now.items c.take_back.new.hosts.items c.in-Err-jobs.stop c.stopped.result c.stopped.ensures
+    (record {
+      places = c.in-Ok.seated.places.items;
+      found = is.found;
+      served = (all-served g.D.Driver.kind g.D.Driver.stage g.D.Driver.faults g.D.Driver.own g.D.Driver.program c.args.script c.args.poll c.args.hosts.now.items c.seat_script.new.hosts.items c.take_back.new.hosts.items c.in-Ok.seated
+          c.run_ports-bodies.result.bodies.items c.requires.unused is same
+          (subst (λ places. HaveComeBack g.D.Driver.kind g.D.Driver.stage g.D.Driver.faults g.D.Driver.own g.D.Driver.program c.run_ports-bodies.result.bodies.items places c.seat_script.new.hosts.items c.take_back.new.hosts.items)
+          c.as_slice.ensures.value back)).0;
+    })
 
 pub returns-in-Err-jobs-clause-poll : goal.returns-in-Err-jobs-clause-poll
 returns-in-Err-jobs-clause-poll g c =
