@@ -29,8 +29,6 @@ pub struct RealChild<R> {
     read_event: u32,
     write_event: u32,
     command: ByteLog,
-    given: ByteLog,
-    fetched: ByteLog,
     at_end: bool,
     stopped: bool,
     faults: FaultCount,
@@ -45,9 +43,10 @@ impl<R> RealChild<R> {
         events: (u32, u32),
         command: &[u8],
     ) -> Self
+        requires unused { (piped.input.given ≡ []) × (piped.output.given ≡ []) }
         ensures faults { result.faults ≡ 0 }
         ensures command { result.command ≡ command.now }
-        ensures logs { (result.given ≡ []) × (result.fetched ≡ []) }
+        ensures logs { (result.piped.input.given ≡ []) × (result.piped.output.given ≡ []) }
         ensures flags { (result.at_end ≡ false) × (result.stopped ≡ false) }
     {
         let mut text = ByteLog::new();
@@ -59,8 +58,6 @@ impl<R> RealChild<R> {
             read_event: events.0,
             write_event: events.1,
             command: text,
-            given: ByteLog::new(),
-            fetched: ByteLog::new(),
             at_end: false,
             stopped: false,
             faults: FaultCount::new(),
@@ -75,8 +72,8 @@ impl<R: Wait + Send> Child for RealChild<R> {
       read_event = c.read_event;
       write_event = c.write_event;
       command = c.command;
-      given = c.given;
-      fetched = c.fetched;
+      given = c.piped.input.given;
+      fetched = c.piped.output.given;
       at_end = c.at_end;
       stopped = c.stopped;
       stand = None;
@@ -88,10 +85,7 @@ impl<R: Wait + Send> Child for RealChild<R> {
 
     fn offer(&mut self, bytes: &[u8]) -> Offered {
         match self.piped.input.offer(&self.rt, self.alloc, bytes) {
-            Offered::Took(count) => {
-                self.given.note(&bytes[..count]);
-                Offered::Took(count)
-            }
+            Offered::Took(count) => Offered::Took(count),
             Offered::Failed => {
                 self.faults.rise();
                 Offered::Failed
@@ -104,10 +98,7 @@ impl<R: Wait + Send> Child for RealChild<R> {
             return Fetched::End;
         }
         match self.piped.output.take(&self.rt, alloc, max) {
-            Fetched::Bytes(bytes) => {
-                self.fetched.note(bytes.as_slice());
-                Fetched::Bytes(bytes)
-            }
+            Fetched::Bytes(bytes) => Fetched::Bytes(bytes),
             Fetched::Again => Fetched::Again,
             Fetched::End => {
                 self.at_end = true;

@@ -1,4 +1,4 @@
-ghost use Rattle.std.specs.Prelude.{◌≡◌, IfOk};
+ghost use Rattle.std.specs.Prelude.{◌≡◌, [], IfOk};
 
 use crate::counts::Counts;
 use crate::ends::{InputEnd, OutputEnd};
@@ -81,7 +81,9 @@ fn serve<R: Wait>(
     server: &PipeServer,
     events: (u32, u32),
     mut program: process::Child,
-) -> Result<Piped, SpawnFault> {
+) -> Result<Piped, SpawnFault>
+    ensures { IfOk result (λ piped. (piped.input.given ≡ []) × (piped.output.given ≡ [])) }
+{
     let (Some(stdin), Some(stdout)) = (program.stdin.take(), program.stdout.take()) else {
         return Err(SpawnFault::Failed);
     };

@@ -1,4 +1,4 @@
-use Rattle.std.proofs.Common.{◌≡◌, ◌≤◌, take, length}
+use Rattle.std.proofs.Common.{◌≤◌, take, length}
 use Rattle.outside.specs.Sublist.{IsSublist}
 use Rattle.outside_programs.proofs.real_poll.RealPoll.ready.Given as goal
 
