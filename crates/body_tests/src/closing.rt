@@ -69,27 +69,6 @@ fn a_close_resumes_those_who_wait_and_finds_their_commands_late(
 }
 
 #[test]
-fn a_control_waits_behind_the_command_of_its_sender(rt: HostRuntime) -> Result<(), Fail> {
-    let acts = [
-        PortAct::Control(1, 1),
-        PortAct::Command(0, How::Plain, b"x"),
-        PortAct::Control(0, 1),
-        PortAct::Control(1, 2),
-        PortAct::Turn(64),
-    ];
-    let wanted = [Wanted::Rows(
-        "h p1 0 control 1 - ; ; busy 1, reply -\n\
-             m busy\n\
-             h p1 1 control 2 - ; ; busy 0, reply -\n\
-             m free\n\
-             h p0 0 command - 78 ; ; data plain 78\n\
-             h p0 1 control 1 - ; ; busy 1, reply -\n\
-             m busy\n",
-    )];
-    valve_shows(&rt, rt.alloc(), &acts, &wanted)
-}
-
-#[test]
 fn what_a_driver_has_queued_is_flushed_by_the_row_of_a_close(rt: HostRuntime) -> Result<(), Fail> {
     let acts = [
         PortAct::Command(0, How::Plain, b"ab"),

@@ -43,9 +43,28 @@ fn a_busy_port_suspends_a_sender_until_it_is_free(rt: HostRuntime) -> Result<(),
 }
 
 #[test]
-fn a_sender_that_is_not_to_be_suspended_is_refused_by_a_busy_port(
-    rt: HostRuntime,
-) -> Result<(), Fail> {
+fn a_control_waits_behind_the_command_of_its_sender(rt: HostRuntime) -> Result<(), Fail> {
+    let acts = [
+        PortAct::Control(1, 1),
+        PortAct::Command(0, How::Plain, b"x"),
+        PortAct::Control(0, 1),
+        PortAct::Control(1, 2),
+        PortAct::Turn(64),
+    ];
+    let wanted = [Wanted::Rows(
+        "h p1 0 control 1 - ; ; busy 1, reply -\n\
+             m busy\n\
+             h p1 1 control 2 - ; ; busy 0, reply -\n\
+             m free\n\
+             h p0 0 command - 78 ; ; data plain 78\n\
+             h p0 1 control 1 - ; ; busy 1, reply -\n\
+             m busy\n",
+    )];
+    valve_shows(&rt, rt.alloc(), &acts, &wanted)
+}
+
+#[test]
+fn a_busy_port_drops_a_command_that_is_not_to_suspend(rt: HostRuntime) -> Result<(), Fail> {
     let acts = [
         PortAct::Control(1, 1),
         PortAct::Turn(64),

@@ -6,7 +6,7 @@ use gateway::{CallEnd, Cause, ScriptFault, StartRefusal, cause_text, host_driver
 use no_memory::NoMemory;
 use outside::{OpenGate, PollSet, RealFiles, RealSink, Spawner};
 use outside_programs::{PipeServer, RealPoll, RealSpawner};
-use plain_command::{Plain, is_plain, plain_command};
+use plain_command::{PlainEnd, is_plain, plain_command};
 use port_driver::Driver;
 use sample_drivers::{Digest, Echo, Refuse, Refused, Store, Tally, Valve};
 use spawn_driver::spawn_driver;
@@ -104,7 +104,7 @@ fn run_plain<R: AllocGlobal + Clone + Drop + Eprint + Files + Print>(
     let alloc = rt.alloc();
     let mut files = RealFiles::new(rt.clone()?);
     let mut out = RealSink::new(rt.clone()?);
-    let Plain { status, cause } = plain_command(alloc, words, &mut files, &mut out);
+    let PlainEnd { status, cause } = plain_command(alloc, words, &mut files, &mut out);
     say(rt, alloc, &cause);
     Ok(status)
 }

@@ -154,11 +154,17 @@ fn ends_silently<R: Sync + Threads + Wait>(
 }
 
 #[test]
-fn scripts_have_limits(rt: HostRuntime) -> Result<(), Fail> {
+fn a_script_has_at_most_1_048_576_bytes(rt: HostRuntime) -> Result<(), Fail> {
     let alloc = rt.alloc();
     let script = lines(alloc, 1_048_577)?;
     let cause = Cause::Limit { line: 0 };
     assert!(rt; ends_silently(&rt, alloc, script.as_slice(), 10, cause)?);
+    Ok(())
+}
+
+#[test]
+fn a_script_has_at_most_32_processes(rt: HostRuntime) -> Result<(), Fail> {
+    let alloc = rt.alloc();
     let script = processes(alloc, 33)?;
     let fault = ScriptFault::Limit { line: 33, which: 1 };
     let cause = Cause::Script { fault };

@@ -25,7 +25,7 @@ pub const SAVES: &str =
     save a d \"lines\"\nsave a c \"bytes\"\na command c \"abc\"\na expect c 1\na expect d 1\n";
 
 #[test]
-fn data_is_saved_by_process_and_port(rt: HostRuntime) -> Result<(), Fail> {
+fn data_is_saved_by_port(rt: HostRuntime) -> Result<(), Fail> {
     let ran = run_script(&rt, rt.alloc(), &["run", "s", "2"], SAVES.as_bytes())?;
     assert!(rt; ran.ended(0, Cause::Done));
     assert!(rt; ran.holds("lines", b"hi\n"));

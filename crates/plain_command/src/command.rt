@@ -14,16 +14,16 @@ use std::alloc::Global;
 
 /// How a command ended that runs nothing: the status with which the program ends, and its cause.
 #[derive(Clone, Copy, Debug, PartialEq, Eq)]
-pub struct Plain {
+pub struct PlainEnd {
     pub status: u8,
     pub cause: Cause,
 }
 
-impl Plain {
-    fn of(cause: Cause) -> Plain
+impl PlainEnd {
+    fn of(cause: Cause) -> PlainEnd
         ensures { result ≡ record { status = status_of cause; cause = cause } }
     {
-        Plain {
+        PlainEnd {
             status: cause.status(),
             cause,
         }
@@ -43,7 +43,7 @@ pub fn plain_command<F: Files, K: Sink>(
     words: &[String],
     files: &mut F,
     out: &mut K,
-) -> Plain
+) -> PlainEnd
     ensures status { result.status ≡ status_of result.cause }
     ensures ends { PlainEnds
         (record {
@@ -55,10 +55,10 @@ pub fn plain_command<F: Files, K: Sink>(
         }) result.cause }
 {
     match plain_words(words) {
-        Ok(PlainWords::Check { script }) => Plain::of(check_script(alloc, files, out, script)),
+        Ok(PlainWords::Check { script }) => PlainEnd::of(check_script(alloc, files, out, script)),
         Ok(PlainWords::Replay { journal }) => {
-            Plain::of(replay_journal(alloc, files, out, journal))
+            PlainEnd::of(replay_journal(alloc, files, out, journal))
         }
-        Err(at) => Plain::of(Cause::Usage { at }),
+        Err(at) => PlainEnd::of(Cause::Usage { at }),
     }
 }

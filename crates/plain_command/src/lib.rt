@@ -12,6 +12,6 @@ mod replaying;
 mod tests;
 mod words;
 
-pub use command::{Plain, plain_command};
+pub use command::{PlainEnd, plain_command};
 pub use run_report::{Cause, ScriptFault, cause_text};
 pub use words::is_plain;

@@ -1,6 +1,6 @@
 //! Commands over files and a sink of memory. That a journal has at most 268,435,456 bytes is left to the contract: the row would need as many.
 
-use crate::{Cause, Plain, ScriptFault, is_plain, plain_command};
+use crate::{Cause, PlainEnd, ScriptFault, is_plain, plain_command};
 use outside::{MemFiles, MemSink};
 use std::alloc::Global;
 use std::test::Fail;
@@ -35,7 +35,7 @@ fn holding(alloc: Global, bytes: &[u8]) -> Result<MemFiles, Fail> {
 }
 
 /// Does what the words ask for, over files and a sink of memory.
-fn run(alloc: Global, words: &[String], files: &mut MemFiles, out: &mut MemSink) -> Plain {
+fn run(alloc: Global, words: &[String], files: &mut MemFiles, out: &mut MemSink) -> PlainEnd {
     plain_command(alloc, words, files, out)
 }
 
@@ -44,7 +44,7 @@ fn ends(
     alloc: Global,
     words: &[&str],
     files: &mut MemFiles,
-    end: Plain,
+    end: PlainEnd,
     text: &str,
 ) -> Result<bool, Fail> {
     let words = owned(alloc, words)?;
@@ -58,7 +58,7 @@ fn ends_over(
     alloc: Global,
     words: &[&str],
     bytes: &[u8],
-    end: Plain,
+    end: PlainEnd,
     text: &str,
 ) -> Result<bool, Fail> {
     let mut files = holding(alloc, bytes)?;
@@ -66,19 +66,19 @@ fn ends_over(
 }
 
 /// The end of a command that did its work.
-const DONE: Plain = Plain {
+const DONE: PlainEnd = PlainEnd {
     status: 0,
     cause: Cause::Done,
 };
 
 /// The end of a command whose input wasn't read.
-const UNREAD: Plain = Plain {
+const UNREAD: PlainEnd = PlainEnd {
     status: 3,
     cause: Cause::ReadFault { line: 0 },
 };
 
 /// The end of a command whose line wasn't put out.
-const UNPUT: Plain = Plain {
+const UNPUT: PlainEnd = PlainEnd {
     status: 4,
     cause: Cause::WriteFault,
 };
@@ -135,7 +135,7 @@ const FAULTY: [(&str, ScriptFault); 4] = [
 fn a_fault_of_the_script_is_told_with_its_line(rt: HostRuntime) -> Result<(), Fail> {
     let words = ["check", "s"];
     for (script, fault) in FAULTY {
-        let end = Plain {
+        let end = PlainEnd {
             status: 2,
             cause: Cause::Script { fault },
         };
@@ -164,7 +164,7 @@ fn a_script_that_is_not_read_is_a_read_fault(rt: HostRuntime) -> Result<(), Fail
 }
 
 /// Whether the check of a comment of so many bytes ends so, and puts out this line.
-fn check_ends(alloc: Global, count: usize, end: Plain, line: &str) -> Result<bool, Fail> {
+fn check_ends(alloc: Global, count: usize, end: PlainEnd, line: &str) -> Result<bool, Fail> {
     let script = vec![in alloc; b'#'; count]?;
     ends_over(alloc, &["check", "s"], script.as_slice(), end, line)
 }
@@ -172,7 +172,7 @@ fn check_ends(alloc: Global, count: usize, end: Plain, line: &str) -> Result<boo
 #[test]
 fn a_script_has_at_most_2_to_the_20th_bytes(rt: HostRuntime) -> Result<(), Fail> {
     let line = "ok processes=0 ports=0 steps=0\n";
-    let over = Plain {
+    let over = PlainEnd {
         status: 10,
         cause: Cause::Limit { line: 0 },
     };
@@ -256,7 +256,7 @@ end
 fn a_broken_law_is_told_with_its_row(rt: HostRuntime) -> Result<(), Fail> {
     let words = ["replay", "s"];
     for (journal, row, law) in ILLEGAL {
-        let end = Plain {
+        let end = PlainEnd {
             status: 9,
             cause: Cause::Illegal { port: 0, row, law },
         };
@@ -293,7 +293,7 @@ m closed
 fn a_text_that_is_no_journal_is_told_with_its_byte(rt: HostRuntime) -> Result<(), Fail> {
     let words = ["replay", "s"];
     for (text, at) in NO_JOURNALS {
-        let end = Plain {
+        let end = PlainEnd {
             status: 11,
             cause: Cause::JournalText { at },
         };
@@ -352,7 +352,7 @@ fn are_plain(alloc: Global, words: &[&str]) -> Result<bool, Fail> {
 #[test]
 fn words_that_are_not_served_are_told_by_place(rt: HostRuntime) -> Result<(), Fail> {
     for (words, plain, at) in UNSERVED {
-        let end = Plain {
+        let end = PlainEnd {
             status: 1,
             cause: Cause::Usage { at },
         };

@@ -6,10 +6,10 @@ mod ends;
 #[cfg(test)]
 mod failures;
 #[cfg(test)]
-mod input;
-#[cfg(test)]
-mod output;
-#[cfg(test)]
 mod port;
+#[cfg(test)]
+mod program_input;
+#[cfg(test)]
+mod program_output;
 #[cfg(test)]
 mod shown;
