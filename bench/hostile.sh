@@ -14,6 +14,10 @@ fi
 here=$(cd "$(dirname "$0")" && pwd)
 # shellcheck source-path=SCRIPTDIR
 . "$here/hostile_table.sh"
+# shellcheck source-path=SCRIPTDIR
+. "$here/hostile_journals.sh"
+# shellcheck source-path=SCRIPTDIR
+. "$here/hostile_programs.sh"
 program=$(readlink -f "$1")
 shift
 room=$(mktemp -d)
@@ -354,7 +358,7 @@ ended_well() {
     esac
 }
 
-# Limits of threads: what needs none ends as ever, and a run that gets too few ends for want of memory, after about twenty seconds. Each limit is that of a user of its own.
+# Limits of threads: what needs none ends as ever, and a run that gets too few ends for want of memory, after some ten seconds. Each limit is that of a user of its own.
 few_threads() {
     local threads script user most whole=0
     for threads in 2 3 4 6 8 9 10 11 12 13 14 15 16; do
@@ -440,106 +444,6 @@ piped_files() {
     must_end 'a save to a pipe whose reader goes away' 4 'gateway: write fault' nothing
     wait $reader
     rm -f given taken copy noise
-}
-
-# ---- journals
-
-strange_journals() {
-    local name
-    mkdir -p folder
-    ln -sfn nowhere dangling
-    ln -sfn loop loop
-    for name in folder / missing first/x dangling loop /proc/self/mem; do
-        run replay "$name"
-        must_end "the journal $name" 3 'gateway: read fault at line 0' nothing
-    done
-    for name in empty /dev/null; do
-        run replay $name
-        must_end "the journal $name" 11 'gateway: journal text at byte 0' nothing
-    done
-    run replay /dev/zero
-    must_end 'a journal without an end' 10 'gateway: limit at line 0' nothing
-    truncate -s 268435456 huge
-    run replay huge
-    must_end 'a journal of 268,435,456 zeros' 11 'gateway: journal text at byte 0' nothing
-    for name in 268435457 1000G; do
-        truncate -s $name huge
-        run replay huge
-        must_end "a journal of $name bytes" 10 'gateway: limit at line 0' nothing
-    done
-    rm -f huge
-    mkfifo rows.pipe
-    cat rows >rows.pipe &
-    run replay rows.pipe
-    must_end 'a journal in a pipe' 0 '' replay.out
-    head -c 100 rows >rows.pipe &
-    run replay rows.pipe
-    must_end 'a journal whose writer goes away' 11 'gateway: journal text at byte 97' nothing
-    timeout -k 5 "$seconds" "$program" replay /dev/stdin <rows >out 2>err
-    status=$?
-    must_end 'a journal on the standard input' 0 '' replay.out
-}
-
-# The journal of a valve whose owner is suspended until another process frees it. Its port isn't closed.
-write_valve() {
-    printf '%s\n' 'journal 1' 'processes a b' 'port p 0 valve msgq 4096 8192' 'h p1 0 control 1 - ; ; busy 1, reply -' 'm busy' 's p0 0' \
-        'h p1 1 control 2 - ; ; busy 0, reply -' 'm free' 'r p0 0 1' 'h p0 0 command s 78 ; ; data plain 78' end >valve
-}
-
-# A journal that is cut behind each of its lines.
-cut_journals() {
-    local lines
-    write_valve
-    printf 'legal ports=0 rows=0\n' >none.out
-    for lines in {0..11}; do
-        head -n "$lines" valve >front
-        run replay front
-        case $lines in
-        2) must_end 'a journal without a port' 0 '' none.out ;;
-        11) must_end 'a journal whose port is not closed' 9 'gateway: port 0 row 7 breaks law 10' nothing ;;
-        *) must_end "a journal of $lines lines" 11 "gateway: journal text at byte $(wc -c <front)" nothing ;;
-        esac
-    done
-}
-
-# A journal with each of its bytes changed in turn into one that no line has: the line is bad in which it stands.
-changed_journals() {
-    local lines line begin=0 at
-    write_valve
-    mapfile -t lines <valve
-    for line in "${lines[@]}"; do
-        for ((at = begin; at <= begin + ${#line}; at++)); do
-            cp valve changed
-            printf '\xff' | dd of=changed bs=1 seek=$at conv=notrunc status=none
-            run replay changed
-            must_end "a journal with another byte $at" 11 "gateway: journal text at byte $begin" nothing
-        done
-        begin=$((begin + ${#line} + 1))
-    done
-}
-
-# A row with so many answers that no driver asked for, and nothing behind them.
-write_answers() {
-    printf 'journal 1\nprocesses a\nport p 0 echo msgq off\nh p0 0 close ; again'
-    yes ', again' | head -n $(($1 - 1)) | tr -d '\n'
-    printf ' ;\nend\n'
-}
-
-# Long lines of a journal.
-long_journals() {
-    write_answers 1048576 >long
-    run replay long
-    must_end 'a row of 1,048,576 answers' 9 'gateway: port 0 row 0 breaks law 4' nothing
-    write_answers 1048577 >long
-    run replay long
-    must_end 'a row of one answer more' 11 'gateway: journal text at byte 45' nothing
-    { head -c 45 long; printf 's p0 '; head -c 1000000 /dev/zero | tr '\0' 9; printf '\nend\n'; } >digits
-    run replay digits
-    must_end 'a number of 1,000,000 digits' 11 'gateway: journal text at byte 45' nothing
-    head -c 20000000 /dev/zero | tr '\0' a >long
-    run replay long
-    must_end 'a line of 20,000,000 bytes' 11 'gateway: journal text at byte 0' nothing
-    rm -f long digits
 }
 
 # ---- the words
@@ -673,187 +577,6 @@ signals() {
     rm -f pids
 }
 
-# ---- programs of the machine
-
-# 32 programs, each at a port of its own, with one process or with 32; and then eight such runs side by side.
-many_programs() {
-    local each n data=''
-    for each in 1 32; do
-        {
-            for ((n = 1; n <= each; n++)); do echo "process p$n"; done
-            for ((n = 1; n <= 32; n++)); do echo "port q$n p$((n % each + 1)) spawn run \"cat\""; done
-            for ((n = 1; n <= 32; n++)); do printf 'p%s command q%s "port %02d"\n' $((n % each + 1)) $n $n; done
-            for ((n = 1; n <= 32; n++)); do printf 'p%s bytes q%s 7\n' $((n % each + 1)) $n; done
-            for ((n = 1; n <= 32; n++)); do printf 'p%s close q%s\n' $((n % each + 1)) $n; done
-        } >many
-        {
-            echo "report processes=$each ports=32"
-            for ((n = 1; n <= 32; n++)); do echo "port q$n driver=spawn commands=1 late=0 bytes=7 end=normal"; done
-            if [ $each -eq 1 ]; then
-                data=$(for ((n = 1; n <= 32; n++)); do printf 'port %02d' $n; done | sha256sum)
-                echo "process p1 commands=32 dropped=0 suspended=0 data=32 sha256=${data%% *}"
-            else
-                for ((n = 1; n <= 32; n++)); do
-                    data=$(printf 'port %02d' $(((n + 30) % 32 + 1)) | sha256sum)
-                    echo "process p$n commands=1 dropped=0 suspended=0 data=1 sha256=${data%% *}"
-                done
-            fi
-        } >many.out
-        run run many
-        must_end "32 programs and $each processes" 0 '' many.out
-    done
-    many_runs
-}
-
-many_runs() {
-    local n
-    for ((n = 1; n <= 8; n++)); do
-        timeout -k 5 "$seconds" "$program" run many >"side.$n" 2>"side.$n.err" </dev/null &
-    done
-    wait
-    for ((n = 1; n <= 8; n++)); do
-        must 'one of eight runs side by side' cmp -s "side.$n" many.out
-    done
-    rm -f side.*
-}
-
-# A run of these lines, with its programs gone behind it.
-run_lines() {
-    rm -f pids
-    printf '%s\n' "$@" >lines
-    run run lines
-}
-
-# A program that writes without an end.
-endless_programs() {
-    run_lines 'process a' 'port p a spawn run "./told yes"' 'a bytes p 100000' 'a exit p kill'
-    must_end 'yes, which is killed' 0 ''
-    must 'its port was killed' grep -q '^port p driver=spawn commands=0 late=0 bytes=0 end=killed$' out
-    must 'yes has ended' wait_for all_gone
-    run_lines 'process a' 'process b' 'port p a spawn run "./told yes"' 'b bytes p 1' 'a bytes p 5000000'
-    must_end 'yes, whose owner ends' 0 ''
-    must 'its port has ended' grep -q '^port p driver=spawn commands=0 late=0 bytes=0 end=normal$' out
-    must 'yes has ended' wait_for all_gone
-    run_lines 'process a' 'port p a spawn run "./told yes" packet 4' 'a expect p 1'
-    must_end 'yes, taken for packets' 0 ''
-    must 'its port has failed' grep -q 'end=emsgsize$' out
-    run_lines 'process a' 'port p a spawn run "cat /dev/zero" line 262143' 'a expect p 1000000'
-    must_end 'zeros without an end' 0 ''
-    must 'its port has failed for too many bytes' grep -q 'end=enospc$' out
-}
-
-# Programs that write as much as a port takes, a byte more, and a packet of the most bytes.
-most_bytes() {
-    local size
-    run_lines 'process a' 'port p a spawn run "head -c 33554432 /dev/zero"' 'save a p "saved"' 'a bytes p 33554433'
-    must_end 'a program of 33,554,432 bytes' 0 ''
-    must 'its port has ended' grep -q '^port p driver=spawn commands=0 late=0 bytes=0 end=normal$' out
-    must 'all its bytes came' test "$(wc -c <saved)" -eq 33554432
-    run_lines 'process a' 'port p a spawn run "head -c 33554433 /dev/zero"' 'save a p "saved"' 'a bytes p 33554433'
-    must_end 'a program of one byte more' 0 ''
-    must 'its port has failed for too many bytes' grep -q '^port p driver=spawn commands=0 late=0 bytes=0 end=enospc$' out
-    size=$(wc -c <saved)
-    must 'all but the bytes of one fetch came' test $((33554433 - size)) -ge 1 -a $((33554433 - size)) -le 65536
-    printf '#!/bin/sh\nprintf "\\000\\003\\377\\377"\nexec head -c 262143 /dev/zero\n' >packet
-    chmod +x packet
-    run_lines 'process a' 'port p a spawn run "./packet" packet 4' 'save a p "saved"' 'a expect p 2'
-    must_end 'a program of one packet of 262,143 bytes' 0 ''
-    must 'its port has ended' grep -q 'end=normal$' out
-    must 'the packet came' test "$(wc -c <saved)" -eq 262143
-    rm -f saved
-}
-
-# Programs that don't read, die, or close their pipes.
-bad_programs() {
-    head -c 400000 /dev/urandom >noise
-    run_lines 'process a' 'process b' 'port p a spawn run "./told sleep 1000"' 'a file p 100000 "noise"' 'a expect p 1' 'b exit p kill'
-    must_end 'a program that never reads, and is killed' 0 ''
-    must 'its port was killed' grep -q 'end=killed$' out
-    end_told
-    printf '#!/bin/sh\nexec <&-\necho $$ >>pids\nexec sleep 1\n' >deaf
-    printf '#!/bin/sh\ncat noise\nkill -9 $$\n' >dying
-    printf '#!/bin/sh\nexec >&-\ncat >heard\nexit 3\n' >mute
-    chmod +x deaf dying mute
-    run_lines 'process a' 'port p a spawn run "./deaf"' 'a file p 1000 "noise"' 'a expect p 1'
-    must_end 'a program with a closed input' 0 ''
-    must 'its port has failed or ended' grep -Eq 'end=(eio|normal)$' out
-    run_lines 'process a' 'port p a spawn run "./told sleep 1"' 'a file p 1000 "noise"' 'a expect p 1'
-    must_end 'a program that never reads, and ends' 0 ''
-    must 'its port has failed or ended' grep -Eq 'end=(eio|normal)$' out
-    run_lines 'process a' 'port p a spawn run "head -c 5"' 'a command p "0123456789"' 'a expect p 1' 'a command p "x"' 'a expect p 2'
-    must_end 'a program that reads five bytes' 0 ''
-    must 'its five bytes came' grep -q "data=1 sha256=$(printf 01234 | sha256sum | cut -d ' ' -f 1)\$" out
-    run_lines 'process a' 'port p a spawn run "./dying" exit_status' 'save a p "saved"' 'a bytes p 400001'
-    must_end 'a program that is killed behind its last byte' 0 ''
-    must 'no byte of it is lost' cmp -s noise saved
-    run_lines 'process a' 'port p a spawn run "./mute" eof exit_status' 'a command p "abc"' 'a close p'
-    must_end 'a program that closes its output at once' 0 ''
-    rm -f saved heard
-}
-
-# A program is looked for in the folders of PATH, and in /bin and /usr/bin where there is none.
-few_variables() {
-    timeout -k 5 "$seconds" env -i "$program" run filter >out 2>err </dev/null
-    status=$?
-    must_end 'no variables' 0 '' filter.out
-    timeout -k 5 "$seconds" env PATH=/no/such/folder "$program" run filter >out 2>err </dev/null
-    status=$?
-    must_end 'a PATH without the program' 6 'gateway: start refused at line 2: fault' nothing
-    timeout -k 5 "$seconds" env PATH= "$program" run filter >out 2>err </dev/null
-    status=$?
-    must_end 'an empty PATH' 6 'gateway: start refused at line 2: fault' nothing
-    # shellcheck disable=SC2016
-    timeout -k 5 "$seconds" bash -c 'exec -a "" "$0" run filter' "$program" >out 2>err </dev/null
-    status=$?
-    must_end 'an empty name of the program' 0 '' filter.out
-    mkdir gone
-    (
-        cd gone && rmdir ../gone
-        exec timeout -k 5 "$seconds" "$program" run "$room/filter"
-    ) >out 2>err </dev/null
-    status=$?
-    must_end 'a folder that is gone' 0 '' filter.out
-}
-
-# Bytes that go through a program come back, each once and in their order.
-kept_bytes() {
-    local size
-    head -c 2000000 /dev/urandom >noise
-    for size in 1000 65536 262143; do
-        run_lines 'process a' 'port p a spawn run "cat"' 'save a p "saved"' "a file p $size \"noise\"" 'a bytes p 2000000' 'a close p'
-        must_end "2,000,000 bytes through cat, $size at a time" 0 ''
-        must 'they are the same bytes' cmp -s noise saved
-    done
-    run_lines 'process a' 'port p a spawn run "cat" packet 4' 'save a p "saved"' 'a file p 65536 "noise"' 'a bytes p 2000000' 'a close p'
-    must_end '2,000,000 bytes through cat, in packets' 0 ''
-    must 'they are the same bytes' cmp -s noise saved
-    rm -f saved noise
-}
-
-# Files of steps up to their limit, and one of more commands than a process may send.
-large_files() {
-    local sent='commands=131072 dropped=0 suspended=0 data=0'
-    head -c 200000 /dev/zero >zeros
-    run_lines 'process a' 'port p a tally msgq off' 'a file p 1 "zeros"' 'a file p 1 "zeros"' 'a close p'
-    must_end 'more than 131,072 commands' 0 ''
-    must 'as many came to the port' grep -q '^port p driver=tally commands=131072 late=0 bytes=131072 end=normal$' out
-    must 'as many were sent' grep -q "^process a $sent " out
-    rm -f zeros
-    truncate -s 33554432 huge
-    printf x >one
-    run_lines 'process a' 'port p a tally msgq off' 'a file p 262143 "huge"' 'a close p'
-    must_end 'a file of 33,554,432 bytes' 0 ''
-    must 'all of it was sent' grep -q '^port p driver=tally commands=129 late=0 bytes=33554432 end=normal$' out
-    run_lines 'process a' 'port p a tally msgq off' 'a file p 262143 "huge"' '#' 'a file p 1 "one"' 'a close p'
-    must_end 'files of one byte more' 10 'gateway: limit at line 5' nothing
-    run_lines 'process a' 'port p a tally msgq off' 'a file p 1 "one"' 'a file p 262143 "huge"'
-    must_end 'files of one byte more' 10 'gateway: limit at line 4' nothing
-    truncate -s 1000G huge
-    run_lines 'process a' 'port p a tally' 'a file p 1 "huge"'
-    must_end 'a file of 1,000 gigabytes' 10 'gateway: limit at line 3' nothing
-    rm -f huge one
-}
-
 # ---- waiting
 
 # How many thousandths of a second of processor time the command takes that is given.
@@ -862,7 +585,7 @@ thousandths() {
     { time "$@" >out 2>err; } 2>&1 | awk '{ printf "%d\n", ($1 + $2) * 1000 }'
 }
 
-# A wait of five seconds takes less than half a second of processor time, and its start as much again.
+# A run that waits five seconds takes less than half a second of processor time, its start with it.
 idle_waits() {
     local words used
     printf 'process a\nport p a spawn run "sleep 5"\na expect p 1\n' >sleeps
