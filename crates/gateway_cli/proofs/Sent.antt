@@ -25,11 +25,23 @@ told_send = search (sendable, crosses) depth 20
 output_send : IsSend output.the_row
 output_send = declared_send output.the_type (
   search (sendable, crosses, receiver_sent.the_send, told_send) depth 20,
-  (search (sendable, crosses) depth 20, (search sendable depth 20, (counts_send, (search sendable depth 20, tt)))),
+  (
+    search (sendable, crosses) depth 20,
+    (
+      search sendable depth 20,
+      (
+        search (sendable, crosses) depth 20,
+        (search (sendable, crosses) depth 20, (counts_send, (search sendable depth 20, tt))),
+      ),
+    ),
+  ),
 )
 
 input_send : IsSend input.the_row
-input_send = declared_send input.the_type (search (sendable, crosses, sender_sent.the_send) depth 20, (counts_send, (search sendable depth 20, tt)))
+input_send = declared_send input.the_type (
+  search (sendable, crosses, sender_sent.the_send) depth 20,
+  (counts_send, (search sendable depth 20, (search (sendable, crosses) depth 20, tt))),
+)
 
 piped_send : IsSend piped.the_row
 piped_send = declared_send piped.the_type (search (sendable, crosses) depth 20, (output_send, (input_send, tt)))
@@ -47,13 +59,7 @@ child_send R t = declared_send (child.the_type R) (
           search sendable depth 20,
           (
             search (sendable, crosses) depth 20,
-            (
-              search (sendable, crosses) depth 20,
-              (
-                search (sendable, crosses) depth 20,
-                (search sendable depth 20, (search sendable depth 20, (search (sendable, crosses) depth 20, tt))),
-              ),
-            ),
+            (search sendable depth 20, (search sendable depth 20, (search (sendable, crosses) depth 20, tt))),
           ),
         ),
       ),

@@ -5,8 +5,45 @@ use denote.Param.Send.{IsSend, sendable}
 use denote.Param.SendFields.{as_row_send, declared_send}
 use Rattle.std.proofs.Crossing.{crosses}
 use Rattle.std.specs.contracts.rt.LibcRuntime as runtime
-use Rattle.outside_programs.proofs.real_child.Piped.TheSendSync as piped_sent
+use Rattle.crossbeam_channel.proofs.channel.Receiver.TheSendSync as receiver_sent
+use Rattle.crossbeam_channel.proofs.channel.Sender.TheSendSync as sender_sent
+use Rattle.outside_programs.specs.contracts.threads.OutputPart as told
+use Rattle.outside_programs.specs.contracts.ends.InputEnd as input
+use Rattle.outside_programs.specs.contracts.ends.OutputEnd as output
+use Rattle.outside_programs.specs.contracts.counts.Counts as counts
+use Rattle.outside_programs.proofs.counts.Counts.TheSendSync as counts_sent
+use Rattle.outside_programs.specs.contracts.real_child.Piped as piped
 use Rattle.outside_programs.specs.contracts.real_child.RealChild as child
+
+counts_send : IsSend counts.the_row
+counts_send = counts_sent.the_send
+
+told_send : IsSend told.the_row
+told_send = search (sendable, crosses) depth 20
+
+output_send : IsSend output.the_row
+output_send = declared_send output.the_type (
+  search (sendable, crosses, receiver_sent.the_send, told_send) depth 20,
+  (
+    search (sendable, crosses) depth 20,
+    (
+      search sendable depth 20,
+      (
+        search (sendable, crosses) depth 20,
+        (search (sendable, crosses) depth 20, (counts_send, (search sendable depth 20, tt))),
+      ),
+    ),
+  ),
+)
+
+input_send : IsSend input.the_row
+input_send = declared_send input.the_type (
+  search (sendable, crosses, sender_sent.the_send) depth 20,
+  (counts_send, (search sendable depth 20, (search (sendable, crosses) depth 20, tt))),
+)
+
+piped_send : IsSend piped.the_row
+piped_send = declared_send piped.the_type (search (sendable, crosses) depth 20, (output_send, (input_send, tt)))
 
 child_send : (R : RattleType) → IsSend R → IsSend (child.the_row R)
 child_send R t = declared_send (child.the_type R) (
@@ -14,20 +51,14 @@ child_send R t = declared_send (child.the_type R) (
   (
     search (sendable, crosses) depth 20,
     (
-      piped_sent.the_send,
+      piped_send,
       (
         search sendable depth 20,
         (
           search sendable depth 20,
           (
             search (sendable, crosses) depth 20,
-            (
-              search (sendable, crosses) depth 20,
-              (
-                search (sendable, crosses) depth 20,
-                (search sendable depth 20, (search sendable depth 20, (search (sendable, crosses) depth 20, tt))),
-              ),
-            ),
+            (search sendable depth 20, (search sendable depth 20, (search (sendable, crosses) depth 20, tt))),
           ),
         ),
       ),
