@@ -20,6 +20,7 @@ use Rattle.run_end.specs.Ran.{RanProcess}
 use Rattle.run_setting.specs.Setting.{Setting}
 use Rattle.closed_ports.specs.settled_ports.Ends.{LaneEnd}
 use Rattle.closed_ports.specs.told_jobs.Runs.{WorkerRun}
+use Rattle.closed_ports.specs.told_jobs.Told.{WorkersTell}
 use Rattle.closed_lanes.specs.Closed.{AreClosedIn, HasStopped, IsClosedPort, history_of}
 use Rattle.closed_lanes.specs.Parts.{ArePartedInto, closed_of, events_of}
 use Rattle.closed_lanes.specs.declared.closing.ClosedPort.{ClosedPort}
@@ -48,12 +49,13 @@ module _ {D : Type 0} (kind : D → Kind) (faults : D → ℕ) (own : D → Own)
   host-is host driver back = ap (λ o. record host { driver = o }) back
 
   -- what is kept of one port
-  closed-one : (name : BodyName) (ends : List LaneEnd) (left : EndedPort) (host : Hosted D) → IsClosed name ends left → Lawful name.opening (reverse left.journal.rows)
-      → StandsAsLeft kind faults own program name left host → IsClosedPort name (closed_of (events_of own host) left)
-  closed-one name ends left host closed lawful stands = record {
+  closed-one : (name : BodyName) (ends : List LaneEnd) (left : EndedPort) (host : Hosted D) → IsClosed name ends left
+      → WorkersTell name.key.workers name.opening (reverse left.journal.rows) → Lawful name.opening (reverse left.journal.rows) → StandsAsLeft kind faults own program name left host → IsClosedPort name (closed_of (events_of own host) left)
+  closed-one name ends left host closed workers lawful stands = record {
     lawful = lawful;
     finished = closed.finished;
     senders = closed.senders;
+    workers = workers;
     listed = closed.listed;
     mailboxes_are = closed.mailboxes;
     mail = closed.sent.mail;
@@ -68,7 +70,7 @@ module _ {D : Type 0} (kind : D → Kind) (faults : D → ℕ) (own : D → Own)
   }
 
   stopped-one : (name : BodyName) (events : ℕ × ℕ) (left : EndedPort) (host : Hosted D) → StandsAsLeft kind faults own program name left host → HasStopped kind faults own program name (closed_of events left) host
-  stopped-one name events left host stands = record { driver = stands.driver; back = stands.back; kind_is = stands.kind_is; stands = stands.stands; failed = stands.failed }
+  stopped-one name events left host stands = record { driver = stands.driver; back = stands.back; kind_is = stands.kind_is; stands = stands.stands; told = stands.told; failed = stands.failed }
 
   module _ (s : Setting) (bodies : List BodyView) (processes : List RanProcess) (ends : LaneEnds) (run : IsRun s bodies processes ends) where
     pub all-closed : (left : List EndedPort) (ports : List ClosedPort) (pools : List Lanes) (places : List ℕ) (hosts : List (Hosted D)) (workers : List WorkerRun) → ClosedPortsAreLawful → AcceptedSignalsHaveRows
@@ -88,10 +90,12 @@ module _ {D : Type 0} (kind : D → Kind) (faults : D → ℕ) (own : D → Own)
               let v = some-of bodies port within in
               let l = some-of left port inside in
               let h : Hosted D = record { port = None; driver = None } in
+              let held = lawful bodies columns left workers all closed worked port v l within in
               subst (λ name. IsClosedPort name (get_or ports port p)) (sym (name-at port v n within))
               (subst (IsClosedPort (name_of (get_or bodies port v))) (sym (parted.each port h l p inside))
               (closed-one (name_of (get_or bodies port v)) _ (get_or left port l) (get_or hosts (slice_index places port) h) (closed.each port v (any-end v) l within)
-              (lawful bodies columns left workers all closed worked port v l within) (stand.each port v l h within)));
+              (subst (λ n. WorkersTell n (name_of (get_or bodies port v)).opening (reverse (get_or left port l).journal.rows)) (sym (worked.numbered port v within).workers_are) held.0) held.1
+              (stand.each port v l h within)));
           stopped = λ port n p h below.
               let within : port < length bodies = omega (arith, bodies_are, below) in
               let inside : port < length left = omega (arith, left_are, within) in

@@ -1,7 +1,7 @@
 -- The ports of a run that nobody stopped, closed, by what the run was set up with.
 use Rattle.std.specs.Prelude.{◌≡◌, ◌<◌, ℕ, List, length, reverse, map, All, Contains, Option, Some, slice_index, slice_index_or}
 use Rattle.driver_model.specs.Calls.{Kind, Own}
-use Rattle.driver_model.specs.Programs.{ToldProgram}
+use Rattle.driver_model.specs.Programs.{TellsOfProgram, ToldProgram}
 use Rattle.driver_hosts.specs.port_driver.Faults.{failures_in, RisenBy}
 use Rattle.port_mail.specs.Ends.{MailEnd}
 use Rattle.port_model.specs.declared.row.Row.{Row}
@@ -22,6 +22,7 @@ use Rattle.run_end.specs.Ran.{RanProcess, calls_made}
 use Rattle.driver_hosts.specs.served_port.View.{end_names}
 use Rattle.closed_ports.specs.settled_ports.Ends.{LaneEnd}
 use Rattle.closed_ports.specs.settled_ports.Senders.{IsOfAnEnd}
+use Rattle.closed_ports.specs.told_jobs.Told.{WorkersTell}
 use Rattle.run_setting.specs.Setting.{Setting}
 use Rattle.run_setting.specs.Jobs.{HaveWorkedIn, HasToldPorts, HasToldWorkers}
 use Rattle.closed_lanes.specs.declared.closing.ClosedPort.{ClosedPort}
@@ -42,13 +43,14 @@ pub record GiveBack (s : Setting) (processes : List RanProcess) (ends : LaneEnds
   pub polled : HasToldPorts s ends.poller.items
   pub told : HasToldWorkers s ends.finish.items
 
--- The port that had this name is closed: its history keeps all laws and is finished, each row of a task is of a sender with an end of its lane, each sender was listed in the order of its tasks, which all
+-- The port that had this name is closed: its history keeps all laws and is finished, each row of a task is of a sender with an end of its lane, those of a worker tell the first of its jobs, each sender was listed in the order of its tasks, which all
 -- have a row, and the ends of the mailboxes, with what they sent, the set-up, the joined seats and the marks of the words, and the events are those of that history and of the name. The words of its
 -- resumes are among those that it found
 pub record IsClosedPort (name : BodyName) (port : ClosedPort) : Type 0 where
   pub lawful : Lawful name.opening (history_of port)
   pub finished : IsFinished name.opening (history_of port)
   pub senders : All (IsOfAnEnd name.key) port.journal.rows
+  pub workers : WorkersTell name.key.workers name.opening (history_of port)
   pub listed : HasListedInOrder (state name.opening (history_of port))
   pub mailboxes_are : end_names port.mailboxes ≡ name.mailboxes
   pub mail : (process : ℕ) (e : MailEnd) → process < length port.mailboxes → (slice_index_or port.mailboxes process e).sent ≡ mails name.opening process (history_of port)
@@ -62,12 +64,13 @@ pub record IsClosedPort (name : BodyName) (port : ClosedPort) : Type 0 where
   pub write : port.events.1 ≡ name.opening.write
 
 module _ {D : Type 0} where
-  -- the driver of a port is back at its place, and stands as the calls of the port's history leave it; its faults rose by the failures that the history tells
+  -- the driver of a port is back at its place, stands as the calls of the port's history leave it, and tells of the program that it served, if it did; its faults rose by the failures that the history tells
   pub record HasStopped (kind : D → Kind) (faults : D → ℕ) (own : D → Own) (program : D → Option ToldProgram) (name : BodyName) (port : ClosedPort) (host : Hosted D) : Type 0 where
     pub driver : D
     pub back : host.driver ≡ Some driver
     pub kind_is : kind driver ≡ name.opening.kind
     pub stands : IsLeftByCalls name.opening (history_of port) (own driver) (program driver)
+    pub told : TellsOfProgram (own driver) (program driver)
     pub failed : RisenBy (failures_in port.journal.rows) name.faults (faults driver)
 
   -- So it is of each port. Of each process and port the tasks that have a row are those that were accepted, in the order sent, each once; and the poller's tasks that have a row are those that its end of the

@@ -80,6 +80,7 @@ module _ {D : Type 0} (kind : D → Kind) (stage : D → Life) (faults : D → �
     back = ap (λ (h : Hosted D). h.driver) returned.back;
     kind_is = returned.same_kind;
     stands = subst (λ rows. IsLeftByCalls (name_of v).opening (reverse rows) (own returned.driver) (program returned.driver)) (sym left.left.rows) (returned.stands settled.finished settled.whole);
+    told = returned.told;
     failed = subst (λ rows. RisenBy (failures_in rows) (name_of v).faults (faults returned.driver)) (sym left.left.rows) returned.failed;
   }
 

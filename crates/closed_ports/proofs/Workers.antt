@@ -22,6 +22,7 @@ use Rattle.settled_ports.specs.Senders.{IsOfAnEnd}
 use Rattle.port_history.specs.Lawful.{Lawful}
 use Rattle.told_jobs.proofs.Worked.{workers-tell}
 use Rattle.told_jobs.specs.Runs.{HasGiven, HasRun, HasSettled, PortRun}
+use Rattle.told_jobs.specs.Told.{WorkersTell}
 use Rattle.closed_ports.specs.Closed.{IsClosed}
 use Rattle.closed_ports.specs.Jobs.{ClosedPortsAreLawful, IsNumbered}
 use Rattle.closed_ports.proofs.Rest.{any-end}
@@ -143,5 +144,5 @@ all-lawful numbered senders bodies columns ports workers all closed have port v 
           ap (λ (t : PortRun). rows_from (Worker w) t.history) (at-run bodies ports k r v p same within)
           ∙ none-from senders name.key w (reverse (get_or ports k p).journal.rows) (omega (arith, counts, beyond)) (all-turned (IsOfAnEnd name.key) (get_or ports k p).journal.rows own.senders);
     } in
-    let told = (workers-tell runs workers ran port (run_of (get_or bodies port v) (get_or ports port p)) (omega (arith, many, below))).1 in
-    subst (λ (t : PortRun). Lawful t.opening t.history) (at-run bodies ports port (run_of (get_or bodies port v) (get_or ports port p)) v p same below) told
+    let told = workers-tell runs workers ran port (run_of (get_or bodies port v) (get_or ports port p)) (omega (arith, many, below)) in
+    subst (λ (t : PortRun). WorkersTell (length workers) t.opening t.history × Lawful t.opening t.history) (at-run bodies ports port (run_of (get_or bodies port v) (get_or ports port p)) v p same below) told

@@ -1,7 +1,7 @@
 -- The ports of a run that is over, closed.
 use Rattle.std.specs.Prelude.{◌≡◌, ◌<◌, ℕ, List, length, reverse, All, Option, Some, slice_index, slice_index_or}
 use Rattle.driver_model.specs.Calls.{Kind, Own}
-use Rattle.driver_model.specs.Programs.{ToldProgram}
+use Rattle.driver_model.specs.Programs.{TellsOfProgram, ToldProgram}
 use Rattle.driver_hosts.specs.port_driver.Faults.{failures_in, RisenBy}
 use Rattle.driver_hosts.specs.port_driver.declared.life.Life.{Life}
 use Rattle.port_history.specs.Lawful.{IsFinished}
@@ -52,12 +52,13 @@ module _ {D : Type 0} where
     pub names : (port : ℕ) (v w : BodyView) → port < length bodies → name_of (slice_index_or last port w) ≡ name_of (slice_index_or bodies port v)
     pub returned : AreReturned kind stage faults own program last places old new
 
-  -- the driver at a port's place stands as the calls of the port's history leave it, and its faults rose by the failures that the history tells
+  -- the driver at a port's place stands as the calls of the port's history leave it and tells of the program that it served, if it did, and its faults rose by the failures that the history tells
   pub record StandsAsLeft (kind : D → Kind) (faults : D → ℕ) (own : D → Own) (program : D → Option ToldProgram) (name : BodyName) (port : EndedPort) (host : Hosted D) : Type 0 where
     pub driver : D
     pub back : host.driver ≡ Some driver
     pub kind_is : kind driver ≡ name.opening.kind
     pub stands : IsLeftByCalls name.opening (reverse port.journal.rows) (own driver) (program driver)
+    pub told : TellsOfProgram (own driver) (program driver)
     pub failed : RisenBy (failures_in port.journal.rows) name.faults (faults driver)
 
   pub record HaveEndedFrom (kind : D → Kind) (faults : D → ℕ) (own : D → Own) (program : D → Option ToldProgram) (bodies : List BodyView) (places : List ℕ) (ports : List EndedPort) (hosts : List (Hosted D)) : Type 0 where

@@ -8,6 +8,7 @@ use Rattle.driver_hosts.specs.served_port.View.{EndName}
 use Rattle.settled_ports.specs.Ends.{LaneEnd}
 use Rattle.settled_ports.specs.Laws.{AreAllColumns}
 use Rattle.told_jobs.specs.Runs.{HasSettled, WorkerRun}
+use Rattle.told_jobs.specs.Told.{WorkersTell}
 use Rattle.closed_ports.specs.Closed.{AreClosed}
 
 -- The port of this number, of so many ports and workers, by its name: it has an end of its number in the lane of each worker, of which those of number 0 made all others, one for each port,
@@ -29,8 +30,9 @@ pub record HaveWorkedFor (bodies : List BodyView) (columns : List (List LaneEnd)
   pub sent : (port worker : ℕ) (v : BodyView) (w : WorkerRun) (c : List LaneEnd) (d : LaneEnd) → port < length bodies → worker < length workers
       → slice_index_or (slice_index_or columns ((name_of (slice_index_or bodies port v)).key.processes + 1 + worker) c) port d ≡ slice_index_or (slice_index_or workers worker w).sent port d
 
--- so the history of each port keeps all laws
+-- so each worker told each port the first of its jobs there, in their order, and the history of each port keeps all laws
 abbrev pub ClosedPortsAreLawful : Type 0
 ClosedPortsAreLawful = (bodies : List BodyView) (columns : List (List LaneEnd)) (ports : List EndedPort) (workers : List WorkerRun) → AreAllColumns bodies columns → AreClosed bodies columns ports
     → HaveWorkedFor bodies columns ports workers → (port : ℕ) (v : BodyView) (p : EndedPort) → port < length bodies
-    → Lawful (name_of (slice_index_or bodies port v)).opening (reverse (slice_index_or ports port p).journal.rows)
+    → WorkersTell (length workers) (name_of (slice_index_or bodies port v)).opening (reverse (slice_index_or ports port p).journal.rows)
+    × Lawful (name_of (slice_index_or bodies port v)).opening (reverse (slice_index_or ports port p).journal.rows)

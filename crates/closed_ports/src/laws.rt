@@ -4,7 +4,8 @@ ghost use Rattle.closed_ports.specs.Signals.{AcceptedSignalsHaveRows, MailIsOfHi
 
 use port_lanes::each_sender_has_an_end;
 
-/// Where the ports of a run are closed, and its workers answered the jobs of their lanes in the order in which they took them, the history of each port keeps all laws.
+/// Where the ports of a run are closed, and its workers answered the jobs of their lanes in the order in which they took them, the tasks of each worker that have a row at a port tell the first of the
+/// port's jobs that are the worker's, in their order, and the history of each port keeps all laws.
 pub fn closed_ports_are_lawful()
     ensures { ClosedPortsAreLawful }
 {

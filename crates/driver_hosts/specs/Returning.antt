@@ -1,7 +1,7 @@
 -- The ports have ended, and their drivers are back.
 use Rattle.std.specs.Prelude.{◌≡◌, ◌≢◌, ℕ, ◌<◌, ◌≤◌, List, length, reverse, true, false, Option, Some, slice_index, slice_index_or}
 use Rattle.port_driver.specs.driver_model.Calls.{Kind, Own}
-use Rattle.port_driver.specs.driver_model.Programs.{ToldProgram}
+use Rattle.port_driver.specs.driver_model.Programs.{TellsOfProgram, ToldProgram}
 use Rattle.port_driver.specs.Faults.{failures_in, RisenBy}
 use Rattle.port_driver.specs.declared.life.Life.{Life}
 use Rattle.port_driver.specs.declared.life.Life.TheVariants.{Stopped}
@@ -36,7 +36,7 @@ pub record LeaveAll (bodies : List BodyView) (ports : List EndedPort) : Type 0 w
   pub each : (port : ℕ) (v : BodyView) (p : EndedPort) → port < length bodies → HasLeft (slice_index_or bodies port v) (slice_index_or ports port p)
 
 module _ {D : Type 0} (kind : D → Kind) (stage : D → Life) (faults : D → ℕ) (own : D → Own) (program : D → Option ToldProgram) where
-  -- The driver of this port is back, stopped, with the port that it served. Its faults rose by the failures that the rows tell. Where the port had finished, and the body isn't broken, it stands as the calls of the port's
+  -- The driver of this port is back, stopped, with the port that it served, and tells of the program that it served, if it did. Its faults rose by the failures that the rows tell. Where the port had finished, and the body isn't broken, it stands as the calls of the port's
   -- history leave it
   pub record HasReturned (v : BodyView) (old new : Hosted D) : Type 0 where
     pub driver : D
@@ -46,6 +46,7 @@ module _ {D : Type 0} (kind : D → Kind) (stage : D → Life) (faults : D → �
     pub faults_rise : (name_of v).faults ≤ faults driver
     pub failed : RisenBy (failures_in v.lane_port.port.rows) (name_of v).faults (faults driver)
     pub at_rest : stage driver ≡ Stopped
+    pub told : TellsOfProgram (own driver) (program driver)
     pub stands : v.finished ≡ true → v.broken ≡ false → IsLeftByCalls (name_of v).opening (reverse v.lane_port.port.rows) (own driver) (program driver)
 
   -- the driver of each port is back at its place, and the others weren't touched

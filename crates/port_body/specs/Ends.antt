@@ -4,7 +4,7 @@ use Rattle.std.specs.List.{AllByRecursion}
 use Rattle.task_queue.specs.Ends.{Taking}
 use Rattle.port_driver.specs.driver_model.Calls.{Own}
 use Rattle.port_driver.specs.driver_model.Drivers.{holds, read_event_of, write_event_of}
-use Rattle.port_driver.specs.driver_model.Programs.{Tells, ToldProgram}
+use Rattle.port_driver.specs.driver_model.Programs.{Tells, TellsOfProgram, ToldProgram}
 use Rattle.port_driver.specs.port_config.declared.config.Config.{Config}
 use Rattle.port_driver.specs.declared.life.Life.TheVariants.{Stopped}
 use Rattle.port_events.specs.port_history.Laws.{count_of}
@@ -25,10 +25,11 @@ use Rattle.recorded_port.specs.declared.parts.PortOutlets.{PortOutlets}
 use Rattle.port_body.specs.Body.{BodyView, name_of}
 use Rattle.port_body.specs.LanePort.{AreFalling, HasEnd, rows_from, tasks_of}
 
--- Its driver is stopped, and its faults didn't fall; rows, ends and words are as they were. It is broken from then on, unless its port had stopped the driver, and
+-- Its driver is stopped and tells of its program, where it served one, and its faults didn't fall; rows, ends and words are as they were. It is broken from then on, unless its port had stopped the driver, and
 -- then nothing changed
 pub record HasEnded (old new : BodyView) : Type 0 where
   pub stopped : new.lane_port.port.port.state.service.stage ≡ Stopped
+  pub told : TellsOfProgram new.lane_port.port.port.state.service.own new.lane_port.port.port.state.service.program
   pub name : name_of new ≡ name_of old
   pub faults : old.lane_port.port.port.state.service.faults ≤ new.lane_port.port.port.state.service.faults
   pub rows : new.lane_port.port.rows ≡ old.lane_port.port.rows

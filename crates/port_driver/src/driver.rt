@@ -2,7 +2,7 @@ ghost use Rattle.std.specs.Prelude.{◌≡◌, ◌≤◌, ◌∷◌, ℕ, [], No
 ghost use Rattle.std.specs.List.{concat};
 ghost use Rattle.driver_model.specs.Calls.{Kind, Own, Outputv, Control, Call, ReadyInput, ReadyOutput, ReadyAsync, ProcessExit, Flush};
 ghost use Rattle.driver_model.specs.Drivers.{is_soft, kind_name, read_event_of, refusal_of, write_event_of};
-ghost use Rattle.driver_model.specs.Programs.{ToldProgram};
+ghost use Rattle.driver_model.specs.Programs.{TellsOfProgram, ToldProgram};
 ghost use Rattle.port_driver.specs.Driven.{Did, Began, Ended, Keeps, KeepsRoom, MayCall};
 ghost use Rattle.port_driver.specs.Faults.{CountsFailures};
 ghost use Rattle.port_driver.specs.Replies.{reply_effect};
@@ -48,9 +48,10 @@ pub trait Driver: Drop {
         ensures read { result.0 ≡ read_event_of (own self.now) }
         ensures write { result.1 ≡ write_event_of (own self.now) };
 
-    /// Whether it is fresh, started or stopped.
+    /// Whether it is fresh, started or stopped. In each of them a driver that serves or served a program tells of that program.
     fn life(&self) -> Life
-        ensures { result ≡ stage self.now };
+        ensures stage { result ≡ stage self.now }
+        ensures told { TellsOfProgram (own self.now) (program self.now) };
 
     /// Begins to serve a port, with an empty queue, no event and no job: `start` of driver_entry. One that refuses has stopped a program
     /// that it had started.
@@ -183,5 +184,6 @@ pub trait Driver: Drop {
         ensures kind { kind self.new ≡ kind self.old }
         ensures faults { faults self.old ≤ faults self.new }
         ensures stage { stage self.new ≡ Life.Stopped }
+        ensures told { TellsOfProgram (own self.new) (program self.new) }
         ensures ended { Ended (kind self.old) (own self.old) (own self.new) (program self.old) (program self.new) };
 }

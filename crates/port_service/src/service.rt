@@ -8,6 +8,7 @@ ghost use Rattle.port_history.specs.Ties.{failure, signal_reason, watched_by};
 ghost use Rattle.port_history.specs.State.{State};
 ghost use Rattle.port_model.specs.Tasks.{TaskView};
 ghost use Rattle.port_driver.specs.driver_model.Drivers.{read_event_of, refusal_of, write_event_of};
+ghost use Rattle.port_driver.specs.driver_model.Programs.{TellsOfProgram};
 ghost use Rattle.port_driver.specs.Starting.{Refuses};
 ghost use Rattle.port_service.specs.Opened.{Opened, ended};
 ghost use Rattle.port_service.specs.Serves.{IsCaller, IsFlagged, IsServed, Served, Watches, standing};
@@ -121,6 +122,7 @@ impl<D: Driver> Service<D> {
     /// Stops the driver, if it is started.
     pub fn end(&mut self)
         ensures stage { self.new.stage ≡ ended (self.old.stage) }
+        ensures told { TellsOfProgram self.new.own self.new.program }
         ensures kind { self.new.kind ≡ self.old.kind }
         ensures faults { self.old.faults ≤ self.new.faults }
         ensures same { self.old.stage ≢ Life.Started → self.new ≡ self.old }

@@ -1,6 +1,7 @@
 //! How a port's state begins and ends.
 ghost use Rattle.std.specs.Prelude.{◌≡◌, ◌≢◌, ◌≤◌, ◌<◌, ◌⊎◌, ◌∷◌, [], IfOk, IfErr, OnOk};
 ghost use Rattle.port_driver.specs.driver_model.Drivers.{effects_of, read_event_of, refusal_of, write_event_of};
+ghost use Rattle.port_driver.specs.driver_model.Programs.{TellsOfProgram};
 ghost use Rattle.port_driver.specs.Starting.{Refuses};
 ghost use Rattle.port_links.specs.port_history.Opening.{Opening};
 ghost use Rattle.port_links.specs.port_history.State.{start_call, state_at_start};
@@ -72,6 +73,7 @@ impl<D: Driver> PortState<D> {
     /// Stops the driver, if it is started: a port that found no memory is given up.
     pub fn end(&mut self)
         ensures stage { self.new.service.stage ≡ ended (self.old.service.stage) }
+        ensures told { TellsOfProgram self.new.service.own self.new.service.program }
         ensures same { IsSamePort self.old self.new }
         ensures faults { self.old.service.faults ≤ self.new.service.faults }
         ensures unchanged { self.old.service.stage ≢ Life.Started → self.new ≡ self.old }

@@ -1,6 +1,7 @@
 //! How a port comes to its first row, and how it comes to its end.
 ghost use Rattle.std.specs.Prelude.{◌≡◌, ◌≢◌, ◌≤◌, ◌<◌, ◌⊎◌, None, IfOk, IfErr, OnOk};
 ghost use Rattle.port_driver.specs.driver_model.Drivers.{refusal_of};
+ghost use Rattle.port_driver.specs.driver_model.Programs.{TellsOfProgram};
 ghost use Rattle.port_driver.specs.Starting.{Refuses};
 ghost use Rattle.served_port.specs.port_service.Opened.{ended};
 ghost use Rattle.recorded_port.specs.View.{IsSettled};
@@ -101,6 +102,7 @@ impl<D: Driver> RecordedPort<D> {
     /// Stops the driver, if it is started: a port that found no memory is given up.
     pub fn end(&mut self)
         ensures stage { self.new.port.state.service.stage ≡ ended (self.old.port.state.service.stage) }
+        ensures told { TellsOfProgram self.new.port.state.service.own self.new.port.state.service.program }
         ensures same { IsSameRecorded self.old self.new }
         ensures rows { self.new.rows ≡ self.old.rows }
         ensures unchanged { self.old.port.state.service.stage ≢ Life.Started → self.new ≡ self.old }

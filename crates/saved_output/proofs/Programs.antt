@@ -1,13 +1,15 @@
 -- What the programs of ports took and gave in a run of a script.
-use Rattle.std.proofs.Common.{◌≡◌, ◌∙◌, ℕ, List, length, take, Option, Some, None, ap}
+use Rattle.std.proofs.Common.{◌≡◌, ◌∙◌, ℕ, List, length, take, Option, Some, None, refl, ap, subst}
 use Rattle.std.specs.Prelude.{IfSome, slice_index_or}
 use Rattle.driver_model.specs.port_config.declared.config.Config.{Config}
-use Rattle.driver_model.specs.Calls.{Kind, Own, DriverCall}
-use Rattle.driver_model.specs.Programs.{ToldProgram, Tells}
-use Rattle.driver_model.specs.Spawn.{asked, given, taken_bytes}
+use Rattle.driver_model.specs.Calls.{Kind, Own, DriverCall, Running, Spawn}
+use Rattle.driver_model.specs.Drivers.{holds}
+use Rattle.driver_model.specs.Programs.{TellsOfProgram, ToldProgram, Tells}
+use Rattle.driver_model.specs.Spawn.{asked, program as kept}
 use Rattle.port_driver.specs.declared.life.Life.{Life}
 use Rattle.echoed_commands.specs.script_run.run_opening.driver_hosts.declared.hosted.Hosted.{Hosted}
 use Rattle.echoed_commands.specs.script_run.Ran.{history_of, opening_of}
+use Rattle.unframed_output.proofs.Ended.{end-is-told}
 use Rattle.unframed_output.proofs.Input.{input-is-taken}
 use Rattle.unframed_output.proofs.Rows.{output-is-unframed}
 use Rattle.unframed_output.proofs.Taken.{output-is-taken}
@@ -15,17 +17,18 @@ use Rattle.unframed_output.proofs.Whole.{input-is-whole}
 use Rattle.saved_output.specs.Served.{ProgramsServedIn}
 use Rattle.saved_output.proofs.Runs.{config-served, named-spawn, of-program}
 
--- what a program that tells was given, by what it took
-told-given : (config : Config) (calls : List DriverCall) (took : ℕ) (program : Option ToldProgram) → given config calls ≡ took → IfSome program (Tells config calls)
-    → IfSome program (λ p. p.given ≡ take took (asked config calls))
-told-given config calls took None same tells = tt
-told-given config calls took (Some p) same tells = tells.given ∙ ap (λ n. take n (asked config calls)) same
+-- the driver of a program tells of it
+record IsTold (config : Config) (calls : List DriverCall) (told : Option ToldProgram) : Type 0 where
+  program : ToldProgram
+  told_is : told ≡ Some program
+  tells : Tells config calls program
 
--- what was taken from a program that tells
-told-gave : (config : Config) (calls : List DriverCall) (taken : List ℕ) (program : Option ToldProgram) → taken_bytes calls ≡ taken → IfSome program (Tells config calls)
-    → IfSome program (λ p. p.taken ≡ taken)
-told-gave config calls taken None same tells = tt
-told-gave config calls taken (Some p) same tells = tells.taken ∙ same
+is-told : (kind : Kind) (config : Config) (calls : List DriverCall) (own : Own) (told : Option ToldProgram) → kind ≡ Spawn → own ≡ (holds kind config calls).own → TellsOfProgram own told
+    → IfSome told (Tells config calls) → IsTold config calls told
+is-told kind config calls own None spawns keeps some tells =
+    let none : TellsOfProgram (Running (kept config calls)) None = subst (λ o. TellsOfProgram o None) (keeps ∙ ap (λ k. (holds k config calls).own) spawns) some in
+    absurd (cc)
+is-told kind config calls own (Some program) spawns keeps some tells = record { program = program; told_is = refl; tells = tells }
 
 module _ {D : Type 0} (kind : D → Kind) (stage : D → Life) (faults : D → ℕ) (own : D → Own) (program : D → Option ToldProgram) where
   pub programs-served-in : ProgramsServedIn kind stage faults own program
@@ -38,15 +41,20 @@ module _ {D : Type 0} (kind : D → Kind) (stage : D → Life) (faults : D → �
       let history = history_of port in
       let of = of-program number processes script.workers (kind mine.driver) decl port mine.holds opens.driver (config-served decl.config opens.config) in
       let taken = input-is-taken opening history of in
+      let spawns = named-spawn (kind mine.driver) (mine.holds.named ∙ opens.driver) in
+      let told = is-told (kind mine.driver) decl.config _ (own mine.driver) (program mine.driver) spawns mine.stands.keeps mine.told mine.stands.told in
       record {
         driver = mine.driver;
         back = mine.back;
-        spawns = named-spawn (kind mine.driver) (mine.holds.named ∙ opens.driver);
+        spawns = spawns;
         framed = record {
+          program = told.program;
+          told_is = told.told_is;
           took = taken.0;
           whole = input-is-whole opening history of mine.holds.finished;
-          given = told-given decl.config _ _ (program mine.driver) taken.1 mine.stands.told;
-          gave = told-gave decl.config _ _ (program mine.driver) (output-is-taken opening history of) mine.stands.told;
+          given = told.tells.given ∙ ap (λ n. take n (asked decl.config _)) taken.1;
+          gave = told.tells.taken ∙ output-is-taken opening history of;
+          at_end = told.tells.at_end ∙ end-is-told opening history of;
           sent = output-is-unframed opening history of;
         };
       }

@@ -1,5 +1,5 @@
 -- What the program of a port took, and what its port sent of what the program gave, in a run of a script.
-use Rattle.std.specs.Prelude.{◌≡◌, ◌<◌, ◌≤◌, ℕ, List, length, take, false, true, Option, Some, IfSome, codes, slice_index, slice_index_or}
+use Rattle.std.specs.Prelude.{◌≡◌, ◌<◌, ◌≤◌, ℕ, List, length, take, false, true, Option, Some, codes, slice_index, slice_index_or}
 use Rattle.driver_model.specs.Calls.{Kind, Own, Spawn}
 use Rattle.driver_model.specs.Programs.{ToldProgram}
 use Rattle.port_config.specs.Config.{is_config}
@@ -22,14 +22,17 @@ pub record OpensProgram (script : RunScript) (number : ℕ) (decl : PortDecl) : 
   pub driver : decl.driver ≡ codes "spawn"
   pub config : is_config decl.config ≡ true
 
--- The program took no more bytes than the frames of the commands that its driver handled have, and as many where the port wasn't killed and no call of the program failed. Where the driver tells of its
--- program, as one that starts programs does, the program was given just so many bytes from the front of these frames, in the order of the commands, and gave the bytes that the port took from it. The data
--- that the port sent are the messages of these bytes, but for a chunk that failed it
-pub record IsFramed (opening : Opening) (history : List Row) (program : Option ToldProgram) : Type 0 where
+-- The program took no more bytes than the frames of the commands that its driver handled have, and as many where the port wasn't killed and no call of the program failed. It was given just so many bytes
+-- from the front of these frames, in the order of the commands, and gave the bytes that the port took from it, and its end was fetched where the port was told of one. The data that the port sent are the
+-- messages of these bytes, but for a chunk that failed it
+pub record IsFramed (opening : Opening) (history : List Row) (told : Option ToldProgram) : Type 0 where
+  pub program : ToldProgram
+  pub told_is : told ≡ Some program
   pub took : bytes_took history ≤ length (frames_asked opening history)
   pub whole : is_killed (state opening history).reason ≡ false → has_fault history ≡ false → bytes_took history ≡ length (frames_asked opening history)
-  pub given : IfSome program (λ p. p.given ≡ take (bytes_took history) (frames_asked opening history))
-  pub gave : IfSome program (λ p. p.taken ≡ bytes_taken history)
+  pub given : program.given ≡ take (bytes_took history) (frames_asked opening history)
+  pub gave : program.taken ≡ bytes_taken history
+  pub at_end : program.at_end ≡ has_ended history
   pub sent : AreMessages opening.config.mode (bytes_kept opening.config.mode history) (has_ended history) (messages_sent history)
 
 module _ {D : Type 0} where

@@ -9,7 +9,7 @@ pub use echoed_commands::{
 };
 
 /// In every run of a script, the program of each port took a front of the frames of the commands that the port handled, in their order, and all of them where the port wasn't killed and no call of the program
-/// failed; and the port sent the messages of the bytes that it took, but for a chunk that failed it. A program of which its driver tells was given just this front, and gave just these bytes.
+/// failed; it was given just this front, and gave just the bytes that the port took; and the port sent the messages of these bytes, but for a chunk that failed it.
 pub fn programs_are_served_in_every_run<D: Driver>()
     ensures { ProgramsServedIn D.kind D.stage D.faults D.own D.program }
 {}

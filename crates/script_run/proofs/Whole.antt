@@ -31,6 +31,7 @@ use Rattle.driver_hosts.specs.Opening.{place_of}
 use Rattle.driver_hosts.proofs.ComingBack.{served-come-back}
 use Rattle.closed_lanes.specs.closed_ports.Closed.{HaveComeBack}
 use Rattle.closed_lanes.specs.settled_ports.Senders.{IsOfAnEnd}
+use Rattle.closed_lanes.specs.closed_ports.told_jobs.Told.{WorkersTell}
 use Rattle.script_plan.specs.declared.decl.PortDecl.{PortDecl}
 use Rattle.run_end.specs.Ran.{RanProcess, calls_made}
 use Rattle.run_lanes.specs.declared.parts.PortLanes.{PortLanes}
@@ -381,6 +382,7 @@ module _ {D : Type 0} (kind : D → Kind) (stage : D → Life) (faults : D → �
     finished = subst (λ o. IsFinished o (reverse port.journal.rows)) same closed.finished;
     senders = λ n d below. subst (λ p. IsFrom p s.size.workers (get_or port.journal.rows n d)) processes (subst (λ w. IsFrom name.key.processes w (get_or port.journal.rows n d)) workers
         (from-end senders name.key (get_or port.journal.rows n d) (closed.senders n d below)));
+    workers = subst (λ o. WorkersTell s.size.workers o (reverse port.journal.rows)) same (subst (λ w. WorkersTell w name.opening (reverse port.journal.rows)) workers closed.workers);
     listed = subst (λ o. HaveRows (state o (reverse port.journal.rows))) same closed.listed.have_rows;
   }
 
@@ -449,6 +451,7 @@ module _ {D S : Type 0} {gh : Ghosts BodyView} (kind : D → Kind) (stage : D �
             (port-holds kind stage faults own program laws.senders s k stopped.driver before it name port (get_or old place h) shut as-opened kinds named opened.handed opened.starts (ap (λ (x : Key). x.processes) keyed) (ap (λ (x : Key). x.workers) keyed)));
         stands = subst (λ m. IsLeftByCalls (opening_of k m (kind stopped.driver) it (port_left port)) (reverse port.journal.rows) (own stopped.driver) (program stopped.driver)) sized
             (subst (λ o. IsLeftByCalls o (reverse port.journal.rows) (own stopped.driver) (program stopped.driver)) as-opened stopped.stands);
+        told = stopped.told;
         pairs = λ m q l less.
             let within : m < length ran = omega (arith, ran_many, sized, less) in
             subst (λ x. PairHolds k m x (kind stopped.driver) it (port_left port) (calls_of (length script.ports.items) (get_or script.programs.items m q) (get_or left.processes.items m l))

@@ -3,7 +3,7 @@ use Rattle.std.specs.Prelude.{◌≡◌, ◌<◌, ℕ, Bool, List, [], ◌∷◌
 use Rattle.std.specs.List.Sorted.{IsStrictlyIncreasing}
 use Rattle.driver_model.specs.Calls.{Kind, Own}
 use Rattle.driver_model.specs.Drivers.{kind_name, refusal_of}
-use Rattle.driver_model.specs.Programs.{ToldProgram}
+use Rattle.driver_model.specs.Programs.{TellsOfProgram, ToldProgram}
 use Rattle.port_driver.specs.Faults.{failures_in, RisenBy}
 use Rattle.port_driver.specs.declared.life.Life.{Life}
 use Rattle.port_history.specs.Lawful.{Lawful, IsFinished}
@@ -30,6 +30,7 @@ use Rattle.run_end.specs.Waited.{WaitsAreShown}
 use Rattle.run_opening.specs.Opened.{limits_of, soft_at}
 use Rattle.run_seats.specs.declared.plans.Program.{Program}
 use Rattle.script_plan.specs.declared.decl.PortDecl.{PortDecl}
+use Rattle.closed_lanes.specs.closed_ports.told_jobs.Told.{WorkersTell}
 use Rattle.suspended_calls.specs.Numbers.{listed_numbers, resumed_numbers, suspended_numbers}
 use Rattle.run_setting.specs.declared.RunScript.{RunScript}
 use Rattle.script_run.specs.declared.running.PortLeft.{PortLeft}
@@ -79,7 +80,7 @@ all_calls ports (program ∷ programs) (left ∷ rest) = calls_of ports program 
 all_calls ports programs rest = []
 
 -- The history of a port is one lawful and finished history of a driver of this kind, with the port's options and owner, which doesn't refuse to start; each task in it is of one of so many processes or
--- workers, or of the poller; and each task for which its sender was listed has a row in it
+-- workers, or of the poller; the tasks of each worker tell the first of the driver's jobs that are its, in their order; and each task for which its sender was listed has a row in it
 pub record PortHolds (number processes workers : ℕ) (kind : Kind) (decl : PortDecl) (port : PortLeft) : Type 0 where
   pub named : kind_name kind ≡ decl.driver
   pub config_is : port.config ≡ decl.config
@@ -87,6 +88,7 @@ pub record PortHolds (number processes workers : ℕ) (kind : Kind) (decl : Port
   pub lawful : Lawful (opening_of number processes kind decl port) (history_of port)
   pub finished : IsFinished (opening_of number processes kind decl port) (history_of port)
   pub senders : All (IsFrom processes workers) port.journal.rows
+  pub workers : WorkersTell workers (opening_of number processes kind decl port) (history_of port)
   pub listed : HaveRows (state (opening_of number processes kind decl port) (history_of port))
 
 -- Of a process and a port: the tasks of the process that have a row are those that its receipts show accepted, in the order sent, each once; the calls for which it was listed, and those
@@ -116,7 +118,7 @@ pub record PortWordsHold (number processes : ℕ) (kind : Kind) (decl : PortDecl
   pub resumed : QueueWordsHold number (limits_of decl.config) all (resumed_words (history_of port))
 
 module _ {D : Type 0} where
-  -- The driver that came back at this place served the port of this number, and stands as the calls of the port's history leave it; and what is said of each process and the port, and of its words, holds.
+  -- The driver that came back at this place served the port of this number, stands as the calls of the port's history leave it, and tells of the program that it served, if it did; and what is said of each process and the port, and of its words, holds.
   -- `came` is the mail of each process, each with its source
   pub record PortServed (kind : D → Kind) (own : D → Own) (program : D → Option ToldProgram) (script : RunScript) (ran : ScriptRan) (came : ℕ → List Came) (number : ℕ) (decl : PortDecl) (port : PortLeft)
       (host : Hosted D) : Type 0 where
@@ -124,6 +126,7 @@ module _ {D : Type 0} where
     pub back : host ≡ record { port = Some number; driver = Some driver }
     pub holds : PortHolds number (length script.programs.items) script.workers (kind driver) decl port
     pub stands : IsLeftByCalls (opening_of number (length script.programs.items) (kind driver) decl port) (history_of port) (own driver) (program driver)
+    pub told : TellsOfProgram (own driver) (program driver)
     pub pairs : (s : ℕ) (p : Program) (l : ProcessLeft) → s < length script.programs.items
         → PairHolds number s (length script.programs.items) (kind driver) decl port
         (calls_of (length script.ports.items) (slice_index_or script.programs.items s p) (slice_index_or ran.processes.items s l)) (came s)

@@ -51,7 +51,8 @@ Did-asked event (got.Ended status) b a s ended child new before after asks over 
     tells-asked config earlier event before.caller (Status status ∷ []) effects s.child ended child over first.stand has.shows.stand
     (ap (λ (v : ChildView). v.command) has.shows.shown ∙ ap (λ (v : ChildView). v.command) first.shown)
     (ap (λ (v : ChildView). v.given) has.shows.shown ∙ ap (λ (v : ChildView). v.given) first.shown)
-    (ap (λ (v : ChildView). v.fetched) has.shows.shown ∙ ap (λ (v : ChildView). v.fetched) first.shown) refl refl
+    (ap (λ (v : ChildView). v.fetched) has.shows.shown ∙ ap (λ (v : ChildView). v.fetched) first.shown)
+    (ap (λ (v : ChildView). v.at_end) has.shows.shown ∙ ap (λ (v : ChildView). v.at_end) first.shown) refl refl
     (λ st_e st' is on none.
     let is' = rw is at has.status in
     All-cons (λ answer. status_of st' ≡ Some answer) status [] (status-stays st_e st' status on (exact-status st_e status none is')) (All-nil _)) before')
@@ -62,7 +63,8 @@ Did-asked event got.Failed b a s ended child new before after asks over first ha
     tells-asked config earlier event before.caller (Failed ∷ []) effects s.child ended child over first.stand has.shows.stand
     (ap (λ (v : ChildView). v.command) has.shows.shown ∙ ap (λ (v : ChildView). v.command) first.shown)
     (ap (λ (v : ChildView). v.given) has.shows.shown ∙ ap (λ (v : ChildView). v.given) first.shown)
-    (ap (λ (v : ChildView). v.fetched) has.shows.shown ∙ ap (λ (v : ChildView). v.fetched) first.shown) refl refl
+    (ap (λ (v : ChildView). v.fetched) has.shows.shown ∙ ap (λ (v : ChildView). v.fetched) first.shown)
+    (ap (λ (v : ChildView). v.at_end) has.shows.shown ∙ ap (λ (v : ChildView). v.at_end) first.shown) refl refl
     (λ st_e st' is on none. All-nil _) before')
     ends
 

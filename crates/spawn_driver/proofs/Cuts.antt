@@ -155,9 +155,9 @@ pub got-told : (event : ℕ) (bytes : List ℕ) (row : List Effect) (old new : P
 got-told event bytes row old new before after served fetched r =
     let size = both (nat_le 1 (length bytes)) (nat_le (length bytes) 65536) fetched in
     let d : Did Spawn (ReadyInput event) (Running old) (Running new) None None before (with_answers after (Got bytes ∷ [])) [] =
-    Did-untold (ReadyInput event) old new before (with_answers after (Got bytes ∷ [])) [] (λ command given' fetched. silent command given' (fetched ++ bytes))
-    (λ command given' fetched.
-    Did-got event bytes (silent command given' fetched) (silent command given' (fetched ++ bytes)) old new before (with_answers after (Got bytes ∷ [])) served
+    Did-untold (ReadyInput event) old new before (with_answers after (Got bytes ∷ [])) [] (λ command given' fetched over. silent command given' (fetched ++ bytes) over)
+    (λ command given' fetched over.
+    Did-got event bytes (silent command given' fetched over) (silent command given' (fetched ++ bytes) over) old new before (with_answers after (Got bytes ∷ [])) served
     (leb-true 1 (length bytes) size.0) (leb-true (length bytes) 65536 size.1) (record { shown = refl; stand = refl }) r.receives) in
     let found = r.receives.found in
     let added : d.added ++ [] ≡ effects_in found =

@@ -128,7 +128,7 @@ pub tells-unasked : (config : Config) (earlier : List DriverCall) (event caller 
 tells-unasked config earlier event caller effects old ended over shows before =
     tells-call config earlier (end_call event caller [] effects) (told_of old old.stand) (told_of ended ended.stand) (ap (λ c. c.command) shows.shown)
     (ap (λ c. c.given) shows.shown ∙ (before.given ∙ sym (front-quiet (given config earlier) (asked config earlier) [] (given-within config earlier))))
-    (ap (λ c. c.fetched) shows.shown ∙ sym (append-nil old.fetched))
+    (ap (λ c. c.fetched) shows.shown ∙ sym (append-nil old.fetched)) (ap (λ c. c.at_end) shows.shown)
     (statuses-go-on-same old.stand ended.stand (End ∷ []) shows.stand
     (λ st st' on is.
     let over' = rw is at over in
@@ -138,13 +138,13 @@ tells-unasked config earlier event caller effects old ended over shows before =
 -- and where it is, and these answers came
 pub tells-asked : (config : Config) (earlier : List DriverCall) (event caller : ℕ) (answers : List Outside) (effects : List Effect) (old ended new : ChildView)
     → IfSome old.stand (λ (s : Stand). (s.gives ≡ []) × IsSome s.ended) → StandGoesOn old.stand ended.stand → StandGoesOn ended.stand new.stand
-    → new.command ≡ old.command → new.given ≡ old.given → new.fetched ≡ old.fetched → took_by answers ≡ 0 → got_by answers ≡ []
+    → new.command ≡ old.command → new.given ≡ old.given → new.fetched ≡ old.fetched → new.at_end ≡ true → took_by answers ≡ 0 → got_by answers ≡ []
     → ((st_e st' : Stand) → ended.stand ≡ Some st_e → GoesOn st_e st' → st_e.gives ≡ [] → All (λ status. status_of st' ≡ Some status) (statuses_in answers))
     → Tells config earlier (told_of old old.stand) → Tells config (end_call event caller answers effects ∷ earlier) (told_of new new.stand)
-tells-asked config earlier event caller answers effects old ended new over first second command given' fetched took got all before =
+tells-asked config earlier event caller answers effects old ended new over first second command given' fetched at_end took got all before =
     tells-call config earlier (end_call event caller answers effects) (told_of old old.stand) (told_of new new.stand) command
     (given' ∙ (before.given ∙ rw took (sym (front-quiet (given config earlier) (asked config earlier) [] (given-within config earlier)))))
-    (fetched ∙ (sym (append-nil old.fetched) ∙ ap (λ xs. old.fetched ++ xs) (sym got)))
+    (fetched ∙ (sym (append-nil old.fetched) ∙ ap (λ xs. old.fetched ++ xs) (sym got))) at_end
     (asked-statuses old.stand ended.stand new.stand over first second all) before
   where
     gives-none : (st st_e : Stand) → GoesOn st st_e → st.gives ≡ [] → IsSome st.ended → st_e.gives ≡ []

@@ -51,7 +51,7 @@ got-tells : (config : Config) (earlier : List DriverCall) (event caller : ℕ) (
 got-tells config earlier event caller bytes effects old new shows before =
     tells-call config earlier (got_call event caller bytes effects) (told_of old old.stand) (told_of new new.stand) (ap (λ c. c.command) shows.shown)
     (ap (λ c. c.given) shows.shown ∙ (before.given ∙ sym (front-quiet (given config earlier) (asked config earlier) [] (given-within config earlier))))
-    (ap (λ c. c.fetched) shows.shown ∙ ap (λ xs. old.fetched ++ xs) (sym (append-nil bytes)))
+    (ap (λ c. c.fetched) shows.shown ∙ ap (λ xs. old.fetched ++ xs) (sym (append-nil bytes))) (ap (λ c. c.at_end) shows.shown)
     (statuses-go-on old.stand new.stand (λ stand. record stand { gives = drop (length bytes) stand.gives }) (Got bytes ∷ []) shows.stand
     (λ st st' on is. record {
       keeps = λ status e. status-stays (record st { gives = drop (length bytes) st.gives }) st' status on (fetched-status st (length bytes) status e);

@@ -154,11 +154,12 @@ statuses-go-on-same (Some st) (Some st') answers on f = f st st' on refl
 -- what is told after a call, from its parts
 pub tells-call : (config : Config) (earlier : List DriverCall) (call : DriverCall) (old new : ToldProgram) → new.command ≡ old.command
     → new.given ≡ take (given config (call ∷ earlier)) (asked config (call ∷ earlier)) → new.taken ≡ old.taken ++ got_by call.outside
-    → StatusesGoOn old.status new.status call.outside → Tells config earlier old → Tells config (call ∷ earlier) new
-tells-call config earlier call old new command given' taken on before = record {
+    → new.at_end ≡ (has_end call.outside || old.at_end) → StatusesGoOn old.status new.status call.outside → Tells config earlier old → Tells config (call ∷ earlier) new
+tells-call config earlier call old new command given' taken over on before = record {
   command = command ∙ before.command;
   given = given';
   taken = taken ∙ ap (λ xs. xs ++ got_by call.outside) before.taken;
+  at_end = over ∙ ap (λ b. has_end call.outside || b) before.at_end;
   ended = λ e. ended-on old.status new.status (output_ended earlier) on before.ended e;
   status = statuses-on old.status new.status (statuses earlier) on before.status;
 }
@@ -186,9 +187,10 @@ tells-call config earlier call old new command given' taken on before = record {
 
 -- what is told of a child that goes on
 pub tells-same : (config : Config) (earlier : List DriverCall) (call : DriverCall) (old new : ChildView) → new.command ≡ old.command
-    → new.given ≡ take (given config (call ∷ earlier)) (asked config (call ∷ earlier)) → new.fetched ≡ old.fetched ++ got_by call.outside → StandGoesOn old.stand new.stand
-    → has_end call.outside ≡ false → statuses_in call.outside ≡ [] → Tells config earlier (told_of old old.stand)
+    → new.given ≡ take (given config (call ∷ earlier)) (asked config (call ∷ earlier)) → new.fetched ≡ old.fetched ++ got_by call.outside → new.at_end ≡ old.at_end
+    → StandGoesOn old.stand new.stand → has_end call.outside ≡ false → statuses_in call.outside ≡ [] → Tells config earlier (told_of old old.stand)
     → Tells config (call ∷ earlier) (told_of new new.stand)
-tells-same config earlier call old new command given' taken on no_end none before =
+tells-same config earlier call old new command given' taken over on no_end none before =
     tells-call config earlier call (told_of old old.stand) (told_of new new.stand) command given' taken
+    (over ∙ ap (λ b. b || old.at_end) (sym no_end))
     (statuses-go-on-same old.stand new.stand call.outside on (λ st st' on' is. status-goes-on st st' call.outside on' no_end none)) before

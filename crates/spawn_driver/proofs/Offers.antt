@@ -45,7 +45,7 @@ took-goes config earlier event caller count queue old new within dropped shows b
     (tells-same config earlier call old new (ap (λ c. c.command) shows.shown)
     (ap (λ c. c.given) shows.shown ∙ (ap (λ g. g ++ take count (spawn_queue config earlier)) before.given
     ∙ sym (front-took (program_failed earlier) (given config earlier) count (asked config earlier) (given-within config earlier) few)))
-    (ap (λ c. c.fetched) shows.shown ∙ sym (append-nil old.fetched)) shows.stand refl refl before)
+    (ap (λ c. c.fetched) shows.shown ∙ sym (append-nil old.fetched)) (ap (λ c. c.at_end) shows.shown) shows.stand refl refl before)
 
 pub Did-took : (event count : ℕ) (old_child new_child : ChildView) (old new : Program) (before after : Context) → count ≤ min (length before.queue) 65536
     → Shows (record old_child { given = old_child.given ++ take count before.queue }) new_child → Takes count old new before after
@@ -119,7 +119,8 @@ pub tells-nothing : (config : Config) (earlier : List DriverCall) (callback : Ca
 tells-nothing config earlier callback caller answer effects old new nothing shows before =
     tells-same config earlier (call_of callback caller (answer ∷ []) effects) old new (ap (λ c. c.command) shows.shown)
     (ap (λ c. c.given) shows.shown ∙ (before.given ∙ rw nothing.took (sym (front-quiet (given config earlier) (asked config earlier) (framed config callback) (given-within config earlier)))))
-    (ap (λ c. c.fetched) shows.shown ∙ (sym (append-nil old.fetched) ∙ ap (λ xs. old.fetched ++ xs) (sym nothing.got))) shows.stand nothing.end nothing.statuses before
+    (ap (λ c. c.fetched) shows.shown ∙ (sym (append-nil old.fetched) ∙ ap (λ xs. old.fetched ++ xs) (sym nothing.got))) (ap (λ c. c.at_end) shows.shown) shows.stand nothing.end
+    nothing.statuses before
 
 failed-goes : (config : Config) (earlier : List DriverCall) (callback : Callback) (caller : ℕ) (old new : ChildView) → MayFail callback → Shows old new
     → Tells config earlier (told_of old old.stand)

@@ -53,7 +53,7 @@ pub quiet-tells : (config : Config) (earlier : List DriverCall) (callback : Call
     → Tells config earlier (told_of child child.stand) → Tells config (call_of callback caller [] recorded ∷ earlier) (told_of child child.stand)
 quiet-tells config earlier callback caller recorded child before =
     tells-call config earlier (call_of callback caller [] recorded) (told_of child child.stand) (told_of child child.stand) refl
-    (before.given ∙ sym (front-quiet (given config earlier) (asked config earlier) (framed config callback) (given-within config earlier))) (sym (append-nil _))
+    (before.given ∙ sym (front-quiet (given config earlier) (asked config earlier) (framed config callback) (given-within config earlier))) (sym (append-nil _)) refl
     (statuses-stay (option_map status_of child.stand)) before
 
 -- a callback that changed nothing
@@ -106,4 +106,4 @@ Ended-stop kept old new shows = record {
     stop-tells config earlier caller before =
         tells-same config earlier (call_of Stop caller [] []) old new (ap (λ c. c.command) shows.shown)
         (ap (λ c. c.given) shows.shown ∙ (before.given ∙ sym (front-quiet (given config earlier) (asked config earlier) [] (given-within config earlier))))
-        (ap (λ c. c.fetched) shows.shown ∙ sym (append-nil old.fetched)) shows.stand refl refl before
+        (ap (λ c. c.fetched) shows.shown ∙ sym (append-nil old.fetched)) (ap (λ c. c.at_end) shows.shown) shows.stand refl refl before

@@ -12,7 +12,7 @@ use Rattle.port_model.specs.declared.effect.Effect.TheVariants.{Fail, ReplyBadar
 use Rattle.driver_model.specs.Calls.{Callback, Outputv, Control, Call, ReadyInput, ReadyOutput, ReadyAsync, ProcessExit, Flush, DriverCall, call_of, Program, Running, Spawn}
 use Rattle.driver_model.specs.Spawn.{asked, given, taken_bytes, fits, is_none, spawn_effects, spawn_answered, answers_fetch}
 use Rattle.driver_model.specs.Drivers.{job_count, jobs_by, held_events, held_by}
-use Rattle.driver_model.specs.Programs.{ToldProgram, Tells}
+use Rattle.driver_model.specs.Programs.{ToldProgram, Tells, output_ended}
 use Rattle.outside.specs.declared.child.StatusGot.{StatusGot}
 use Rattle.outside.specs.declared.child.StatusGot.TheVariants as got
 use Rattle.outside.specs.Children.{ChildView}
@@ -30,14 +30,14 @@ use Rattle.spawn_driver.proofs.Offers.{Did-took, Did-failed, Did-waits, MayFail,
 use Rattle.spawn_driver.proofs.Endings.{Did-ended, IsStatus, status-unasked, status-told, status-failed, tells-asked}
 
 -- a child that doesn't tell how it stands
-abbrev pub silent : List ℕ → List ℕ → List ℕ → ChildView
-silent command given fetched = record {
+abbrev pub silent : List ℕ → List ℕ → List ℕ → Bool → ChildView
+silent command given fetched at_end = record {
   read_event = 0;
   write_event = 0;
   command = command;
   given = given;
   fetched = fetched;
-  at_end = false;
+  at_end = at_end;
   stopped = false;
   stand = None;
 }
@@ -52,24 +52,26 @@ Follows-untold config earlier call new program context recorded f = record {
 }
 
 -- what a driver did whatever its silent program was given and gave, it does without a program
-pub Did-untold : (callback : Callback) (old new : Program) (before after : Context) (answer : List Effect) (next : List ℕ → List ℕ → List ℕ → ChildView)
-    → ((command given' fetched : List ℕ) → Did Spawn callback (Running old) (Running new) (told (silent command given' fetched)) (told (next command given' fetched)) before after answer)
+pub Did-untold : (callback : Callback) (old new : Program) (before after : Context) (answer : List Effect) (next : List ℕ → List ℕ → List ℕ → Bool → ChildView)
+    → ((command given' fetched : List ℕ) (over : Bool)
+    → Did Spawn callback (Running old) (Running new) (told (silent command given' fetched over)) (told (next command given' fetched over)) before after answer)
     → Did Spawn callback (Running old) (Running new) None None before after answer
 Did-untold callback old new before after answer next did' = record {
-  answers = (did' [] [] []).answers;
-  added = (did' [] [] []).added;
-  outside = (did' [] [] []).outside;
-  effects = (did' [] [] []).effects;
+  answers = (did' [] [] [] false).answers;
+  added = (did' [] [] [] false).added;
+  outside = (did' [] [] [] false).outside;
+  effects = (did' [] [] [] false).effects;
   follows = λ config earlier stands.
       let given' = take (given config earlier) (asked config earlier) in
       let fetched = taken_bytes earlier in
-      let first = did' [] [] [] in
-      let d = did' config.run given' fetched in
+      let over = output_ended earlier in
+      let first = did' [] [] [] false in
+      let d = did' config.run given' fetched over in
       let answers : d.answers ≡ first.answers = append_cancel_left before.outside d.answers first.answers (sym d.outside ∙ first.outside) in
       let added : d.added ≡ first.added = append_cancel_left before.effects d.added first.added (sym d.effects ∙ first.effects) in
-      let tells : Tells config earlier (told_of (silent config.run given' fetched) None) = record { command = refl; given = refl; taken = refl; ended = λ e. tt; status = tt } in
+      let tells : Tells config earlier (told_of (silent config.run given' fetched over) None) = record { command = refl; given = refl; taken = refl; at_end = refl; ended = λ e. tt; status = tt } in
       let f = d.follows config earlier (record { holds = stands.holds; jobs = stands.jobs; events = stands.events; told = tells }) in
-      let g = Follows-untold config earlier (call_of callback before.caller d.answers (d.added ++ answer)) new (told (next config.run given' fetched)) after (d.added ++ answer) f in
+      let g = Follows-untold config earlier (call_of callback before.caller d.answers (d.added ++ answer)) new (told (next config.run given' fetched over)) after (d.added ++ answer) f in
       subst (λ (os : List Outside). Follows Spawn config earlier (call_of callback before.caller os (first.added ++ answer)) (Running new) None after (first.added ++ answer)) answers
       (subst (λ (es : List Effect). Follows Spawn config earlier (call_of callback before.caller d.answers (es ++ answer)) (Running new) None after (es ++ answer)) added g);
 }
@@ -142,9 +144,9 @@ pub took-told : (event count : ℕ) (row : List Effect) (old new : Program) (bef
     → Takes count old new before (with_answers after (Took count ∷ [])) → GoesOnBy (ReadyOutput event) (Took count ∷ []) row old new before after
 took-told event count row old new before after within takes =
     goes-on-by (ReadyOutput event) (Took count ∷ []) row old new before after
-    (Did-untold (ReadyOutput event) old new before (with_answers after (Took count ∷ [])) [] (λ command given' fetched. silent command (given' ++ take count before.queue) fetched)
-    (λ command given' fetched.
-    Did-took event count (silent command given' fetched) (silent command (given' ++ take count before.queue) fetched) old new before (with_answers after (Took count ∷ [])) within
+    (Did-untold (ReadyOutput event) old new before (with_answers after (Took count ∷ [])) [] (λ command given' fetched over. silent command (given' ++ take count before.queue) fetched over)
+    (λ command given' fetched over.
+    Did-took event count (silent command given' fetched over) (silent command (given' ++ take count before.queue) fetched over) old new before (with_answers after (Took count ∷ [])) within
     (record { shown = refl; stand = refl }) takes))
     (ap (λ (c : Context). c.outside) takes.context) (λ config earlier stands is. refl)
 
@@ -157,8 +159,8 @@ failed-told : (callback : Callback) (row : List Effect) (old new : Program) (bef
 failed-told callback row old new before after may same context uncut =
     let d : Did Spawn callback (Running old) (Running new) None None before (with_answers after (Failed ∷ [])) [] =
     Did-untold callback old new before (with_answers after (Failed ∷ [])) [] silent
-    (λ command given' fetched.
-    Did-failed callback (silent command given' fetched) (silent command given' fetched) old new before (with_answers after (Failed ∷ [])) may (record { shown = refl; stand = refl }) same
+    (λ command given' fetched over.
+    Did-failed callback (silent command given' fetched over) (silent command given' fetched over) old new before (with_answers after (Failed ∷ [])) may (record { shown = refl; stand = refl }) same
     (ap (λ (c : Context). with_answers c (Failed ∷ [])) context)) in
     goes-on-by callback (Failed ∷ []) row old new before after d (ap (λ (c : Context). c.outside ++ Failed ∷ []) context)
     (λ config earlier stands is. uncut config earlier (d.added ++ []))
@@ -178,8 +180,8 @@ pub waits-told : (event : ℕ) (row : List Effect) (kept : Program) (context : C
 waits-told event row kept context =
     goes-on-by (ReadyInput event) (Again ∷ []) row kept kept context context
     (Did-untold (ReadyInput event) kept kept context (with_answers context (Again ∷ [])) [] silent
-    (λ command given' fetched.
-    Did-waits event (silent command given' fetched) (silent command given' fetched) kept context (with_answers context (Again ∷ [])) (record { shown = refl; stand = refl }) refl)) refl
+    (λ command given' fetched over.
+    Did-waits event (silent command given' fetched over) (silent command given' fetched over) kept context (with_answers context (Again ∷ [])) (record { shown = refl; stand = refl }) refl)) refl
     (λ config earlier stands is. refl)
 
 -- the status was answered as it is asked for
@@ -197,13 +199,14 @@ pub ended-told : (event : ℕ) (status : Option StatusGot) (row : List Effect) (
     → GoesOnBy (ReadyInput event) (End ∷ answers_to status) row old new before after
 ended-told event status row old new before after answered ends =
     goes-on-by (ReadyInput event) (End ∷ answers_to status) row old new before after
-    (Did-untold (ReadyInput event) old new before (with_answers after (End ∷ answers_to status)) [] silent
-    (λ command given' fetched.
-    let child = silent command given' fetched in
+    (Did-untold (ReadyInput event) old new before (with_answers after (End ∷ answers_to status)) [] (λ command given' fetched over. silent command given' fetched true)
+    (λ command given' fetched over.
+    let child = silent command given' fetched over in
+    let ended = silent command given' fetched true in
     let is = status-asked old.config.exit_status status answered in
-    Did-ended event (answers_to status) child child old new before (with_answers after (End ∷ answers_to status)) is
+    Did-ended event (answers_to status) child ended old new before (with_answers after (End ∷ answers_to status)) is
     (λ config earlier effects.
-    tells-asked config earlier event before.caller (answers_to status) effects child child child tt refl refl refl refl refl is.took is.got (λ st_e st' none. absurd (cc)))
+    tells-asked config earlier event before.caller (answers_to status) effects child ended ended tt refl refl refl refl refl refl is.took is.got (λ st_e st' none. absurd (cc)))
     ends))
     (ap (λ (c : Context). c.outside) ends.context) (λ config earlier stands is. refl)
 
@@ -212,7 +215,7 @@ pub output-told : (bytes : List ℕ) (row : List Effect) (old new : Program) (be
     → GoesOnBy (Outputv bytes) [] row old new before after
 output-told bytes row old new before after queues =
     goes-on (Outputv bytes) [] row old new before after after [] (Did-untold (Outputv bytes) old new before after [] silent
-    (λ command given' fetched. Did-output bytes (silent command given' fetched) old new before after queues)) (unchanged ∙ sym (append-nil before.outside))
+    (λ command given' fetched over. Did-output bytes (silent command given' fetched over) old new before after queues)) (unchanged ∙ sym (append-nil before.outside))
     refl refl refl (sym (append-nil after.effects)) (λ config earlier stands is. refl)
   where
     unchanged : after.outside ≡ before.outside
@@ -284,8 +287,8 @@ flush-unasked = record {
 }
 
 -- the program that a driver keeps, silent
-abbrev serves : Program → List ℕ → List ℕ → List ℕ → Serving
-serves kept command given' fetched = record { child = silent command given' fetched; faults = 0; kept = kept }
+abbrev serves : Program → List ℕ → List ℕ → List ℕ → Bool → Serving
+serves kept command given' fetched over = record { child = silent command given' fetched over; faults = 0; kept = kept }
 
 -- nothing was asked and done
 pub unasked-told : (callback : Callback) (outside : List Outside) (row : List Effect) (kept : Program) (context : Context) (answered : Bool) → IsUnasked callback []
@@ -299,7 +302,7 @@ unasked-told callback outside row kept context answered unasked none = record {
     goes : GoesOnBy callback [] row kept kept context context
     goes =
         let d : Did Spawn callback (Running kept) (Running kept) None None context context [] =
-        Did-untold callback kept kept context context [] silent (λ command given' fetched. Did-quiet callback (serves kept command given' fetched) context unasked.quiet) in
+        Did-untold callback kept kept context context [] silent (λ command given' fetched over. Did-quiet callback (serves kept command given' fetched over) context unasked.quiet) in
         goes-on callback [] row kept kept context context context [] d (sym (append-nil context.outside)) refl refl refl (sym (append-nil context.effects))
         (λ config earlier stands is. unasked.uncut config earlier context.caller (d.added ++ []) row)
 
@@ -315,7 +318,7 @@ refused-told callback outside row kept before after answered unasked refuses = r
     goes : after ≡ did before ReplyBadarg → GoesOnBy callback [] row kept kept before after
     goes context =
         let d : Did Spawn callback (Running kept) (Running kept) None None before before (ReplyBadarg ∷ []) =
-        Did-untold callback kept kept before before (ReplyBadarg ∷ []) silent (λ command given' fetched. Did-badarg callback (serves kept command given' fetched) before unasked.quiet) in
+        Did-untold callback kept kept before before (ReplyBadarg ∷ []) silent (λ command given' fetched over. Did-badarg callback (serves kept command given' fetched over) before unasked.quiet) in
         goes-on callback [] row kept kept before before after (ReplyBadarg ∷ []) d (sym (append-nil before.outside))
         (ap (λ (c : Context). c.queue) context) (ap (λ (c : Context). c.held) context) (ap (λ (c : Context). c.next_job) context) (ap (λ (c : Context). c.effects) context)
         (λ config earlier stands is. unasked.uncut config earlier before.caller (d.added ++ ReplyBadarg ∷ []) row)

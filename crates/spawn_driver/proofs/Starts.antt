@@ -14,11 +14,11 @@ use Rattle.outside.specs.Children.{ChildView, Starts}
 use Rattle.outside.specs.Causes as outside
 use Rattle.driver_model.specs.Calls.{Start, DriverCall, call_of, Nothing, Program, Running, Spawn}
 use Rattle.driver_model.specs.Spawn.{program, is_refused}
-use Rattle.driver_model.specs.Programs.{Tells}
+use Rattle.driver_model.specs.Programs.{Tells, TellsOfProgram}
 use Rattle.port_driver.specs.Context.{Context}
 use Rattle.port_driver.specs.Driven.{Began}
 use Rattle.spawn_driver.specs.Recorded.{with_effects}
-use Rattle.spawn_driver.specs.Serving.{ProgramsAreTold, status_of, told, told_of}
+use Rattle.spawn_driver.specs.Serving.{Serving, own_of, program_of, status_of, told, told_of}
 use Rattle.spawn_driver.proofs.Rests.{rest_of-nil}
 use Rattle.spawn_driver.proofs.Oversize.{oversize-nil}
 use Rattle.spawn_driver.proofs.Histories.{same-program, holds-is}
@@ -41,16 +41,16 @@ start-rest mode false = sym (rest_of-nil mode)
 start-told : (config : Config) (read write caller : ℕ) (effects : List Effect) (child : ChildView) → Starts config.run child
     → Tells config (start_call read write caller effects ∷ []) (told_of child child.stand)
 start-told config read write caller effects child starts =
-    record { command = starts.command; given = starts.given; taken = starts.fetched; ended = λ e. absurd (cc); status = none (option_map status_of child.stand) }
+    record { command = starts.command; given = starts.given; taken = starts.fetched; at_end = starts.at_end; ended = λ e. absurd (cc); status = none (option_map status_of child.stand) }
   where
     none : (o : Option (Option ℤ)) → IfSome o (λ (own : Option ℤ). All (λ (status : ℤ). own ≡ Some status) [])
     none None = tt
     none (Some own) = All-nil _
 
--- a driver that keeps what calls leave has a program
-pub programs-told : ProgramsAreTold
-programs-told None kept own = let bad : Nothing ≡ Running kept = own in absurd (cc)
-programs-told (Some s) kept own = refl
+-- a driver tells of the program that it has
+pub tells-of-program : (program : Option Serving) → TellsOfProgram (own_of program) (program_of program)
+tells-of-program None = tt
+tells-of-program (Some s) = refl
 
 pub Began-start : (config : Config) (child : ChildView) (kept : Program) (before after : Context) (read write : ℕ) → kept ≡ fresh_program config read write → before.queue ≡ []
     → before.held ≡ [] → before.next_job ≡ 0 → Starts config.run child → after ≡ with_effects before (Select read Read true ∷ [])

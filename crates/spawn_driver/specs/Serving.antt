@@ -37,7 +37,7 @@ status_of stand = if is_empty stand.gives then stand.ended else None
 
 -- what is told of a child that stands so, and of one that doesn't tell how it stands, as those of the machine don't
 abbrev pub told_of : ChildView → Option Stand → ToldProgram
-told_of child stand = record { command = child.command; given = child.given; taken = child.fetched; status = option_map status_of stand }
+told_of child stand = record { command = child.command; given = child.given; taken = child.fetched; at_end = child.at_end; status = option_map status_of stand }
 
 -- what is told of a child
 abbrev pub told : ChildView → Option ToldProgram
@@ -46,10 +46,6 @@ told child = Some (told_of child child.stand)
 abbrev pub program_of : Option Serving → Option ToldProgram
 program_of None = None
 program_of (Some s) = told s.child
-
--- a driver that keeps what calls leave tells of its program
-abbrev pub ProgramsAreTold : Type 0
-ProgramsAreTold = (program : Option Serving) (kept : Program) → own_of program ≡ Running kept → IsSome (program_of program)
 
 -- a driver of programs: where it stands, the count of its spawner's faults, and its program
 pub record SpawnView : Type 0 where

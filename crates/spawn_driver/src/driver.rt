@@ -2,7 +2,7 @@ ghost use Rattle.std.specs.Prelude.{◌≡◌, ◌≤◌, [], None, length, OnOk
 ghost use Rattle.driver_model.specs.Calls.{Spawn, ReadyInput, ReadyOutput};
 ghost use Rattle.port_driver.specs.Driven.{Did, KeepsRoom};
 ghost use Rattle.spawn_driver.specs.Answered.{Answered, stand_of};
-ghost use Rattle.spawn_driver.specs.Serving.{ProgramsAreTold, all_faults, own_of, program_of};
+ghost use Rattle.spawn_driver.specs.Serving.{all_faults, own_of, program_of};
 
 use crate::kept::Kept;
 use crate::output::{front, select};
@@ -46,11 +46,6 @@ impl<S: Spawner> Model for SpawnDriver<S> {
 
     ghost invariant = { λ d. HasProgram d.life d.program };
 }
-
-/// A driver that has served a port tells of the program that it started: what this was given and what was taken from it. That holds of programs of the machine as of those in memory.
-pub fn programs_are_told()
-    ensures { ProgramsAreTold }
-{}
 
 /// A fresh driver, whose program the spawner starts.
 pub fn spawn_driver<S: Spawner>(spawner: S) -> SpawnDriver<S>

@@ -17,5 +17,5 @@ mod starting;
 mod told;
 mod unframing;
 
-pub use driver::{SpawnDriver, programs_are_told, spawn_driver};
+pub use driver::{SpawnDriver, spawn_driver};
 pub use recorded_program::RecordedProgram;

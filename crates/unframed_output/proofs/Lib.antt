@@ -12,3 +12,4 @@ pub mod Declared
 pub mod Input
 pub mod Whole
 pub mod Taken
+pub mod Ended

@@ -15,6 +15,7 @@ use Rattle.driver_model.specs.port_model.declared.row.Row.{Row}
 use Rattle.driver_model.specs.port_model.declared.row.Row.TheVariants.{Handled}
 use Rattle.driver_model.specs.port_signal.Reasons.{is_kill}
 use Rattle.driver_model.specs.Calls.{Spawn}
+use Rattle.driver_model.specs.Programs.{output_ended}
 use Rattle.driver_model.specs.Spawn.{asked, given, taken_bytes}
 use Rattle.port_history.specs.Counts.{saved_of}
 use Rattle.port_history.specs.Mail.{mails}
@@ -50,6 +51,10 @@ KeepsOwner (row ∷ older) = KeepsOwner older
 -- the calls of the driver took what the rows tell
 abbrev pub OutputIsTaken : Type 0
 OutputIsTaken = (port : Opening) (history : List Row) → IsOfProgram port history → taken_bytes (state port history).calls ≡ bytes_taken history
+
+-- the driver was told the end of the output where the rows tell it
+abbrev pub EndIsTold : Type 0
+EndIsTold = (port : Opening) (history : List Row) → IsOfProgram port history → output_ended (state port history).calls ≡ has_ended history
 
 abbrev pub OutputIsUnframed : Type 0
 OutputIsUnframed = (port : Opening) (history : List Row) → IsOfProgram port history

@@ -2,12 +2,13 @@
 //! what it was asked to. Definitions and laws alone.
 #![tactic(auto)]
 
-ghost use Rattle.unframed_output.specs.Laws.{ChunkFails, InputIsTaken, InputIsWhole, MessagesAreDeclared, OutputIsSaved, OutputIsTaken, OutputIsUnframed};
+ghost use Rattle.unframed_output.specs.Laws.{ChunkFails, EndIsTold, InputIsTaken, InputIsWhole, MessagesAreDeclared, OutputIsSaved, OutputIsTaken, OutputIsUnframed};
 
-/// The calls of the driver took the bytes that the rows tell. The messages that the rows of a program's port sent are those of these bytes, but for a chunk that failed the port; and what its opener saves of
+/// The calls of the driver took the bytes that the rows tell, and were told their end where the rows tell it. The messages that the rows of a program's port sent are those of these bytes, but for a chunk that failed the port; and what its opener saves of
 /// them, as long as it stays the owner, is a function of these bytes and of whether their end was told.
 pub fn output_is_unframed()
     ensures taken { OutputIsTaken }
+    ensures ended { EndIsTold }
     ensures messages { OutputIsUnframed }
     ensures saved { OutputIsSaved }
 {}
