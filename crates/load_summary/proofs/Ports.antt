@@ -25,9 +25,8 @@ use Rattle.script_input.specs.run_setting.run_end.process_receipts.Asks.{Asked}
 use Rattle.script_input.specs.run_setting.run_end.process_receipts.Receipts.{AreReceipts, accepted}
 use Rattle.script_input.specs.run_setting.run_end.process_job.Asks.{calls_of as calls_by, end_reason, made_of}
 use Rattle.script_input.specs.run_setting.run_end.process_job.Mails.{mail_from, messages_of, readable}
-use Rattle.script_input.specs.run_setting.run_end.process_job.Waits.{ShowsClosed}
+use Rattle.script_input.specs.run_setting.run_end.process_job.Waits.{ShowsClosed, WaitsAreShown}
 use Rattle.script_input.specs.run_setting.run_end.Shown.{Calls}
-use Rattle.script_input.specs.run_setting.run_end.Waited.{WaitsAreShown}
 use Rattle.script_input.specs.run_setting.run_seats.declared.plans.Program.{Program}
 use Rattle.script_input.specs.Programs.{steps_of as steps_by}
 use Rattle.script_plan.specs.declared.decl.PortDecl.{PortDecl}
@@ -231,7 +230,8 @@ module _ {D : Type 0} (kind : D → Kind) (stage : D → Life) (faults : D → �
         }) in
         omega (arith, had, few))
         (λ (closed : ShowsClosed k (calls_at k).receipts). absurd (owner-finds-open k below is closed))
-        (owner-waits number k mail (calls_at k).receipts below (subst (WaitsAreShown mail (calls_at k).receipts) (program-is k early) holds.waited))
+        (owner-waits number k mail (get_or left.processes.items k l).receipts (program_at q k).files.items below
+        (subst (λ steps. WaitsAreShown mail (get_or left.processes.items k l).receipts steps (program_at q k).files.items) (program-is k early) holds.waited))
 
     pub port-whole : (k : ℕ) → k < 4 → IsWhole (open_at k) (rows_at k) (commands_to k steps) (command_bytes k steps)
     port-whole k below =

@@ -1,16 +1,20 @@
 -- The steps of a load: plain commands, and the waits of the first four processes.
-use Rattle.std.proofs.Common.{◌≡◌, ℕ, zero, suc, ◌+◌, ◌*◌, ◌/◌, ◌^◌, ◌<◌, List, [], ◌∷◌, length, map, take, drop, Bool, true, false, cond, eqb, refl, sym, subst, arith}
-use Rattle.std.specs.Prelude.{filter, nat_lt}
+use Rattle.std.proofs.Common.{◌≡◌, ℕ, zero, suc, ◌+◌, ◌*◌, ◌/◌, ◌^◌, ◌<◌, ◌≤◌, ◌⊎◌, List, [], ◌∷◌, ◌++◌, length, map, take, drop, Bool, true, false, cond, eqb, Some, refl, sym, ap, ◌∙◌, subst, append_assoc, arith, inl, inr}
+use Rattle.std.specs.Prelude.{filter, nat_lt, reverse}
 use Rattle.std.specs.List.{All, flat_map}
+use Rattle.std.proofs.lemmas.List.{append-nil, reverse-append, take-append-drop}
 use Rattle.std.proofs.lemmas.List.Elements.{All-append, All-cons, All-filter, All-head, All-nil, All-tail, filter-append}
 use Rattle.std.proofs.lemmas.List.Sums.{sum_by-cons}
 use Rattle.std.proofs.lemmas.Nat.{mod_below}
 use Rattle.port_model.specs.declared.mail.Mail.{Mail}
 use Rattle.script_input.specs.run_setting.run_end.process_receipts.declared.receipt.Receipt.{Receipt}
-use Rattle.script_input.specs.run_setting.run_end.Waited.{WaitIsShown, WaitsAreShown}
+use Rattle.script_input.specs.run_setting.run_end.process_job.Asks.{asks_of, files_after, made_of_step, next_content}
+use Rattle.script_input.specs.run_setting.run_end.process_job.Mails.{bytes_of, messages_of}
+use Rattle.script_input.specs.run_setting.run_end.process_job.Waits.{ShowsClosed, StaysClosed, WaitIsShown, WaitsAreShown, last_receipt, stat_shown}
 use Rattle.script_input.specs.Programs.{steps_of as steps_by}
 use Rattle.script_plan.specs.declared.step.Step.{Step}
-use Rattle.script_plan.specs.declared.step.Act.TheVariants.{Expect}
+use Rattle.script_plan.specs.declared.step.Act.{Act}
+use Rattle.script_plan.specs.declared.step.Act.TheVariants.{Bytes, Expect}
 use Rattle.script_load.specs.Load.{command_count, commands, commands_to, first_line, load_plan, port_of, port_with, ports, process_of, processes, steps_of, values, waits}
 use Rattle.script_load.proofs.Plans.{counts-all}
 use Rattle.script_load.proofs.Values.{length-values}
@@ -58,12 +62,48 @@ plan-plain number = subst (All StepIsPlain) (sym (plan-steps number)) (all-plain
 pub program-plain : (number process : ℕ) → All StepIsPlain (steps_by process (load_plan number).steps)
 program-plain number process = All-filter (λ (s : Step). eqb s.process process) StepIsPlain (load_plan number).steps (plan-plain number)
 
--- what the waits of a process show, step by step
-each-shown : (mails : List Mail) (receipts : List Receipt) (steps : List Step) → All StepIsPlain steps → WaitsAreShown mails receipts steps → All (λ (s : Step). WaitIsShown mails receipts s.act) steps
-each-shown mails receipts [] plain shown = All-nil (λ (s : Step). WaitIsShown mails receipts s.act)
-each-shown mails receipts (step ∷ steps) plain shown =
-    All-cons (λ (s : Step). WaitIsShown mails receipts s.act) step steps shown.0
-    (each-shown mails receipts steps (All-tail StepIsPlain step steps plain) (shown.1 (stays-alive step.act (All-head StepIsPlain step steps plain))))
+-- the mail has so much data of the port, or the port is closed by its last receipt, of which the newest stand first
+abbrev pub WaitShows : List Mail → List Receipt → Act → Type 0
+WaitShows mails newest (Expect port count) = (count ≤ messages_of port mails) ⊎ ShowsClosed port newest
+WaitShows mails newest (Bytes port count) = (count ≤ bytes_of port mails) ⊎ ShowsClosed port newest
+WaitShows mails newest _ = Unit {0}
+
+-- the last receipt for a port is among those that came last
+last-front : (port : ℕ) (receipts older : List Receipt) (stat : ℕ) → stat_shown (last_receipt port receipts) ≡ Some stat → stat_shown (last_receipt port (receipts ++ older)) ≡ Some stat
+last-front port [] older stat shown = absurd (cc)
+last-front port (receipt ∷ receipts) older stat shown = at (eqb receipt.port port) shown
+  where
+    at : (b : Bool) → stat_shown (cond b (Some receipt) (last_receipt port receipts)) ≡ Some stat → stat_shown (cond b (Some receipt) (last_receipt port (receipts ++ older))) ≡ Some stat
+    at true e = e
+    at false e = last-front port receipts older stat e
+
+closes-more : (port : ℕ) (receipts older : List Receipt) → StaysClosed port receipts → ShowsClosed port (reverse receipts ++ older)
+closes-more port receipts older stays =
+    record { stat = stays.last.stat; shown = last-front port (reverse receipts) older stays.last.stat stays.last.shown; closed = stays.last.closed }
+
+wait-shows : (mails : List Mail) (receipts older : List Receipt) (act : Act) → WaitIsShown mails receipts act → WaitShows mails (reverse receipts ++ older) act
+wait-shows mails receipts older (Expect port count) (inl had) = inl had
+wait-shows mails receipts older (Expect port count) (inr stays) = inr (closes-more port receipts older stays)
+wait-shows mails receipts older (Bytes port count) (inl had) = inl had
+wait-shows mails receipts older (Bytes port count) (inr stays) = inr (closes-more port receipts older stays)
+wait-shows mails receipts older _ shown = tt
+
+-- receipts of which the first stand apart
+parted : (n : ℕ) (receipts older : List Receipt) → reverse (drop n receipts) ++ (reverse (take n receipts) ++ older) ≡ reverse receipts ++ older
+parted n receipts older =
+    sym (append_assoc (reverse (drop n receipts)) (reverse (take n receipts)) older)
+    ∙ ap (λ l. l ++ older) (sym (reverse-append (take n receipts) (drop n receipts)) ∙ ap reverse (take-append-drop n receipts))
+
+-- what the waits of a process show, step by step: `receipts` are those from these steps on, and `older` those before them
+each-shows : (mails : List Mail) (receipts older whole : List Receipt) (steps : List Step) (files : List (List ℕ)) → reverse receipts ++ older ≡ whole → All StepIsPlain steps
+    → WaitsAreShown mails receipts steps files → All (λ (s : Step). WaitShows mails whole s.act) steps
+each-shows mails receipts older whole [] files is plain shown = All-nil (λ (s : Step). WaitShows mails whole s.act)
+each-shows mails receipts older whole (step ∷ steps) files is plain shown =
+    let n = length (made_of_step (asks_of step.line step.act (next_content files)) receipts) in
+    All-cons (λ (s : Step). WaitShows mails whole s.act) step steps
+    (subst (λ l. WaitShows mails l step.act) is (wait-shows mails receipts older step.act shown.0))
+    (each-shows mails (drop n receipts) (reverse (take n receipts) ++ older) whole steps (files_after step.act files) (parted n receipts older ∙ is) (All-tail StepIsPlain step steps plain)
+    (shown.1 (stays-alive step.act (All-head StepIsPlain step steps plain))))
 
 -- each of the first four processes waits for the commands of its own port
 module _ (P : Step → Type 0) (xs : List ℕ) where
@@ -96,14 +136,14 @@ module _ (P : Step → Type 0) (xs : List ℕ) where
   wait-there (suc (suc (suc (suc n)))) below all = absurd (omega (arith, below))
 
 -- the wait of a port's owner
-pub owner-waits : (number process : ℕ) (mails : List Mail) (receipts : List Receipt) → process < 4 → WaitsAreShown mails receipts (steps_by process (load_plan number).steps)
-    → WaitIsShown mails receipts (Expect process (commands_to process (load_plan number).steps))
-owner-waits number process mails receipts below shown =
+pub owner-waits : (number process : ℕ) (mails : List Mail) (receipts : List Receipt) (files : List (List ℕ)) → process < 4
+    → WaitsAreShown mails receipts (steps_by process (load_plan number).steps) files → WaitShows mails (reverse receipts) (Expect process (commands_to process (load_plan number).steps))
+owner-waits number process mails receipts files below shown =
     let xs = values 16000 number in
-    let P : Step → Type 0 = λ s. WaitIsShown mails receipts s.act in
-    subst (λ n. WaitIsShown mails receipts (Expect process n)) (sym (counts-all number process))
+    let P : Step → Type 0 = λ s. WaitShows mails (reverse receipts) s.act in
+    subst (λ n. WaitShows mails (reverse receipts) (Expect process n)) (sym (counts-all number process))
     (wait-there P xs process below (subst (λ l. All P (filter (λ (s : Step). eqb s.process process) l)) (plan-steps number)
-    (each-shown mails receipts (steps_by process (load_plan number).steps) (program-plain number process) shown)))
+    (each-shows mails receipts [] (reverse receipts) (steps_by process (load_plan number).steps) files (append-nil (reverse receipts)) (program-plain number process) shown)))
 
 -- all commands go to some port
 port-below : (x : ℕ) → port_of x < 4

@@ -59,33 +59,31 @@ apart : (n m : ℕ) → eqb n m ≡ false → n ≢ m
 apart n m e = grind (arith, nat_tests)
 
 -- a port that was told last
-told-here : (reason : List ℕ) (old new : ProcView) (receipt : Receipt) (d : SendKnown) → HasToldPort reason old new receipt → saw_closed (slice_index_or new.seats old.told d).sender.stats ≡ true
-    → ShowsClosed old.told new.receipts
-told-here reason old new receipt d h saw =
+told-here : (reason : List ℕ) (old new : ProcView) (receipt : Receipt) (older : List Receipt) (d : SendKnown) → HasToldPort reason old new receipt
+    → saw_closed (slice_index_or new.seats old.told d).sender.stats ≡ true → ShowsClosed old.told (receipt ∷ older)
+told-here reason old new receipt older d h saw =
     let is = h.made.is_receipt in
     let at = found (calls_of old) (soft_at old.told old.soft) reason old.told (slice_index_or old.seats old.told d) (slice_index_or new.seats old.told d) receipt.outcome receipt.stat receipt.msgq is.cause (h.made.steps d) in
-    let receipts : new.receipts ≡ receipt ∷ old.receipts = ap (λ (p : ProcView). p.receipts) h.made.rest in
     record {
       stat = at.0;
-      shown = ap (λ l. stat_shown (last_receipt old.told l)) receipts ∙ ap stat_shown (newest old.told receipt old.receipts is.port) ∙ at.1;
+      shown = ap stat_shown (newest old.told receipt older is.port) ∙ at.1;
       closed = at.2 saw;
     }
 
 -- each port that was told
 pub told-shown : (reason : List ℕ) (old : ProcView) (receipts : List Receipt) (new : ProcView) → HasToldPorts reason old receipts new → (k : ℕ) (d : SendKnown) → old.told ≤ k → k < new.told
-    → saw_closed (slice_index_or new.seats k d).sender.stats ≡ true → ShowsClosed k new.receipts
+    → saw_closed (slice_index_or new.seats k d).sender.stats ≡ true → ShowsClosed k receipts
 told-shown reason old [] new h k d from below saw = absurd (let same = ap (λ (p : ProcView). p.told) h in omega (arith, same, from, below))
 told-shown reason old (receipt ∷ receipts) new h k d from below saw = split (eqb k h.0.told)
     (λ e. let at : k ≡ h.0.told = same-from k h.0.told e in
-    subst (λ n. ShowsClosed n new.receipts) (sym at) (told-here reason h.0 new receipt d h.2 (subst (λ n. saw_closed (slice_index_or new.seats n d).sender.stats ≡ true) at saw)))
+    subst (λ n. ShowsClosed n (receipt ∷ receipts)) (sym at) (told-here reason h.0 new receipt receipts d h.2 (subst (λ n. saw_closed (slice_index_or new.seats n d).sender.stats ≡ true) at saw)))
     (λ e. let counts = h.2.counts in
     let differs : k ≢ h.0.told = apart k h.0.told e in
     let less : k < h.0.told = omega (arith, counts, below, differs) in
     let is = h.2.made.is_receipt.port in
-    let receipts-are : new.receipts ≡ receipt ∷ h.0.receipts = ap (λ (p : ProcView). p.receipts) h.2.made.rest in
     let s = told-shown reason old receipts h.0 h.1 k d from less (sym (ap (λ (x : SendKnown). saw_closed x.sender.stats) (h.2.made.touched.seats_same k d differs)) ∙ saw) in
     record {
       stat = s.stat;
-      shown = ap (λ l. stat_shown (last_receipt k l)) receipts-are ∙ ap stat_shown (older-one k receipt h.0.receipts (omega (arith, less, is))) ∙ s.shown;
+      shown = ap stat_shown (older-one k receipt receipts (omega (arith, less, is))) ∙ s.shown;
       closed = s.closed;
     })

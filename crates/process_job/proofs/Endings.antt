@@ -1,6 +1,8 @@
 -- The end of a process that made its steps.
-use Rattle.std.proofs.Common.{◌≡◌, ℕ, ◌+◌, ◌<◌, List, [], ◌∷◌, ◌++◌, length, Bool, true, false, cond, ◌&&◌, zero, suc, None, refl, sym, ap, ◌∙◌, subst, append_assoc, arith, zero-add}
+use Rattle.std.proofs.Common.{◌≡◌, ℕ, ◌+◌, ◌<◌, ◌≤◌, List, [], ◌∷◌, ◌++◌, length, Bool, true, false, cond, ◌&&◌, zero, suc, None, refl, sym, ap, ◌∙◌, subst, append_assoc, arith, zero-add, ⊎_elim}
 use Rattle.std.specs.Prelude.{map, reverse}
+use Rattle.std.specs.List.{AllByRecursion}
+use Rattle.std.proofs.lemmas.Bool.{cases_lt}
 use Rattle.std.proofs.lemmas.List.{append-nil, reverse-append, reverse-reverse}
 use Rattle.port_model.specs.declared.mail.Mail.{Mail}
 use Rattle.port_words.specs.busy.Known.{SendKnown}
@@ -18,10 +20,11 @@ use Rattle.process_job.specs.Mails.{Came, mail_from, own_mails, is_closed, nopro
 use Rattle.process_job.specs.Going.{ProcessState, state, AreSamePorts, HasHeard}
 use Rattle.process_job.specs.Jobs.{IsFreshProcess}
 use Rattle.process_job.specs.Steps.{HasMadeSteps, HasRunToEnd, HasTakenNone}
+use Rattle.process_job.specs.Waits.{AgreesClosed, FoundClosed, ShowsClosed, WaitsAreShown}
 use Rattle.process_job.proofs.Closing.{told-shown}
 use Rattle.process_job.proofs.Mailing.{own_mails-append, replied_append}
 use Rattle.process_job.proofs.Ports.{same_ports, ports_then, ports_made}
-use Rattle.process_job.proofs.Stepping.{waited_all_later}
+use Rattle.process_job.proofs.Shut.{agrees_closed, all_reverse, closed_beyond, no_seat}
 
 -- what telling the ports leaves
 pub record TellsPorts (receipts : List Receipt) (old new : ProcView) : Type 0 where
@@ -44,6 +47,15 @@ told_ports reason old (receipt ∷ receipts) new h =
       ports = ports_then old.lanes h.0.lanes new.lanes old.seats h.0.seats new.seats t.ports (ports_made (gone_ask reason h.0.told) receipt h.0 (record new { told = h.0.told }) h.2.made);
     }
 
+-- no port that was found closed is told as an open one
+told_closed : (reason : List ℕ) (old : ProcView) (receipts : List Receipt) (new : ProcView) → HasToldPorts reason old receipts new → (k : ℕ) → FoundClosed k old.seats
+    → AllByRecursion (AgreesClosed k) receipts
+told_closed reason old [] new h k found = tt
+told_closed reason old (receipt ∷ receipts) new h k found =
+    let t = told_ports reason old receipts h.0 h.1 in
+    (agrees_closed k (gone_ask reason h.0.told) receipt h.0 (record new { told = h.0.told }) h.2.made (λ d. (t.ports.same_seats k d).closed (found d)),
+    told_closed reason old receipts h.0 h.1 k found)
+
 -- who tells its end adds no mail, and waits for no answer
 gone_mails : (reason : List ℕ) (from : ℕ) (receipts : List Receipt) (count : ℕ) → own_mails (gone_asks reason from count) receipts ≡ []
 gone_mails reason from receipts zero = refl
@@ -62,11 +74,6 @@ gone_replied reason from (receipt ∷ receipts) mails (suc count) = (λ e. absur
 length-gone : (reason : List ℕ) (from count : ℕ) → length (gone_asks reason from count) ≡ count
 length-gone reason from zero = refl
 length-gone reason from (suc count) = ap suc (length-gone reason from count)
-
--- a place of a list has a seat
-with-seat : {A : Type 0} (seats : List SendKnown) (k : ℕ) → k < length seats → (SendKnown → A) → A
-with-seat [] k below f = absurd (omega (arith, below))
-with-seat (seat ∷ seats) k below f = f seat
 
 pub run_to_end : (steps : List Step) (files : List (List ℕ)) (old mid : ProcView) (reason : List ℕ) (end : ProcEnd) (mails : List Mail) → IsFreshProcess old
     → HasMadeSteps steps files (state old []) (state mid mails) reason
@@ -87,6 +94,16 @@ run_to_end steps files old mid reason end mails fresh m silent e =
     let asked : HasAsked (gone ++ m.asks) e.new =
     subst (λ n. HasAsked (gone_asks reason n count ++ m.asks) e.new) start
     (e.told.asked m.asks (subst (λ l. HasAsked l mid) (append-nil m.asks) (goes.asked [] fresh.asked))) in
+    let shown : (k : ℕ) → FoundClosed k mid.seats → ShowsClosed k told = λ k found.
+    let lanes = t.ports.lanes_many in
+    let seats = t.ports.seats_many in
+    let both = e.keeps.seats in
+    let all_told = e.all in
+    ⊎_elim
+    (λ (below : k < length mid.seats).
+    told-shown reason mid told e.new e.told.told k no_seat (omega (arith, start)) (omega (arith, all_told, both, seats, below)) ((t.ports.same_seats k no_seat).closed (found no_seat)))
+    (λ (past : length mid.seats ≤ k). absurd (closed_beyond mid.seats k past found))
+    (cases_lt k (length mid.seats)) in
     record {
       asks = reverse (gone ++ m.asks);
       asks_are = reverse-append gone m.asks
@@ -115,12 +132,15 @@ run_to_end steps files old mid reason end mails fresh m silent e =
           ∙ sym (own_mails-append gone m.asks told m.receipts many)
           ∙ ap (λ l. own_mails l (told ++ m.receipts)) (sym newest)
           ∙ ap (λ l. own_mails (reverse (reverse (gone ++ m.asks))) l) (sym received);
-      waited = waited_all_later steps (state mid mails) mails e.new.seats (record { more = []; mails_are = sym (append-nil mails); closed = λ k d c. (t.ports.same_seats k d).closed c }) m.waited;
-      shown = λ k below closed.
-          let lanes : length e.new.lanes ≡ length old.lanes = t.ports.lanes_many ∙ goes.ports.lanes_many in
-          let seats = e.keeps.seats in
-          let all_told = e.all in
-          with-seat e.new.seats k (omega (arith, lanes, seats, below)) (λ d. told-shown reason mid told e.new e.told.told k d (omega (arith, start)) (omega (arith, all_told, lanes, below)) (closed d));
+      waited = subst (λ l. WaitsAreShown mails l steps files) (sym (e.receipts_are ∙ ap reverse received ∙ reverse-append told m.receipts))
+          (m.waited mails (reverse told) (record {
+            more = [];
+            mails_are = sym (append-nil mails);
+            closed = λ k found. record {
+              each = all_reverse (AgreesClosed k) told (told_closed reason mid told e.new e.told.told k found);
+              last = subst (ShowsClosed k) (sym (reverse-reverse told)) (shown k found);
+            };
+          }));
       replied = subst (λ l. AreReplied l e.new.receipts mails) (sym newest) (subst (λ l. AreReplied (gone ++ m.asks) l mails) (sym received)
           (replied_append gone m.asks told m.receipts mails many (gone_replied reason 0 told mails count) m.makes.replied));
     }

@@ -12,7 +12,9 @@ use Rattle.process_end.specs.Mailbox.{TookMail, FoundNone}
 use Rattle.process_job.specs.Mails.{Came, came_from, mail_from, own_mails, is_closed, noproc_mail, readable, AreReplied}
 use Rattle.process_job.specs.Going.{ProcessState, state, AreSamePorts, HasHeard, Goes, MakesCalls, Waits}
 use Rattle.process_job.proofs.Mailing.{mail_from-append, mails_came, own_came, none_own, own_mails-append, replied_more, replied_append, heard_none, heard_then, heard_own, heard_took}
+use Rattle.process_job.specs.Waits.{AgreesClosed}
 use Rattle.process_job.proofs.Ports.{same_ports, ports_then, ports_made, ports_looked}
+use Rattle.process_job.proofs.Shut.{agrees_closed, all_append}
 
 pub goes_none : (s : ProcessState) → Goes [] [] [] s s
 goes_none s = record {
@@ -23,6 +25,7 @@ goes_none s = record {
   ports = same_ports s.proc.lanes s.proc.seats;
   many = refl;
   receipts_are = refl;
+  closed = λ k found. tt;
   asked = λ before h. h;
   heard = heard_none s.proc.mailbox;
   own = refl;
@@ -39,6 +42,7 @@ goes_then xs ys rs ss came more one two three f g = record {
   ports = ports_then _ _ _ _ _ _ f.ports g.ports;
   many = let a = f.many in let b = g.many in omega (arith, length-append ys xs, length-append ss rs);
   receipts_are = g.receipts_are ∙ ap (λ l. ss ++ l) f.receipts_are ∙ sym (append_assoc ss rs one.proc.receipts);
+  closed = λ k found. all_append (AgreesClosed k) ss rs (g.closed k (λ d. (f.ports.same_seats k d).closed (found d))) (f.closed k found);
   asked = λ before h. subst (λ l. HasAsked l three.proc) (sym (append_assoc ys xs before)) (g.asked (xs ++ before) (f.asked before h));
   heard = heard_then came more one.proc.mailbox two.proc.mailbox three.proc.mailbox f.heard g.heard;
   own = mail_from-append None came more
@@ -77,6 +81,7 @@ goes_mailed old new mails new_mails came e asked heard none are = record {
   ports = subst (λ (p : ProcView). AreSamePorts old.lanes p.lanes old.seats p.seats) (sym e) (same_ports old.lanes old.seats);
   many = refl;
   receipts_are = ap (λ (p : ProcView). p.receipts) e;
+  closed = λ k found. tt;
   asked = asked;
   heard = heard;
   own = none;
@@ -110,6 +115,7 @@ waits_seats old new mails e asked ports = (
     ports = ports;
     many = refl;
     receipts_are = ap (λ (p : ProcView). p.receipts) e;
+    closed = λ k found. tt;
     asked = asked;
     heard = subst (λ (p : ProcView). HasHeard [] old.mailbox p.mailbox) (sym e) (heard_none old.mailbox);
     own = refl;
@@ -132,6 +138,7 @@ goes_made ask receipt old new mails new_mails own h is are = record {
   ports = ports_made ask receipt old new h;
   many = refl;
   receipts_are = ap (λ (p : ProcView). p.receipts) h.rest;
+  closed = λ k found. (agrees_closed k ask receipt old new h found, tt);
   asked = h.asked;
   heard = subst (λ (p : ProcView). HasHeard (map (came_from None) own) old.mailbox p.mailbox) (sym h.rest) (heard_own own old.mailbox);
   own = own_came own ∙ sym is;

@@ -1,6 +1,7 @@
 pub mod Counting
 pub mod Mailing
 pub mod Ports
+pub mod Shut
 pub mod Goings
 pub mod Seating
 pub mod Resuming

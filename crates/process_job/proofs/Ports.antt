@@ -29,7 +29,7 @@ seat_then r s t one two = record {
   closed = λ e. two.closed (one.closed e);
 }
 
-closed_more : (stats more : List ℕ) → saw_closed stats ≡ true → saw_closed (stats ++ more) ≡ true
+pub closed_more : (stats more : List ℕ) → saw_closed stats ≡ true → saw_closed (stats ++ more) ≡ true
 closed_more stats more e = list_any-append tells_closed stats more ∙ ap (λ b. b || list_any tells_closed more) e
 
 seat_looked : (s : SendKnown) (stat : ℕ) → IsSameSeat s (looked s stat)

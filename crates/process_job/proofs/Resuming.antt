@@ -67,6 +67,7 @@ waits_found old new mails new_mails e heard asked ports are = (
     ports = ports;
     many = refl;
     receipts_are = ap (λ (p : ProcView). p.receipts) e;
+    closed = λ k found. tt;
     asked = asked;
     heard = heard;
     own = refl;

@@ -21,11 +21,12 @@ use Rattle.process_job.specs.declared.action.StepAction.{StepAction}
 use Rattle.process_job.specs.declared.action.StepAction.TheVariants as action
 use Rattle.process_job.specs.Asks.{is_file, asks_of, calls_of, end_reason, reason_of, files_after, made_of, made_of_step, next_content}
 use Rattle.process_job.specs.Mails.{Came, messages_of, bytes_of, is_data_of, size_from}
-use Rattle.process_job.specs.Waits.{FoundClosed, HasWaited, HaveWaited}
+use Rattle.process_job.specs.Waits.{HasWaited, WaitIsShown, WaitsAreShown}
 use Rattle.process_job.specs.Actions.{action_of, asks_by, ActionWithin, EndedWait}
 use Rattle.process_job.specs.Going.{ProcessState, Goes, MakesCalls}
 use Rattle.process_job.specs.Steps.{AreMadeOf, HasComeTo, HasMadeSteps, IsLater, MakesCallsOf}
 use Rattle.process_job.proofs.Goings.{goes_none, makes_then}
+use Rattle.process_job.proofs.Shut.{stays_closed}
 
 -- what an action is of its step
 pub record IsActionOf (line : ℕ) (act : Act) (content : List ℕ) (action : StepAction) : Type 0 where
@@ -86,26 +87,21 @@ more_messages port mails more count h = let e = ap length (filter-append (is_dat
 more_bytes : (port : ℕ) (mails more : List Mail) (count : ℕ) → count ≤ bytes_of port mails → count ≤ bytes_of port (mails ++ more)
 more_bytes port mails more count h = let e = sum_by-append (size_from port) mails more in omega arith
 
-closed_later : (now : ProcessState) (mails : List Mail) (seats : List SendKnown) (port : ℕ) → IsLater now mails seats → FoundClosed port now.proc.seats → FoundClosed port seats
-closed_later now mails seats port l f = λ d. l.closed port d (f d)
+-- what an act has waited for is shown, whatever comes later
+step_shown : (now : ProcessState) (mails : List Mail) (later : List Receipt) (act : Act) → IsLater now mails later → HasWaited now.mails now.proc.seats act → WaitIsShown mails later act
+step_shown now mails later (Expect port count) l (inl h) = inl (subst (λ m. count ≤ messages_of port m) (sym l.mails_are) (more_messages port now.mails l.more count h))
+step_shown now mails later (Expect port count) l (inr h) = inr (l.closed port h)
+step_shown now mails later (Bytes port count) l (inl h) = inl (subst (λ m. count ≤ bytes_of port m) (sym l.mails_are) (more_bytes port now.mails l.more count h))
+step_shown now mails later (Bytes port count) l (inr h) = inr (l.closed port h)
+step_shown now mails later _ l h = tt
 
-waited_later : (now : ProcessState) (mails : List Mail) (seats : List SendKnown) (act : Act) → IsLater now mails seats → HasWaited now.mails now.proc.seats act → HasWaited mails seats act
-waited_later now mails seats (Expect port count) l (inl h) = inl (subst (λ m. count ≤ messages_of port m) (sym l.mails_are) (more_messages port now.mails l.more count h))
-waited_later now mails seats (Expect port count) l (inr h) = inr (closed_later now mails seats port l h)
-waited_later now mails seats (Bytes port count) l (inl h) = inl (subst (λ m. count ≤ bytes_of port m) (sym l.mails_are) (more_bytes port now.mails l.more count h))
-waited_later now mails seats (Bytes port count) l (inr h) = inr (closed_later now mails seats port l h)
-waited_later now mails seats _ l h = tt
-
-pub later_goes : (asks : List Asked) (receipts : List Receipt) (came : List Came) (old new : ProcessState) (mails : List Mail) (seats : List SendKnown)
-    → Goes asks receipts came old new → IsLater new mails seats → IsLater old mails seats
-later_goes asks receipts came old new mails seats f l = record {
+later_goes : (asks : List Asked) (receipts : List Receipt) (came : List Came) (old new : ProcessState) (mails : List Mail) (later : List Receipt)
+    → Goes asks receipts came old new → IsLater new mails later → IsLater old mails (reverse receipts ++ later)
+later_goes asks receipts came old new mails later f l = record {
   more = map (λ (c : Came). c.mail) came ++ l.more;
   mails_are = l.mails_are ∙ ap (λ m. m ++ l.more) f.mails_are ∙ append_assoc old.mails (map (λ (c : Came). c.mail) came) l.more;
-  closed = λ k d e. l.closed k d ((f.ports.same_seats k d).closed e);
+  closed = λ k found. stays_closed k receipts later (f.closed k found) (l.closed k (λ d. (f.ports.same_seats k d).closed (found d)));
 }
-
-pub later_self : (s : ProcessState) → IsLater s s.mails s.proc.seats
-later_self s = record { more = []; mails_are = sym (append-nil s.mails); closed = λ k d e. e }
 
 pub come_none : (steps : List Step) (files : List (List ℕ)) (s : ProcessState) → HasComeTo steps files s steps files s
 come_none steps files s = record {
@@ -115,8 +111,12 @@ come_none steps files s = record {
   makes = record { goes = goes_none s; replied = tt };
   made = λ later. refl;
   reason = refl;
-  waited = λ mails seats l h. h;
+  waited = λ mails later l h. h;
 }
+
+pub empty_list : {A : Type 0} (xs : List A) → length xs ≡ 0 → xs ≡ []
+empty_list [] e = refl
+empty_list (x ∷ xs) e = absurd (omega arith)
 
 same_many : (asks : List Asked) (receipts : List Receipt) → length asks ≡ length receipts → length (reverse asks) ≡ length (reverse receipts)
 same_many asks receipts e = length-reverse asks ∙ e ∙ sym (length-reverse receipts)
@@ -127,6 +127,27 @@ made_first calls rest asks receipts many made later =
     ap (λ l. l ++ made_of rest (drop (length l) (reverse receipts ++ later))) (made later)
     ∙ ap (λ n. reverse asks ++ made_of rest (drop n (reverse receipts ++ later))) (same_many asks receipts many)
     ∙ ap (λ l. reverse asks ++ made_of rest l) (drop-append_seam (reverse receipts) later)
+
+-- a step that waits makes no call
+no_receipts : (asks : List Asked) (receipts : List Receipt) → length asks ≡ length receipts → [] ≡ reverse asks → reverse receipts ≡ []
+no_receipts asks receipts many none = let n : length (reverse receipts) ≡ 0 = sym (ap length none ∙ same_many asks receipts many) in empty_list (reverse receipts) n
+
+act_shown : (line : ℕ) (act : Act) (content : List ℕ) (asks : List Asked) (receipts : List Receipt) (new : ProcessState) (mails : List Mail) (later : List Receipt)
+    → length asks ≡ length receipts → AreMadeOf (asks_of line act content) asks receipts → IsLater new mails later → HasWaited new.mails new.proc.seats act
+    → WaitIsShown mails (reverse receipts ++ later) act
+act_shown line (Expect port count) content asks receipts new mails later many made l h =
+    subst (λ r. WaitIsShown mails (r ++ later) (Expect port count)) (sym (no_receipts asks receipts many (made later))) (step_shown new mails later (Expect port count) l h)
+act_shown line (Bytes port count) content asks receipts new mails later many made l h =
+    subst (λ r. WaitIsShown mails (r ++ later) (Bytes port count)) (sym (no_receipts asks receipts many (made later))) (step_shown new mails later (Bytes port count) l h)
+act_shown line _ content asks receipts new mails later many made l h = tt
+
+-- what comes behind a step whose calls were made
+behind_step : (calls : List Asked) (asks : List Asked) (receipts later : List Receipt) → length asks ≡ length receipts → AreMadeOf calls asks receipts
+    → drop (length (made_of_step calls (reverse receipts ++ later))) (reverse receipts ++ later) ≡ later
+behind_step calls asks receipts later many made =
+    ap (λ l. drop (length l) (reverse receipts ++ later)) (made later)
+    ∙ ap (λ n. drop n (reverse receipts ++ later)) (same_many asks receipts many)
+    ∙ drop-append_seam (reverse receipts) later
 
 calls_alive : (step : Step) (rest : List Step) (files : List (List ℕ)) → is_die step.act ≡ false
     → calls_of (step ∷ rest) files ≡ asks_of step.line step.act (next_content files) ∷ calls_of rest (files_after step.act files)
@@ -153,17 +174,21 @@ come_more steps rest files rest_files step old mid new h alive m waited = record
       ∙ sym (append_assoc (reverse h.asks) (reverse m.asks) (made_of (calls_of rest (files_after step.act rest_files)) later))
       ∙ ap (λ l. l ++ made_of (calls_of rest (files_after step.act rest_files)) later) (sym (reverse-append m.asks h.asks));
   reason = h.reason ∙ reason_alive step.act (end_reason rest) alive;
-  waited = λ mails seats l later. h.waited mails seats (later_goes m.asks m.receipts m.came mid new mails seats m.makes.goes l)
-      (waited_later new mails seats step.act l waited, λ _. later);
+  waited = λ mails later l behind.
+      subst (λ r. WaitsAreShown mails r steps files) (sym (ap (λ r. r ++ later) (reverse-append m.receipts h.receipts) ∙ append_assoc (reverse h.receipts) (reverse m.receipts) later))
+      (h.waited mails (reverse m.receipts ++ later) (later_goes m.asks m.receipts m.came mid new mails later m.makes.goes l)
+      (act_shown step.line step.act (next_content rest_files) m.asks m.receipts new mails later m.makes.goes.many m.made l waited,
+      λ _. subst (λ r. WaitsAreShown mails r rest (files_after step.act rest_files))
+      (sym (behind_step (asks_of step.line step.act (next_content rest_files)) m.asks m.receipts later m.makes.goes.many m.made)) behind));
 }
 
 calls_ended : (step : Step) (rest : List Step) (files : List (List ℕ)) → is_die step.act ≡ true → calls_of (step ∷ rest) files ≡ []
 calls_ended step rest files e = ap (λ b. cond b [] (asks_of step.line step.act (next_content files) ∷ calls_of rest (files_after step.act files))) e
 
-dies_waited : (mails : List Mail) (seats : List SendKnown) (act : Act) → is_die act ≡ true → HasWaited mails seats act
-dies_waited mails seats (Expect port count) e = absurd cc
-dies_waited mails seats (Bytes port count) e = absurd cc
-dies_waited mails seats _ e = tt
+dies_shown : (mails : List Mail) (behind : List Receipt) (act : Act) → is_die act ≡ true → WaitIsShown mails behind act
+dies_shown mails behind (Expect port count) e = absurd cc
+dies_shown mails behind (Bytes port count) e = absurd cc
+dies_shown mails behind _ e = tt
 
 contrary_die : (b : Bool) {X : Type 0} → b ≡ true → b ≡ false → X
 contrary_die b e f = absurd cc
@@ -177,12 +202,8 @@ come_end steps rest files rest_files step reason old new h dies is = record {
   makes = h.makes;
   made = λ later. h.made later ∙ ap (λ l. reverse h.asks ++ made_of l later) (calls_ended step rest rest_files dies) ∙ append-nil (reverse h.asks);
   reason_is = sym (h.reason ∙ is (end_reason rest));
-  waited = h.waited new.mails new.proc.seats (later_self new) (dies_waited new.mails new.proc.seats step.act dies, λ alive. contrary_die (is_die step.act) dies alive);
+  waited = λ mails later l. h.waited mails later l (dies_shown mails later step.act dies, λ alive. contrary_die (is_die step.act) dies alive);
 }
-
-pub empty_list : {A : Type 0} (xs : List A) → length xs ≡ 0 → xs ≡ []
-empty_list [] e = refl
-empty_list (x ∷ xs) e = absurd (omega arith)
 
 pub come_all : (steps : List Step) (files rest_files : List (List ℕ)) (reason : List ℕ) (old new : ProcessState) → HasComeTo steps files old [] rest_files new → reason ≡ codes "normal"
     → HasMadeSteps steps files old new reason
@@ -193,9 +214,17 @@ come_all steps files rest_files reason old new h is = record {
   makes = h.makes;
   made = λ later. h.made later ∙ append-nil (reverse h.asks);
   reason_is = is ∙ sym h.reason;
-  waited = h.waited new.mails new.proc.seats (later_self new) tt;
+  waited = λ mails later l. h.waited mails later l tt;
 }
 
-pub waited_all_later : (steps : List Step) (now : ProcessState) (mails : List Mail) (seats : List SendKnown) → IsLater now mails seats → HaveWaited now.mails now.proc.seats steps → HaveWaited mails seats steps
-waited_all_later [] now mails seats l h = tt
-waited_all_later (step ∷ steps) now mails seats l h = (waited_later now mails seats step.act l h.0, λ alive. waited_all_later steps now mails seats l (h.1 alive))
+-- what is shown stays so with more mail
+wait_more : (mails more : List Mail) (behind : List Receipt) (act : Act) → WaitIsShown mails behind act → WaitIsShown (mails ++ more) behind act
+wait_more mails more behind (Expect port count) (inl h) = inl (more_messages port mails more count h)
+wait_more mails more behind (Expect port count) (inr h) = inr h
+wait_more mails more behind (Bytes port count) (inl h) = inl (more_bytes port mails more count h)
+wait_more mails more behind (Bytes port count) (inr h) = inr h
+wait_more mails more behind _ h = tt
+
+pub waits_more : (mails more : List Mail) (receipts : List Receipt) (steps : List Step) (files : List (List ℕ)) → WaitsAreShown mails receipts steps files → WaitsAreShown (mails ++ more) receipts steps files
+waits_more mails more receipts [] files h = tt
+waits_more mails more receipts (step ∷ steps) files h = (wait_more mails more receipts step.act h.0, λ alive. waits_more mails more _ steps _ (h.1 alive))

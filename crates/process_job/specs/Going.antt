@@ -1,6 +1,7 @@
 -- What a process does from one moment to a later one.
 use Rattle.std.specs.Prelude.{◌≡◌, ℕ, ◌<◌, List, [], ◌++◌, length, map, true, Option, Some, None, slice_index_or}
 use Rattle.process_end.specs.task_queue.Items.{of}
+use Rattle.std.specs.List.{AllByRecursion}
 use Rattle.port_model.specs.declared.mail.Mail.{Mail}
 use Rattle.port_words.specs.busy.Known.{SendKnown}
 use Rattle.process_end.specs.process_receipts.declared.receipt.Receipt.{Receipt}
@@ -10,6 +11,7 @@ use Rattle.process_end.specs.Views.{LaneEnd, ProcView}
 use Rattle.process_end.specs.Calls.{HasAsked}
 use Rattle.process_end.specs.Mailbox.{Mailbox}
 use Rattle.process_job.specs.Mails.{Came, mail_from, own_mails, readable, AreReplied}
+use Rattle.process_job.specs.Waits.{AgreesClosed, FoundClosed}
 
 -- a process and its mail
 pub record ProcessState : Type 0 where
@@ -41,7 +43,7 @@ pub record HasHeard (came : List Came) (old new : Mailbox) : Type 0 where
   pub same : new ≡ record old { taken = new.taken }
   pub ports : (port : ℕ) → readable (of port new.taken) ≡ readable (of port old.taken) ++ mail_from (Some port) came
 
--- A process went on: it made these calls and got these receipts, both newest first, and this mail came, oldest first
+-- A process went on: it made these calls and got these receipts, both newest first, and this mail came, oldest first. No receipt shows a port open that was found closed before
 pub record Goes (asks : List Asked) (receipts : List Receipt) (came : List Came) (old new : ProcessState) : Type 0 where
   pub number : new.proc.number ≡ old.proc.number
   pub soft : new.proc.soft ≡ old.proc.soft
@@ -50,6 +52,7 @@ pub record Goes (asks : List Asked) (receipts : List Receipt) (came : List Came)
   pub ports : AreSamePorts old.proc.lanes new.proc.lanes old.proc.seats new.proc.seats
   pub many : length asks ≡ length receipts
   pub receipts_are : new.proc.receipts ≡ receipts ++ old.proc.receipts
+  pub closed : (k : ℕ) → FoundClosed k old.proc.seats → AllByRecursion (AgreesClosed k) receipts
   pub asked : (before : List Asked) → HasAsked before old.proc → HasAsked (asks ++ before) new.proc
   pub heard : HasHeard came old.proc.mailbox new.proc.mailbox
   pub own : mail_from None came ≡ own_mails asks receipts

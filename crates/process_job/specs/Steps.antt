@@ -1,10 +1,8 @@
 -- What a process has done once it made steps, and once it made all of them and ended.
-use Rattle.std.specs.Prelude.{◌≡◌, ℕ, ◌<◌, List, [], ◌∷◌, ◌++◌, Bool, true, not, length, map, reverse, None, slice_index_or}
+use Rattle.std.specs.Prelude.{◌≡◌, ℕ, List, [], ◌∷◌, ◌++◌, Bool, not, length, map, reverse, None}
 use Rattle.port_model.specs.declared.mail.Mail.{Mail}
-use Rattle.port_words.specs.busy.Known.{SendKnown}
 use Rattle.process_end.specs.process_receipts.declared.receipt.Receipt.{Receipt}
 use Rattle.process_end.specs.process_receipts.Asks.{Asked}
-use Rattle.process_end.specs.process_receipts.Ledgers.{saw_closed}
 use Rattle.process_end.specs.declared.answers.ProcEnd.{ProcEnd}
 use Rattle.process_end.specs.Views.{ProcView}
 use Rattle.process_end.specs.Ports.{ArePorts}
@@ -14,7 +12,7 @@ use Rattle.script_plan.specs.declared.step.Step.{Step}
 use Rattle.script_plan.specs.declared.step.Act.{Act}
 use Rattle.process_job.specs.Asks.{asks_of, calls_of, end_reason, ends_file, made_asks, made_of, made_of_step}
 use Rattle.process_job.specs.Mails.{Came, mail_from, own_mails, AreReplied}
-use Rattle.process_job.specs.Waits.{FoundClosed, HasWaited, HaveWaited, ShowsClosed}
+use Rattle.process_job.specs.Waits.{FoundClosed, HasWaited, StaysClosed, WaitsAreShown}
 use Rattle.process_job.specs.Going.{ProcessState, AreSamePorts, HasHeard, MakesCalls}
 
 -- of the calls of a step these were made, with these receipts, both newest first, whatever receipts come later
@@ -41,11 +39,11 @@ pub record MakesStep (line : ℕ) (act : Act) (content : List ℕ) (old new : Pr
   pub calls : MakesCallsOf (asks_of line act content) old new
   pub waited : HasWaited new.mails new.proc.seats act
 
--- there may be more mail, and what was found closed stays so
-pub record IsLater (now : ProcessState) (mails : List Mail) (seats : List SendKnown) : Type 0 where
+-- there may be more mail, and what was found closed is so by the receipts that come later, which are read oldest first
+pub record IsLater (now : ProcessState) (mails : List Mail) (later : List Receipt) : Type 0 where
   pub more : List Mail
   pub mails_are : mails ≡ now.mails ++ more
-  pub closed : (k : ℕ) (d : SendKnown) → saw_closed (slice_index_or now.proc.seats k d).sender.stats ≡ true → saw_closed (slice_index_or seats k d).sender.stats ≡ true
+  pub closed : (k : ℕ) → FoundClosed k now.proc.seats → StaysClosed k later
 
 -- a process made the first of these steps, and has the rest to make
 pub record HasComeTo (steps : List Step) (files : List (List ℕ)) (old : ProcessState) (rest : List Step) (rest_files : List (List ℕ)) (new : ProcessState) : Type 0 where
@@ -55,7 +53,7 @@ pub record HasComeTo (steps : List Step) (files : List (List ℕ)) (old : Proces
   pub makes : MakesCalls asks receipts came old new
   pub made : (later : List Receipt) → made_of (calls_of steps files) (reverse receipts ++ later) ≡ reverse asks ++ made_of (calls_of rest rest_files) later
   pub reason : end_reason steps ≡ end_reason rest
-  pub waited : (mails : List Mail) (seats : List SendKnown) → IsLater new mails seats → HaveWaited mails seats rest → HaveWaited mails seats steps
+  pub waited : (mails : List Mail) (later : List Receipt) → IsLater new mails later → WaitsAreShown mails later rest rest_files → WaitsAreShown mails (reverse receipts ++ later) steps files
 
 -- nothing was taken of the mailbox, and no mail came
 abbrev pub HasTakenNone : Mailbox → List Mail → Mailbox → List Mail → Type 0
@@ -69,11 +67,11 @@ pub record HasMadeSteps (steps : List Step) (files : List (List ℕ)) (old new :
   pub makes : MakesCalls asks receipts came old new
   pub made : (later : List Receipt) → made_of (calls_of steps files) (reverse receipts ++ later) ≡ reverse asks
   pub reason_is : reason ≡ end_reason steps
-  pub waited : HaveWaited new.mails new.proc.seats steps
+  pub waited : (mails : List Mail) (later : List Receipt) → IsLater new mails later → WaitsAreShown mails (reverse receipts ++ later) steps files
 
 -- A process made all its steps and ended; `old` is what it had to begin with. The calls are read oldest first: those of the steps that were made, by the receipts, and one
 -- for each port. The mail came from the mailbox, each that is to be read once and in the order of its port, and from the process itself, where a closed port refused
--- a link or a monitor. A process without ports has no mail, and takes nothing of its mailbox. A port that it ever found closed is closed by its last receipt for that port too
+-- a link or a monitor. A process without ports has no mail, and takes nothing of its mailbox. It has the data for which each of its steps waited, or the port is closed by the receipts behind that step
 pub record HasRunToEnd (steps : List Step) (files : List (List ℕ)) (old : ProcView) (end : ProcEnd) (mails : List Mail) : Type 0 where
   pub asks : List Asked
   pub asks_are : asks ≡ made_asks (length old.lanes) steps files end.receipts
@@ -93,6 +91,5 @@ pub record HasRunToEnd (steps : List Step) (files : List (List ℕ)) (old : Proc
   pub heard : HasHeard came old.mailbox last.mailbox
   pub silent : length old.lanes ≡ 0 → HasTakenNone old.mailbox [] last.mailbox mails
   pub own : mail_from None came ≡ own_mails (reverse asks) last.receipts
-  pub waited : HaveWaited mails last.seats steps
-  pub shown : (k : ℕ) → k < length old.lanes → FoundClosed k last.seats → ShowsClosed k last.receipts
+  pub waited : WaitsAreShown mails end.receipts steps files
   pub replied : AreReplied (reverse asks) last.receipts mails

@@ -1,5 +1,6 @@
 -- When a step has waited enough.
-use Rattle.std.specs.Prelude.{◌≡◌, ◌⊎◌, ℕ, ◌≤◌, ◌==◌, List, [], ◌∷◌, true, false, Option, Some, None, if◌then◌else◌, slice_index_or}
+use Rattle.std.specs.Prelude.{◌≡◌, ◌⊎◌, ℕ, ◌≤◌, ◌==◌, List, [], ◌∷◌, length, drop, reverse, true, false, Option, Some, None, IfSome, if◌then◌else◌, slice_index_or}
+use Rattle.std.specs.List.{AllByRecursion}
 use Rattle.port_model.specs.declared.mail.Mail.{Mail}
 use Rattle.port_words.specs.busy.Known.{SendKnown}
 use Rattle.port_words.specs.busy.Stat.{tells_closed}
@@ -9,6 +10,7 @@ use Rattle.script_plan.specs.declared.step.Step.{Step}
 use Rattle.script_plan.specs.declared.step.Act.{Act}
 use Rattle.script_plan.specs.declared.step.Act.TheVariants.{Expect, Bytes}
 use Rattle.script_plan.specs.Monitors.{is_die}
+use Rattle.process_job.specs.Asks.{asks_of, files_after, made_of_step, next_content}
 use Rattle.process_job.specs.Mails.{messages_of, bytes_of}
 
 -- a load of the port's STAT, by a call or a look, found the port closed
@@ -20,11 +22,6 @@ abbrev pub HasWaited : List Mail → List SendKnown → Act → Type 0
 HasWaited mails seats (Expect port count) = (count ≤ messages_of port mails) ⊎ FoundClosed port seats
 HasWaited mails seats (Bytes port count) = (count ≤ bytes_of port mails) ⊎ FoundClosed port seats
 HasWaited mails seats _ = Unit {0}
-
--- so has each step, up to the one that ends the process
-abbrev pub HaveWaited : List Mail → List SendKnown → List Step → Type 0
-HaveWaited mails seats [] = Unit {0}
-HaveWaited mails seats (step ∷ steps) = HasWaited mails seats step.act × (is_die step.act ≡ false → HaveWaited mails seats steps)
 
 -- the last of these receipts that is for this port. They are read newest first
 abbrev pub last_receipt : ℕ → List Receipt → Option Receipt
@@ -41,3 +38,24 @@ pub record ShowsClosed (port : ℕ) (receipts : List Receipt) : Type 0 where
   pub stat : ℕ
   pub shown : stat_shown (last_receipt port receipts) ≡ Some stat
   pub closed : tells_closed stat ≡ true
+
+-- a receipt for this port that has a STAT word shows that it was closed
+abbrev pub AgreesClosed : ℕ → Receipt → Type 0
+AgreesClosed port receipt = receipt.port ≡ port → IfSome receipt.stat (λ stat. tells_closed stat ≡ true)
+
+-- So does each of these receipts, read oldest first, and the last one for the port has such a word
+pub record StaysClosed (port : ℕ) (receipts : List Receipt) : Type 0 where
+  pub each : AllByRecursion (AgreesClosed port) receipts
+  pub last : ShowsClosed port (reverse receipts)
+
+-- the mail has so much data of the port for which the act waits, or the port is closed by the receipts of the calls behind the act
+abbrev pub WaitIsShown : List Mail → List Receipt → Act → Type 0
+WaitIsShown mails behind (Expect port count) = (count ≤ messages_of port mails) ⊎ StaysClosed port behind
+WaitIsShown mails behind (Bytes port count) = (count ≤ bytes_of port mails) ⊎ StaysClosed port behind
+WaitIsShown mails behind _ = Unit {0}
+
+-- So it is of each step, up to the one that ends the process. `receipts` are those of the calls of these steps and of all that the process made later, oldest first; `files` has the contents of the steps' files
+abbrev pub WaitsAreShown : List Mail → List Receipt → List Step → List (List ℕ) → Type 0
+WaitsAreShown mails receipts [] files = Unit {0}
+WaitsAreShown mails receipts (step ∷ steps) files = WaitIsShown mails receipts step.act
+    × (is_die step.act ≡ false → WaitsAreShown mails (drop (length (made_of_step (asks_of step.line step.act (next_content files)) receipts)) receipts) steps (files_after step.act files))

@@ -27,7 +27,7 @@ pub fn calls_tell()
     ensures { AllCallsTell }
 {}
 
-/// A process had the data for which it waited, or its last receipt for the port shows that it was closed.
+/// A process has the data for which each of its steps waited, or the port is closed by the receipts of the calls behind that step.
 pub fn waits_are_shown()
     ensures { AllWaitsAreShown }
 {}

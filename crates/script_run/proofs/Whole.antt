@@ -67,7 +67,7 @@ use Rattle.suspended_calls.specs.Listed.{ListedCallsAreInOrder, SuspendedCallsAr
 use Rattle.process_job.specs.declared.job.EndedProcess.{EndedProcess}
 use Rattle.run_end.specs.Merge.{IsFromPort}
 use Rattle.run_end.specs.Tell.{AllCallsTell}
-use Rattle.run_end.specs.Waited.{AllWaitsAreShown, WaitsAreShown}
+use Rattle.run_end.specs.Waited.{AllWaitsAreShown}
 use Rattle.run_opening.specs.Opened.{soft_at}
 use Rattle.run_lanes.specs.declared.size.LaneSize.{LaneSize}
 use Rattle.run_lanes.specs.Keyed.{key_of}
@@ -315,11 +315,13 @@ process-holds tell waits script s ran closed left g is have closed_many ports pr
           (replied-later (calls_made (get_or ran n r)).asks (calls_made (get_or ran n r)).receipts (get_or ran n r).mails grown.0
           (subst (λ asks. AreReplied (reverse asks) (reverse (get_or ran n r).end.receipts) (get_or ran n r).mails) whole.asks_are
           (subst (λ receipts. AreReplied (reverse whole.asks) receipts (get_or ran n r).mails) (receipts-newest whole.receipts_are) whole.replied))));
-      waited = subst (λ steps. WaitsAreShown (get_or left.processes.items n l).mails.items
-          (calls_of (length script.ports.items) (get_or script.programs.items n q) (get_or left.processes.items n l)).receipts steps) (set.steps ∙ ap (λ (x : List Program). (get_or x n q).steps.items) programs)
-          (subst (λ (x : Calls). WaitsAreShown (get_or left.processes.items n l).mails.items x.receipts (get_or ran n r).steps) (sym calls)
-          (subst (λ m. WaitsAreShown m (calls_made (get_or ran n r)).receipts (get_or ran n r).steps) (sym (g.processes.mails_are n l [] below ∙ grown.1))
-          (waits (get_or ran n r) grown.0 (have.ran n r below))));
+      waited = subst (λ steps. WaitsAreShown (get_or left.processes.items n l).mails.items (get_or left.processes.items n l).receipts steps (get_or script.programs.items n q).files.items)
+          (set.steps ∙ ap (λ (x : List Program). (get_or x n q).steps.items) programs)
+          (subst (λ files. WaitsAreShown (get_or left.processes.items n l).mails.items (get_or left.processes.items n l).receipts (get_or ran n r).steps files)
+          (set.files ∙ ap (λ (x : List Program). (get_or x n q).files.items) programs)
+          (subst (λ receipts. WaitsAreShown (get_or left.processes.items n l).mails.items receipts (get_or ran n r).steps (get_or ran n r).files) (sym (g.processes.receipts_are n l r below))
+          (subst (λ m. WaitsAreShown m (get_or ran n r).end.receipts (get_or ran n r).steps (get_or ran n r).files) (sym (g.processes.mails_are n l [] below ∙ grown.1))
+          (waits (get_or ran n r) grown.0 (have.ran n r below)))));
       among = subst (λ m. All (λ (c : Came). IsFromPort m c.from) at.merge.came) all at.merge.among;
     }
 

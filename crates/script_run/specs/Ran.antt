@@ -17,6 +17,7 @@ use Rattle.port_model.specs.declared.signal.Sender.TheVariants.{Process, Poller,
 use Rattle.process_receipts.specs.Receipts.{accepted, AreReceipts}
 use Rattle.process_job.specs.Asks.{made_asks}
 use Rattle.process_job.specs.Mails.{Came, mail_from, own_mails, readable, AreReplied}
+use Rattle.process_job.specs.Waits.{WaitsAreShown}
 use Rattle.port_body.specs.recorded_port.Asks.{resumed_words}
 use Rattle.port_body.specs.recorded_port.View.{stat_marks}
 use Rattle.port_body.specs.Ends.{HaveRows, IsLeftByCalls}
@@ -26,7 +27,6 @@ use Rattle.driver_hosts.specs.Back.{HaveServed}
 use Rattle.driver_hosts.specs.Finding.{Found}
 use Rattle.run_end.specs.Merge.{IsFromPort}
 use Rattle.run_end.specs.Shown.{Calls, QueueWordsHold, WordsHold}
-use Rattle.run_end.specs.Waited.{WaitsAreShown}
 use Rattle.run_opening.specs.Opened.{limits_of, soft_at}
 use Rattle.run_seats.specs.declared.plans.Program.{Program}
 use Rattle.script_plan.specs.declared.decl.PortDecl.{PortDecl}
@@ -102,14 +102,14 @@ pub record PairHolds (number process processes : ℕ) (kind : Kind) (decl : Port
   pub mail : mail_from (Some number) came ≡ readable (mails (opening_of number processes kind decl port) process (history_of port))
 
 -- A process has one receipt for each of its calls. Its mail came from the ports, but for what it added itself, which is one `noproc` for each link and each monitor that a closed port refused; each
--- signal that is answered, and was put, has its answer in it; and it has the data for which a step waited, or the last receipt for the port shows that it was closed
+-- signal that is answered, and was put, has its answer in it; and it has the data for which each of its steps waited, or the port is closed by the receipts of the calls behind that step
 pub record ProcessHolds (ports : ℕ) (soft : List Bool) (program : Program) (calls : Calls) (left : ProcessLeft) (came : List Came) : Type 0 where
   pub receipts : AreReceipts soft calls.asks calls.receipts
   pub mails_are : left.mails.items ≡ map (λ c. c.mail) came
   pub own : mail_from None came ≡ own_mails calls.asks calls.receipts
   pub among : All (λ c. IsFromPort ports c.from) came
   pub replied : AreReplied calls.asks calls.receipts left.mails.items
-  pub waited : WaitsAreShown left.mails.items calls.receipts program.steps.items
+  pub waited : WaitsAreShown left.mails.items left.receipts program.steps.items program.files.items
 
 -- the words that the receipts of all processes show of a port agree with the marks of its history, keep the bound of its message queue, and show it busy only with a cause; and so do the words with which
 -- its rows resume senders, but for the marks
