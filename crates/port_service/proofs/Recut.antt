@@ -69,6 +69,7 @@ recut-told (Some program) config earlier callback caller outside a b told = reco
   command = told.command;
   given = told.given;
   taken = told.taken;
+  at_end = told.at_end;
   ended = told.ended;
   status = told.status;
 }
