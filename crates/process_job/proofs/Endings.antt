@@ -52,9 +52,10 @@ told_closed : (reason : List ℕ) (old : ProcView) (receipts : List Receipt) (ne
     → AllByRecursion (AgreesClosed k) receipts
 told_closed reason old [] new h k found = tt
 told_closed reason old (receipt ∷ receipts) new h k found =
-    let t = told_ports reason old receipts h.0 h.1 in
-    (agrees_closed k (gone_ask reason h.0.told) receipt h.0 (record new { told = h.0.told }) h.2.made (λ d. (t.ports.same_seats k d).closed (found d)),
-    told_closed reason old receipts h.0 h.1 k found)
+    let t = told_ports reason old receipts h.0 h.1 in (
+      agrees_closed k (gone_ask reason h.0.told) receipt h.0 (record new { told = h.0.told }) h.2.made (λ d. (t.ports.same_seats k d).closed (found d)),
+      told_closed reason old receipts h.0 h.1 k found,
+    )
 
 -- who tells its end adds no mail, and waits for no answer
 gone_mails : (reason : List ℕ) (from : ℕ) (receipts : List Receipt) (count : ℕ) → own_mails (gone_asks reason from count) receipts ≡ []

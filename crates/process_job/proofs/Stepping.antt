@@ -176,10 +176,11 @@ come_more steps rest files rest_files step old mid new h alive m waited = record
   reason = h.reason ∙ reason_alive step.act (end_reason rest) alive;
   waited = λ mails later l behind.
       subst (λ r. WaitsAreShown mails r steps files) (sym (ap (λ r. r ++ later) (reverse-append m.receipts h.receipts) ∙ append_assoc (reverse h.receipts) (reverse m.receipts) later))
-      (h.waited mails (reverse m.receipts ++ later) (later_goes m.asks m.receipts m.came mid new mails later m.makes.goes l)
-      (act_shown step.line step.act (next_content rest_files) m.asks m.receipts new mails later m.makes.goes.many m.made l waited,
-      λ _. subst (λ r. WaitsAreShown mails r rest (files_after step.act rest_files))
-      (sym (behind_step (asks_of step.line step.act (next_content rest_files)) m.asks m.receipts later m.makes.goes.many m.made)) behind));
+      (h.waited mails (reverse m.receipts ++ later) (later_goes m.asks m.receipts m.came mid new mails later m.makes.goes l) (
+        act_shown step.line step.act (next_content rest_files) m.asks m.receipts new mails later m.makes.goes.many m.made l waited,
+        λ _. subst (λ r. WaitsAreShown mails r rest (files_after step.act rest_files))
+            (sym (behind_step (asks_of step.line step.act (next_content rest_files)) m.asks m.receipts later m.makes.goes.many m.made)) behind,
+      ));
 }
 
 calls_ended : (step : Step) (rest : List Step) (files : List (List ℕ)) → is_die step.act ≡ true → calls_of (step ∷ rest) files ≡ []
