@@ -71,11 +71,12 @@ WaitShows mails newest _ = Unit {0}
 -- the last receipt for a port is among those that came last
 last-front : (port : ℕ) (receipts older : List Receipt) (stat : ℕ) → stat_shown (last_receipt port receipts) ≡ Some stat → stat_shown (last_receipt port (receipts ++ older)) ≡ Some stat
 last-front port [] older stat shown = absurd (cc)
-last-front port (receipt ∷ receipts) older stat shown = at (eqb receipt.port port) shown
+last-front port (receipt ∷ receipts) older stat shown = at (eqb receipt.port port) (last-front port receipts older stat) shown
   where
-    at : (b : Bool) → stat_shown (cond b (Some receipt) (last_receipt port receipts)) ≡ Some stat → stat_shown (cond b (Some receipt) (last_receipt port (receipts ++ older))) ≡ Some stat
-    at true e = e
-    at false e = last-front port receipts older stat e
+    at : (b : Bool) → (stat_shown (last_receipt port receipts) ≡ Some stat → stat_shown (last_receipt port (receipts ++ older)) ≡ Some stat)
+        → stat_shown (cond b (Some receipt) (last_receipt port receipts)) ≡ Some stat → stat_shown (cond b (Some receipt) (last_receipt port (receipts ++ older))) ≡ Some stat
+    at true later e = e
+    at false later e = later e
 
 closes-more : (port : ℕ) (receipts older : List Receipt) → StaysClosed port receipts → ShowsClosed port (reverse receipts ++ older)
 closes-more port receipts older stays =

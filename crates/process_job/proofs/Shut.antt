@@ -70,11 +70,12 @@ agrees_closed port ask receipt old new made found = λ is.
 -- the last receipt for a port is among those that came last
 last_front : (port : ℕ) (receipts older : List Receipt) (stat : ℕ) → stat_shown (last_receipt port receipts) ≡ Some stat → stat_shown (last_receipt port (receipts ++ older)) ≡ Some stat
 last_front port [] older stat shown = absurd cc
-last_front port (receipt ∷ receipts) older stat shown = at (eqb receipt.port port) shown
+last_front port (receipt ∷ receipts) older stat shown = at (eqb receipt.port port) (last_front port receipts older stat) shown
   where
-    at : (b : Bool) → stat_shown (cond b (Some receipt) (last_receipt port receipts)) ≡ Some stat → stat_shown (cond b (Some receipt) (last_receipt port (receipts ++ older))) ≡ Some stat
-    at true e = e
-    at false e = last_front port receipts older stat e
+    at : (b : Bool) → (stat_shown (last_receipt port receipts) ≡ Some stat → stat_shown (last_receipt port (receipts ++ older)) ≡ Some stat)
+        → stat_shown (cond b (Some receipt) (last_receipt port receipts)) ≡ Some stat → stat_shown (cond b (Some receipt) (last_receipt port (receipts ++ older))) ≡ Some stat
+    at true later e = e
+    at false later e = later e
 
 pub shows_more : (port : ℕ) (receipts older : List Receipt) → ShowsClosed port receipts → ShowsClosed port (receipts ++ older)
 shows_more port receipts older shows = record { stat = shows.stat; shown = last_front port receipts older shows.stat shows.shown; closed = shows.closed }
