@@ -1,6 +1,6 @@
 -- The steps of a process, one after another.
 use Rattle.std.proofs.Common.{◌≡◌, ◌⊎◌, ℕ, ◌+◌, ◌<◌, ◌≤◌, List, [], ◌∷◌, ◌++◌, length, Bool, true, false, cond, Result, Ok, Err, refl, sym, ap, ◌∙◌, subst, append_assoc, arith, inl, inr, nat_lt}
-use Rattle.std.specs.Prelude.{map, reverse, drop, filter, IfOk, slice_index_or, codes}
+use Rattle.std.specs.Prelude.{map, reverse, drop, filter, IfOk, codes}
 use Rattle.std.proofs.lemmas.List.{append-nil, length-append, length-reverse, reverse-append}
 use Rattle.std.proofs.lemmas.List.Elements.{filter-append}
 use Rattle.std.proofs.lemmas.List.Sums.{sum_by-append}

@@ -3,7 +3,7 @@ use Rattle.std.proofs.Common.{◌≡◌, ℕ, List, [], ◌∷◌, ◌++◌, Boo
 use Rattle.driver_model.specs.port_signal.declared.outside.Outside.{Outside}
 use Rattle.driver_model.specs.port_model.declared.row.Row.{Row}
 use Rattle.driver_model.specs.port_model.declared.row.Row.TheVariants.{Handled, Late, Listed, Resumed, Mark}
-use Rattle.driver_model.specs.Calls.{Callback, Flush, Stop, DriverCall, call_of}
+use Rattle.driver_model.specs.Calls.{Callback, Flush, DriverCall, call_of}
 use Rattle.driver_model.specs.Programs.{output_ended}
 use Rattle.driver_model.specs.Spawn.{has_end, is_none}
 use Rattle.port_history.specs.Opening.{Opening, Taken, taken_of}

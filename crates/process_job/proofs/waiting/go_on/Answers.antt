@@ -1,10 +1,14 @@
 use Rattle.std.proofs.Common.{refl, subst}
-use Rattle.port_sched.proofs.Looks.{looked_then}
+use Rattle.port_sched.proofs.Looks.{looked_none, looked_then}
 use Rattle.process_job.specs.declared.halt.Halt.TheVariants as halt
+use Rattle.process_job.specs.Going.{state}
 use Rattle.process_job.specs.Waiting.{GoesFrom}
-use Rattle.process_job.proofs.Goings.{waits_then}
+use Rattle.process_job.proofs.Goings.{waits_none, waits_then}
 use Rattle.process_job.proofs.Seating.{over_halt}
 use Rattle.process_job.proofs.waiting.go_on.Goals as goal
+
+pub tries-init : goal.tries-init
+tries-init g c = (looked_none c.args.over.now, waits_none (state c.args.stopped.proc c.args.log.now))
 
 pub returns-in_err-proc-clause-over : goal.returns-in_err-proc-clause-over
 returns-in_err-proc-clause-over g c = over_halt c.from_residual.result halt.NoMemory _ _ c.from_residual.ensures.1 c.tries.invariant.0 tt
