@@ -1,5 +1,5 @@
 -- The calls of the processes for a port to which its owner alone sends commands, and the rows that they have.
-use Rattle.std.proofs.Common.{◌≡◌, ℕ, ◌+◌, ◌==◌, ◌<◌, ◌≤◌, zero, suc, Bool, true, cond, List, [], ◌∷◌, ◌++◌, length, get_or, Some, refl, sym, ap, ◌∙◌, subst, arith}
+use Rattle.std.proofs.Common.{◌≡◌, ℕ, ◌+◌, ◌==◌, ◌<◌, ◌≤◌, ◌||◌, zero, suc, Bool, true, false, cond, List, [], ◌∷◌, ◌++◌, length, get_or, Some, refl, sym, ap, ◌∙◌, subst, arith, append_assoc}
 use Rattle.std.specs.Prelude.{reverse}
 use Rattle.std.specs.List.{AllByRecursion}
 use Rattle.std.proofs.lemmas.Bool.{ne_eqb}
@@ -23,10 +23,13 @@ use Rattle.run_setting.specs.run_seats.declared.plans.Program.{Program}
 use Rattle.run_setting.specs.run_end.process_job.script_plan.declared.step.Step.{Step}
 use Rattle.script_run.specs.declared.running.ProcessLeft.{ProcessLeft}
 use Rattle.script_run.specs.Ran.{IsFrom, all_calls, calls_of}
-use Rattle.echoed_commands.specs.Sending.{sends_back, sends_to, is_plain}
-use Rattle.echoed_history.specs.Commands.{AreCommands, AreEnds, echoes, is_plain_command}
-use Rattle.echoed_commands.proofs.Answered.{AtEnd, IsOwn, at-end, tasks-all}
-use Rattle.echoed_commands.proofs.Asked.{made_by, made-newest, own-asks, steps-made}
+use Rattle.echoed_commands.specs.Echoed.{ArePut, EachBeforeClose}
+use Rattle.echoed_commands.specs.Sending.{ClosesLast, closes, is_plain, sends_back, sends_to}
+use Rattle.echoed_history.specs.Commands.{AreClosings, AreCommands, AreEnds, echoes, is_closing, is_plain_command}
+use Rattle.echoed_commands.proofs.Answered.{AtEnd, Behind, IsCloseCall, IsOwn, at-end, behind, close-closing, tasks-all}
+use Rattle.echoed_commands.proofs.Asked.{made_by, made-newest, own-made, steps-made}
+use Rattle.echoed_commands.proofs.Content.{ArePutCommands, put-commands}
+use Rattle.echoed_history.proofs.Closing.{gone-closing}
 use Rattle.echoed_history.proofs.Lists.{both, weaker}
 
 -- the driver of this name is one of the kinds that send back
@@ -100,39 +103,78 @@ ends-alone number ports steps files oldest newest none =
     (weaker (λ (a : Asked). (a.port == number) ≡ true → ⊥) (λ (a : Asked). (a.port == number) ≡ true → is_gone a.signal ≡ true) made (λ a apart same. absurd (apart same))
     (steps-made (λ (a : Asked). (a.port == number) ≡ true → ⊥) steps files oldest none))))
 
--- an owner's calls for its port, and their receipts: those that were made by its steps, and then its end
+-- an owner's calls for its port, and their receipts: commands, closes behind them, and then its end
 pub record OwnerAsked (number ports : ℕ) (soft : List Bool) (program : Program) (left : ProcessLeft) : Type 0 where
   pub reason : List ℕ
-  pub made : List Asked
-  pub made_is : made ≡ made_by program.steps.items program.files.items left.receipts
-  pub asks_are : (calls_of ports program left).asks ≡ gone_asks reason 0 ports ++ made
-  pub own : AllByRecursion (IsOwn number) made
-  pub told : AtEnd number soft reason made (gone_asks reason 0 ports ++ made) (calls_of ports program left).receipts
+  pub commands : List Asked
+  pub closing : List Asked
+  pub made_is : closing ++ commands ≡ made_by program.steps.items program.files.items left.receipts
+  pub asks_are : (calls_of ports program left).asks ≡ gone_asks reason 0 ports ++ (closing ++ commands)
+  pub own : AllByRecursion (IsOwn number) commands
+  pub close : AllByRecursion (IsCloseCall number) closing
+  pub told : AtEnd number soft reason (closing ++ commands) (gone_asks reason 0 ports ++ (closing ++ commands)) (calls_of ports program left).receipts
+  pub behind : Behind number soft commands (closing ++ commands) told.rest
 
 pub owner-asked : (number ports : ℕ) (soft : List Bool) (program : Program) (left : ProcessLeft) → number < ports → AreReceipts soft (calls_of ports program left).asks (calls_of ports program left).receipts
-    → AllByRecursion (λ (s : Step). sends_to s.act ≡ Some number → is_plain s.act ≡ true) program.steps.items → OwnerAsked number ports soft program left
-owner-asked number ports soft program left within are plain =
+    → AllByRecursion (λ (s : Step). sends_to s.act ≡ Some number → (is_plain s.act || closes s.act) ≡ true) program.steps.items → ClosesLast number program.steps.items
+    → OwnerAsked number ports soft program left
+owner-asked number ports soft program left within are sent last =
     let steps = program.steps.items in
     let files = program.files.items in
-    let made = made_by steps files left.receipts in
-    let newest = made-newest ports steps files left.receipts in
+    let reason = end_reason steps in
+    let made = own-made number steps files left.receipts sent last in
+    let newest : (calls_of ports program left).asks ≡ gone_asks reason 0 ports ++ (made.closing ++ made.commands) =
+    made-newest ports steps files left.receipts ∙ ap (λ asks. gone_asks reason 0 ports ++ asks) (sym made.are) in
+    let told = at-end number soft reason (made.closing ++ made.commands) ports (reverse left.receipts) within (subst (λ asks. AreReceipts soft asks (reverse left.receipts)) newest are) in
     record {
-      reason = end_reason steps;
-      made = made;
-      made_is = refl;
+      reason = reason;
+      commands = made.commands;
+      closing = made.closing;
+      made_is = made.are;
       asks_are = newest;
-      own = steps-made (IsOwn number) steps files left.receipts
-          (weaker (λ (s : Step). sends_to s.act ≡ Some number → is_plain s.act ≡ true) (λ (s : Step). (content : List ℕ) → AllByRecursion (IsOwn number) (asks_of s.line s.act content)) steps
-          (λ s is content. own-asks number s.line s.act content is) plain);
-      told = at-end number soft (end_reason steps) made ports (reverse left.receipts) within (subst (λ asks. AreReceipts soft asks (reverse left.receipts)) newest are);
+      own = made.own;
+      close = made.close;
+      told = told;
+      behind = behind number soft made.commands made.closing told.rest told.made_are made.close;
     }
 
--- the tasks of the owner: its commands, and its end where that was put
-pub owner-tasks : (number ports : ℕ) (soft : List Bool) (program : Program) (left : ProcessLeft) (asked : OwnerAsked number ports soft program left)
-    → accepted number (calls_of ports program left).asks (calls_of ports program left).receipts
-    ≡ accepted number asked.made asked.told.rest ++ cond (is_put asked.told.end.outcome) (task_of (gone_ask asked.reason number) asked.told.end.outcome ∷ []) []
-owner-tasks number ports soft program left asked = ap (λ asks. accepted number asks (calls_of ports program left).receipts) asked.asks_are ∙ asked.told.tasks
+-- those of the owner's tasks that close its port: its closes, and its end where that was put
+abbrev pub closings_of : (number ports : ℕ) (soft : List Bool) (program : Program) (left : ProcessLeft) → OwnerAsked number ports soft program left → List TaskView
+closings_of number ports soft program left asked = asked.behind.closings ++ cond (is_put asked.told.end.outcome) (task_of (gone_ask asked.reason number) asked.told.end.outcome ∷ []) []
 
-pub owner-commands : (number ports : ℕ) (soft : List Bool) (program : Program) (left : ProcessLeft) (asked : OwnerAsked number ports soft program left) → AreCommands (accepted number asked.made asked.told.rest)
-owner-commands number ports soft program left asked = tasks-all (λ s. is_plain_command s ≡ true) number asked.made asked.told.rest
-    (weaker (IsOwn number) (λ (a : Asked). (a.port == number) ≡ true → is_plain_command a.signal ≡ true) asked.made (λ a own same. (own same).0) asked.own)
+-- the tasks of the owner: its commands, and then these
+pub owner-tasks : (number ports : ℕ) (soft : List Bool) (program : Program) (left : ProcessLeft) (asked : OwnerAsked number ports soft program left)
+    → accepted number (calls_of ports program left).asks (calls_of ports program left).receipts ≡ accepted number asked.commands asked.behind.rest ++ closings_of number ports soft program left asked
+owner-tasks number ports soft program left asked =
+    let gone = cond (is_put asked.told.end.outcome) (task_of (gone_ask asked.reason number) asked.told.end.outcome ∷ []) [] in
+    ap (λ asks. accepted number asks (calls_of ports program left).receipts) asked.asks_are ∙ asked.told.tasks ∙ ap (λ tasks. tasks ++ gone) asked.behind.tasks
+    ∙ append_assoc (accepted number asked.commands asked.behind.rest) asked.behind.closings gone
+
+pub owner-commands : (number ports : ℕ) (soft : List Bool) (program : Program) (left : ProcessLeft) (asked : OwnerAsked number ports soft program left)
+    → AreCommands (accepted number asked.commands asked.behind.rest)
+owner-commands number ports soft program left asked = tasks-all (λ s. is_plain_command s ≡ true) number asked.commands asked.behind.rest
+    (weaker (IsOwn number) (λ (a : Asked). (a.port == number) ≡ true → is_plain_command a.signal ≡ true) asked.commands (λ a own same. (own same).0) asked.own)
+
+pub owner-closings : (number ports : ℕ) (soft : List Bool) (program : Program) (left : ProcessLeft) (asked : OwnerAsked number ports soft program left) → AreClosings (closings_of number ports soft program left asked)
+owner-closings number ports soft program left asked =
+    both _ asked.behind.closings (cond (is_put asked.told.end.outcome) (task_of (gone_ask asked.reason number) asked.told.end.outcome ∷ []) []) asked.behind.closings_are (gone (is_put asked.told.end.outcome))
+  where
+    gone : (b : Bool) → AreClosings (cond b (task_of (gone_ask asked.reason number) asked.told.end.outcome ∷ []) [])
+    gone true = (refl, tt)
+    gone false = tt
+
+-- so where no call for the port was refused before the first that closes it, each of its commands was put
+pub owner-put : (number ports : ℕ) (soft : List Bool) (program : Program) (left : ProcessLeft) (asked : OwnerAsked number ports soft program left)
+    → AreReceipts soft (calls_of ports program left).asks (calls_of ports program left).receipts → ArePut number (calls_of ports program left)
+    → ArePutCommands number (calls_of ports program left).asks (calls_of ports program left).receipts
+owner-put number ports soft program left asked are put =
+    let gone = gone_asks asked.reason 0 ports in
+    let later = gone ++ asked.closing in
+    let receipts = (calls_of ports program left).receipts in
+    let same : (calls_of ports program left).asks ≡ later ++ asked.commands = asked.asks_are ∙ sym (append_assoc gone asked.closing asked.commands) in
+    let closing = both (λ (a : Asked). (a.port == number) ≡ true → is_closing a.signal ≡ true) gone asked.closing
+    (weaker (λ (a : Asked). (a.port == number) ≡ true → is_gone a.signal ≡ true) (λ (a : Asked). (a.port == number) ≡ true → is_closing a.signal ≡ true) gone
+    (λ a ends for. gone-closing a.signal (ends for)) (gone-ends asked.reason number ports))
+    (weaker (IsCloseCall number) (λ (a : Asked). (a.port == number) ≡ true → is_closing a.signal ≡ true) asked.closing (λ a close for. close-closing a.signal (close for)) asked.close) in
+    subst (λ asks. ArePutCommands number asks receipts) (sym same)
+    (put-commands number soft later asked.commands receipts closing asked.own (subst (λ asks. AreReceipts soft asks receipts) same are) (subst (λ asks. EachBeforeClose number is_put asks receipts) same put))

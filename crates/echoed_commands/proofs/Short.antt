@@ -1,5 +1,5 @@
 -- Few calls, and short ones: none is refused for its size or its number.
-use Rattle.std.proofs.Common.{◌≡◌, ℕ, ◌≤◌, zero, suc, Bool, true, false, cond, List, [], ◌∷◌, length, map, take, drop, Some, refl, sym, ap, ◌∙◌, arith, sum_by}
+use Rattle.std.proofs.Common.{◌≡◌, ℕ, ◌≤◌, ◌||◌, zero, suc, Bool, true, false, cond, List, [], ◌∷◌, length, map, take, drop, Some, refl, sym, ap, ◌∙◌, arith, sum_by}
 use Rattle.std.specs.List.{AllByRecursion}
 use Rattle.std.proofs.lemmas.Bool.{eqb-true, true≢false}
 use Rattle.std.proofs.lemmas.List.{length-append, length-take}
@@ -10,9 +10,9 @@ use Rattle.process_end.specs.process_receipts.Asks.{Asked}
 use Rattle.process_end.specs.process_receipts.declared.how.How.TheVariants.{Plain}
 use Rattle.process_end.specs.process_receipts.declared.receipt.Receipt.{Receipt}
 use Rattle.run_setting.specs.run_end.process_job.script_plan.declared.step.Act.{Act}
-use Rattle.run_setting.specs.run_end.process_job.script_plan.declared.step.Act.TheVariants.{Command, File}
+use Rattle.run_setting.specs.run_end.process_job.script_plan.declared.step.Act.TheVariants.{Command, File, Close, SendClose}
 use Rattle.run_setting.specs.run_end.process_job.script_plan.Plan.{IsWithin}
-use Rattle.echoed_commands.specs.Sending.{IsShort, is_plain, sends_to}
+use Rattle.echoed_commands.specs.Sending.{IsShort, closes, is_plain, sends_to}
 use Rattle.echoed_commands.proofs.Answered.{IsShortAsk}
 use Rattle.echoed_commands.proofs.Asked.{asks-for}
 use Rattle.echoed_history.proofs.Lists.{weaker}
@@ -37,15 +37,22 @@ plain-short number processes ports line (Command port bytes false false) content
 plain-short number processes ports line (File port size file false false) content plain short within = short-pieces number line port size (length content) content within.2
 plain-short number processes ports line act content plain short within = absurd cc
 
+-- a close has no data
+close-short : (number line : ℕ) (act : Act) (content : List ℕ) → closes act ≡ true → AllByRecursion (IsShortAsk number) (asks_of line act content)
+close-short number line (Close port) content is = (λ same. omega arith, tt)
+close-short number line (SendClose port) content is = (λ same. omega arith, tt)
+close-short number line act content is = absurd cc
+
 -- of the owner's steps each call for the port is short
-pub short-asks : (number processes ports line : ℕ) (act : Act) (content : List ℕ) → (sends_to act ≡ Some number → is_plain act ≡ true) → IsShort number act → IsWithin processes ports act
+pub short-asks : (number processes ports line : ℕ) (act : Act) (content : List ℕ) → (sends_to act ≡ Some number → (is_plain act || closes act) ≡ true) → IsShort number act → IsWithin processes ports act
     → AllByRecursion (IsShortAsk number) (asks_of line act content)
-short-asks number processes ports line act content plain short within = by (is_plain act) refl
+short-asks number processes ports line act content sent short within = by (is_plain act) (closes act) refl refl
   where
-    by : (b : Bool) → is_plain act ≡ b → AllByRecursion (IsShortAsk number) (asks_of line act content)
-    by true is = plain-short number processes ports line act content is short within
-    by false is = weaker (λ (a : Asked). sends_to act ≡ Some a.port) (IsShortAsk number) (asks_of line act content)
-        (λ a to same. absurd (true≢false (sym (plain (to ∙ ap Some (eqb-true a.port number same))) ∙ is))) (asks-for line act content)
+    by : (b c : Bool) → is_plain act ≡ b → closes act ≡ c → AllByRecursion (IsShortAsk number) (asks_of line act content)
+    by true c is closed = plain-short number processes ports line act content is short within
+    by false true is closed = close-short number line act content closed
+    by false false is closed = weaker (λ (a : Asked). sends_to act ≡ Some a.port) (IsShortAsk number) (asks_of line act content)
+        (λ a to same. absurd (true≢false (sym (sent (to ∙ ap Some (eqb-true a.port number same))) ∙ (λ i. is i || closed i)))) (asks-for line act content)
 
 -- no more calls were made than the steps make
 step-few : (asks : List Asked) (receipts : List Receipt) → length (made_of_step asks receipts) ≤ length asks

@@ -1,10 +1,10 @@
 -- A run as a whole: what its ports and processes leave of a port that sends each command back.
-use Rattle.std.proofs.Common.{◌≡◌, ℕ, ◌+◌, ◌==◌, ◌<◌, ◌≤◌, Bool, true, cond, List, [], ◌∷◌, ◌++◌, length, Option, Some, None, refl, sym, ap, ◌∙◌, subst, arith, ⊎_elim}
+use Rattle.std.proofs.Common.{◌≡◌, ℕ, ◌==◌, ◌<◌, ◌≤◌, ◌||◌, Bool, true, false, cond, List, [], ◌∷◌, ◌++◌, length, Option, Some, None, sym, ap, ◌∙◌, subst, arith, ⊎_elim}
 use Rattle.std.specs.Prelude.{reverse, slice_index, slice_index_or}
-use Rattle.std.specs.List.{AllByRecursion, flat_map}
+use Rattle.std.specs.List.{AllByRecursion, flat_map, list_any}
 use Rattle.std.proofs.lemmas.Bool.{eqb-false, cases_lt, true_from_ne_false}
-use Rattle.std.proofs.lemmas.List.{append-nil, length-reverse, reverse-reverse}
-use Rattle.std.proofs.lemmas.List.Elements.{All-from_recursion, recursion_from_All}
+use Rattle.std.proofs.lemmas.List.{append-nil, length-append, length-reverse}
+use Rattle.std.proofs.lemmas.List.Elements.{recursion_from_All}
 use Rattle.script_run.specs.run_opening.driver_hosts.declared.hosted.Hosted.{Hosted}
 use Rattle.script_run.specs.run_opening.driver_model.Calls.{Kind, Own}
 use Rattle.script_run.specs.run_opening.driver_model.Programs.{ToldProgram}
@@ -25,7 +25,7 @@ use Rattle.run_setting.specs.run_end.process_job.Asks.{asks_of, calls_of as call
 use Rattle.run_setting.specs.run_end.process_job.Mails.{Came}
 use Rattle.process_end.specs.process_receipts.Asks.{Asked, task_of}
 use Rattle.process_end.specs.process_receipts.Receipts.{AreReceipts, accepted, is_put, stats_shown}
-use Rattle.process_end.specs.process_receipts.declared.receipt.Receipt.{Receipt}
+use Rattle.process_end.specs.process_receipts.declared.receipt.Outcome.{Outcome}
 use Rattle.run_setting.specs.run_end.Merge.{IsFromPort}
 use Rattle.run_setting.specs.run_end.Shown.{Calls, WordsHold}
 use Rattle.script_run.specs.run_opening.Opened.{limits_of, soft_at}
@@ -39,17 +39,20 @@ use Rattle.script_run.specs.declared.running.PortLeft.{PortLeft}
 use Rattle.script_run.specs.declared.running.ProcessLeft.{ProcessLeft}
 use Rattle.script_run.specs.declared.running.ScriptRan.{ScriptRan}
 use Rattle.script_run.specs.Ran.{HasRun, IsFrom, PairHolds, PortServed, all_calls, calls_of, history_of, opening_of}
-use Rattle.echoed_commands.specs.Sending.{IsEchoPort, IsShort, sends_back, sends_to, is_plain}
-use Rattle.echoed_commands.specs.Echoed.{AllIsEchoed, CommandsAreEchoed, EchoesAllTo, RefusesNoneOf, EchoesTo, NoneIsRefused, is_taken}
-use Rattle.echoed_history.specs.Commands.{AreCommands, AreEnds, OthersEnd, echoes, task_data}
-use Rattle.echoed_commands.proofs.Answered.{EachFor, IsShortAsk, made-put, made-taken, owner-taken}
+use Rattle.echoed_commands.specs.Sending.{IsEchoPort, IsShort, closes, is_plain, sends_back, sends_to}
+use Rattle.echoed_commands.specs.Echoed.{AllIsEchoed, CommandsAreEchoed, EachBeforeClose, EchoesAllTo, EchoesTo, NoneIsRefused, RefusesNoneOf, closes_port, is_taken}
+use Rattle.echoed_history.specs.Commands.{AreClosings, AreCommands, AreEnds, OthersEnd, echoes, task_data}
+use Rattle.echoed_history.specs.Laws.{SendsBack}
+use Rattle.echoed_commands.proofs.Answered.{IsShortAsk, all-taken, commands-open, made-put, put-taken}
 use Rattle.echoed_commands.proofs.Asked.{other-asks, steps-made}
-use Rattle.echoed_history.proofs.Lists.{reversed, weaker}
+use Rattle.echoed_history.proofs.Lists.{back as back-of, reversed, weaker}
 use Rattle.echoed_commands.proofs.Content.{all-data}
 use Rattle.echoed_commands.proofs.Short.{made-few, short-asks}
-use Rattle.echoed_commands.proofs.Mailed.{AreNotFor, OthersSendNone, came-saved, mails-other, own-other, readable-other, readable-saved}
-use Rattle.echoed_commands.proofs.Owner.{OwnerAsked, at-calls, ends-alone, kind-echoes, late-reversed, many-calls, no-rows, owner-asked, owner-commands, owner-tasks}
-use Rattle.echoed_history.proofs.Serving.{HasServed, has-served, serves, unfinished}
+use Rattle.echoed_history.proofs.Unsaved.{AreNotFor}
+use Rattle.echoed_commands.proofs.Mailed.{OthersSendNone, came-saved, mails-other, own-other, readable-other, readable-saved}
+use Rattle.echoed_commands.proofs.Owner.{OwnerAsked, at-calls, closings_of, ends-alone, kind-echoes, late-reversed, many-calls, no-rows, owner-asked, owner-closings, owner-commands, owner-put, owner-tasks}
+use Rattle.echoed_history.proofs.Closing.{commands-come-back}
+use Rattle.echoed_history.proofs.Serving.{serves, unfinished}
 
 -- a port of a run that sends each command back, and that its owner alone sends commands
 module _ {D : Type 0} (kind : D → Kind) (stage : D → Life) (faults : D → ℕ) (own : D → Own) (program : D → Option ToldProgram) (script : RunScript) (old new : List (Hosted D)) (before : List ℕ)
@@ -95,12 +98,12 @@ module _ {D : Type 0} (kind : D → Kind) (stage : D → Life) (faults : D → �
   from = reversed (IsFrom processes script.workers) port.journal.rows (recursion_from_All (IsFrom processes script.workers) port.journal.rows served.holds.senders)
 
   -- what the steps of a process send
-  sends : (s : ℕ) → s < processes → AllByRecursion (λ (step : Step). sends_to step.act ≡ Some number → (s ≡ decl.owner) × (is_plain step.act ≡ true)) (of_process s).steps.items
-  sends s below = recursion_from_All (λ (step : Step). sends_to step.act ≡ Some number → (s ≡ decl.owner) × (is_plain step.act ≡ true)) (of_process s).steps.items (is.sent s p below)
+  sends : (s : ℕ) → s < processes → AllByRecursion (λ (step : Step). sends_to step.act ≡ Some number → (s ≡ decl.owner) × ((is_plain step.act || closes step.act) ≡ true)) (of_process s).steps.items
+  sends s below = recursion_from_All (λ (step : Step). sends_to step.act ≡ Some number → (s ≡ decl.owner) × ((is_plain step.act || closes step.act) ≡ true)) (of_process s).steps.items (is.sent s p below)
 
   sends-none : (s : ℕ) → s < processes → (s ≡ decl.owner → ⊥)
       → AllByRecursion (λ (step : Step). (content : List ℕ) → AllByRecursion (λ (a : Asked). (a.port == number) ≡ true → ⊥) (asks_of step.line step.act content)) (of_process s).steps.items
-  sends-none s below apart = weaker (λ (step : Step). sends_to step.act ≡ Some number → (s ≡ decl.owner) × (is_plain step.act ≡ true))
+  sends-none s below apart = weaker (λ (step : Step). sends_to step.act ≡ Some number → (s ≡ decl.owner) × ((is_plain step.act || closes step.act) ≡ true))
       (λ (step : Step). (content : List ℕ) → AllByRecursion (λ (a : Asked). (a.port == number) ≡ true → ⊥) (asks_of step.line step.act content)) (of_process s).steps.items
       (λ step sent content. other-asks number step.line step.act content (λ to. apart (sent to).0)) (sends s below)
 
@@ -127,30 +130,37 @@ module _ {D : Type 0} (kind : D → Kind) (stage : D → Life) (faults : D → �
 
   asked : OwnerAsked number ports (soft_at kind old run.places) (of_process decl.owner) (left decl.owner)
   asked = owner-asked number ports (soft_at kind old run.places) (of_process decl.owner) (left decl.owner) within receipts-are
-      (weaker (λ (step : Step). sends_to step.act ≡ Some number → (decl.owner ≡ decl.owner) × (is_plain step.act ≡ true)) (λ (step : Step). sends_to step.act ≡ Some number → is_plain step.act ≡ true)
-      (of_process decl.owner).steps.items (λ step sent to. (sent to).1) (sends decl.owner is-there))
+      (weaker (λ (step : Step). sends_to step.act ≡ Some number → (decl.owner ≡ decl.owner) × ((is_plain step.act || closes step.act) ≡ true))
+      (λ (step : Step). sends_to step.act ≡ Some number → (is_plain step.act || closes step.act) ≡ true) (of_process decl.owner).steps.items (λ step sent to. (sent to).1) (sends decl.owner is-there))
+      (is.closes_last decl.owner p is-there)
 
   abbrev commands : List TaskView
-  commands = accepted number asked.made asked.told.rest
+  commands = accepted number asked.commands asked.behind.rest
 
-  abbrev gone : TaskView
-  gone = task_of (gone_ask asked.reason number) asked.told.end.outcome
+  abbrev closings : List TaskView
+  closings = closings_of number ports (soft_at kind old run.places) (of_process decl.owner) (left decl.owner) asked
 
-  tasks : rows_from (Process decl.owner) history ≡ commands ++ cond (is_put asked.told.end.outcome) (gone ∷ []) []
+  tasks : rows_from (Process decl.owner) history ≡ commands ++ closings
   tasks = pair.tasks ∙ owner-tasks number ports (soft_at kind old run.places) (of_process decl.owner) (left decl.owner) asked
 
   are-commands : AreCommands commands
   are-commands = owner-commands number ports (soft_at kind old run.places) (of_process decl.owner) (left decl.owner) asked
 
-  -- the port was told of the owner's end, since it closed
-  was-told : is_put asked.told.end.outcome ≡ true
-  was-told = true_from_ne_false (is_put asked.told.end.outcome) (λ no. unfinished opening history served.holds.finished
-      (serves opening history is-echo served.holds.lawful
-      (subst AreCommands (sym (tasks ∙ ap (λ b. commands ++ cond b (gone ∷ []) []) no ∙ append-nil commands)) are-commands) others-end))
+  are-closings : AreClosings closings
+  are-closings = owner-closings number ports (soft_at kind old run.places) (of_process decl.owner) (left decl.owner) asked
 
-  has : HasServed opening history
-  has = has-served opening commands gone history is-echo served.holds.lawful
-      (record { tasks = tasks ∙ ap (λ b. commands ++ cond b (gone ∷ []) []) was-told; commands_are = are-commands; gone_is = refl }) others-end
+  -- one of the owner's tasks closed the port, since it is finished
+  some-closing : closings ≡ [] → ⊥
+  some-closing none = unfinished opening history served.holds.finished
+      (serves opening history is-echo served.holds.lawful (subst AreCommands (sym (tasks ∙ ap (λ more. commands ++ more) none ∙ append-nil commands)) are-commands) others-end)
+
+  -- it was told of the owner's end, where no call closed it before
+  was-told : list_any (closes_port number) (asked.closing ++ asked.commands) ≡ false → is_put asked.told.end.outcome ≡ true
+  was-told none = true_from_ne_false (is_put asked.told.end.outcome)
+      (λ no. some-closing (λ i. asked.behind.none none i ++ cond (no i) (task_of (gone_ask asked.reason number) asked.told.end.outcome ∷ []) []))
+
+  back : SendsBack opening history
+  back = commands-come-back opening commands closings history is-echo served.holds.lawful (record { tasks = tasks; commands_are = are-commands; closings_are = are-closings }) others-end
 
   others-none : OthersSendNone ports number (run.came decl.owner)
   others-none None other source = subst (AreNotFor number) (sym (run.processes decl.owner p l is-there).own) (own-other number (calls decl.owner).asks (calls decl.owner).receipts)
@@ -167,7 +177,7 @@ module _ {D : Type 0} (kind : D → Kind) (stage : D → Life) (faults : D → �
       (recursion_from_All (λ (c : Came). IsFromPort ports c.from) (run.came decl.owner) (run.processes decl.owner p l is-there).among)
       ∙ ap (saved_of number) pair.mail
       ∙ readable-saved number (mails opening decl.owner history)
-      ∙ has.saved
+      ∙ back.saved
       ∙ ap (flat_map task_data) pair.tasks
 
   abbrev marks : List StatMark
@@ -183,15 +193,22 @@ module _ {D : Type 0} (kind : D → Kind) (stage : D → Life) (faults : D → �
       let shown = served.words.shown decl.owner (calls decl.owner) (omega (arith, below, many)) in
       (subst (WordsHold number (limits_of decl.config) marks all) (at-calls ports script.programs.items ran.processes.items decl.owner (calls decl.owner) p l same below) shown).rise
 
-  rest-taken : EachFor number is_taken asked.told.rest
-  rest-taken = made-taken number (soft_at kind old run.places) asked.reason asked.made (gone_asks asked.reason 0 ports ++ asked.made) (calls decl.owner).receipts marks asked.told was-told asked.own rises
+  commands-taken : EachBeforeClose number is_taken asked.commands asked.behind.rest
+  commands-taken = all-taken number (soft_at kind old run.places) asked.commands asked.behind.rest asked.behind.made_are asked.own
+      (commands-open number (soft_at kind old run.places) asked.reason asked.commands (asked.closing ++ asked.commands) (gone_asks asked.reason 0 ports ++ (asked.closing ++ asked.commands))
+      (calls decl.owner).receipts marks asked.told asked.behind some-closing rises)
+
+  -- what holds of the commands holds of all calls before the first that closes the port, where it holds of the end
+  each-call : (test : Outcome → Bool) → EachBeforeClose number test asked.commands asked.behind.rest → ((o : Outcome) → is_put o ≡ true → test o ≡ true)
+      → EachBeforeClose number test (calls decl.owner).asks (calls decl.owner).receipts
+  each-call test all end = subst (λ asks. EachBeforeClose number test asks (calls decl.owner).receipts) (sym asked.asks_are)
+      (asked.told.each test (asked.behind.each test all) (λ none. end asked.told.end.outcome (was-told none)))
 
   pub echoes-to : EchoesTo script ran number decl.owner p o l
   echoes-to = record {
-    taken = All-from_recursion (λ (r : Receipt). r.port ≡ number → is_taken r.outcome ≡ true) (calls decl.owner).receipts
-        (owner-taken number (soft_at kind old run.places) asked.reason asked.made (gone_asks asked.reason 0 ports ++ asked.made) (calls decl.owner).receipts asked.told was-told rest-taken);
+    taken = each-call is_taken commands-taken put-taken;
     saved = saved;
-    none_late = sym (late-reversed port.journal.rows) ∙ has.none_late;
+    none_late = sym (late-reversed port.journal.rows) ∙ back.none_late;
   }
 
   steps-within : IsRunnable script → AllByRecursion (λ (step : Step). IsWithin processes ports step.act) (of_process decl.owner).steps.items
@@ -201,14 +218,14 @@ module _ {D : Type 0} (kind : D → Kind) (stage : D → Life) (faults : D → �
   echoes-all runnable put =
       saved
       ∙ all-data number processes ports (soft_at kind old run.places) (of_process decl.owner).steps.items (of_process decl.owner).files.items (left decl.owner).receipts (omega (arith, within)) receipts-are
-      (steps-within runnable) (recursion_from_All (λ (r : Receipt). r.port ≡ number → is_put r.outcome ≡ true) (left decl.owner).receipts put)
+      (steps-within runnable) (owner-put number ports (soft_at kind old run.places) (of_process decl.owner) (left decl.owner) asked receipts-are put)
 
-  short : IsRunnable script → AllByRecursion (λ (step : Step). IsShort number step.act) (of_process decl.owner).steps.items → AllByRecursion (IsShortAsk number) asked.made
-  short runnable small = subst (AllByRecursion (IsShortAsk number)) (sym asked.made_is)
+  short : IsRunnable script → AllByRecursion (λ (step : Step). IsShort number step.act) (of_process decl.owner).steps.items → AllByRecursion (IsShortAsk number) asked.commands
+  short runnable small = back-of (IsShortAsk number) asked.closing asked.commands (subst (AllByRecursion (IsShortAsk number)) (sym asked.made_is)
       (steps-made (IsShortAsk number) (of_process decl.owner).steps.items (of_process decl.owner).files.items (left decl.owner).receipts
-      (each (of_process decl.owner).steps.items (sends decl.owner is-there) small (steps-within runnable)))
+      (each (of_process decl.owner).steps.items (sends decl.owner is-there) small (steps-within runnable))))
     where
-      each : (steps : List Step) → AllByRecursion (λ (step : Step). sends_to step.act ≡ Some number → (decl.owner ≡ decl.owner) × (is_plain step.act ≡ true)) steps
+      each : (steps : List Step) → AllByRecursion (λ (step : Step). sends_to step.act ≡ Some number → (decl.owner ≡ decl.owner) × ((is_plain step.act || closes step.act) ≡ true)) steps
           → AllByRecursion (λ (step : Step). IsShort number step.act) steps → AllByRecursion (λ (step : Step). IsWithin processes ports step.act) steps
           → AllByRecursion (λ (step : Step). (content : List ℕ) → AllByRecursion (IsShortAsk number) (asks_of step.line step.act content)) steps
       each [] sent small within' = tt
@@ -220,14 +237,13 @@ module _ {D : Type 0} (kind : D → Kind) (stage : D → Life) (faults : D → �
       let steps = (of_process decl.owner).steps.items in
       let receipts = (left decl.owner).receipts in
       let made = made_of (calls_of_steps steps (of_process decl.owner).files.items) receipts in
-      let made_long : length asked.made ≡ length made = ap length asked.made_is ∙ length-reverse made in
+      let made_long : length (asked.closing ++ asked.commands) ≡ length made = ap length asked.made_is ∙ length-reverse made in
+      let both_long = length-append asked.closing asked.commands in
       let few = made-few (calls_of_steps steps (of_process decl.owner).files.items) receipts in
       let few' = small.few in
-      let rest = made-put number (soft_at kind old run.places) asked.made asked.told.rest asked.told.made_are rest-taken
-      (short runnable (recursion_from_All (λ (step : Step). IsShort number step.act) steps small.short)) (omega (arith, made_long, few, few')) in
-      All-from_recursion (λ (r : Receipt). r.port ≡ number → is_put r.outcome ≡ true) receipts
-      (subst (EachFor number is_put) (reverse-reverse receipts)
-      (reversed (λ (r : Receipt). r.port ≡ number → is_put r.outcome ≡ true) (calls decl.owner).receipts (asked.told.each is_put rest was-told)))
+      each-call is_put
+      (made-put number (soft_at kind old run.places) asked.commands asked.behind.rest asked.behind.made_are commands-taken
+      (short runnable (recursion_from_All (λ (step : Step). IsShort number step.act) steps small.short)) (omega (arith, made_long, both_long, few, few'))) (λ o put. put)
 
 pub commands-are-echoed : {D : Type 0} (kind : D → Kind) (stage : D → Life) (faults : D → ℕ) (own : D → Own) (program : D → Option ToldProgram) → CommandsAreEchoed kind stage faults own program
 commands-are-echoed kind stage faults own program script old new before after ran run number d p o l within is =

@@ -1,5 +1,5 @@
--- A port that sends each command back, and to which its owner alone sends: commands without options, until the processes end.
-use Rattle.std.specs.Prelude.{◌≡◌, ℕ, ◌<◌, ◌≤◌, ◌==◌, List, [], ◌∷◌, ◌++◌, length, All, Bool, true, false, Option, Some, None, if◌then◌else◌, slice_index_or, codes}
+-- A port that sends each command back, and to which its owner alone sends: commands without options, and behind them nothing but closes, until the processes end.
+use Rattle.std.specs.Prelude.{◌≡◌, ℕ, ◌<◌, ◌≤◌, ◌==◌, List, [], ◌∷◌, ◌++◌, length, All, Bool, true, false, ◌||◌, Option, Some, None, if◌then◌else◌, slice_index_or, codes}
 use Rattle.std.specs.List.{list_any, sum_by}
 use Rattle.script_run.specs.run_opening.driver_model.Same.{same_bytes}
 use Rattle.run_setting.specs.run_end.process_job.Asks.{calls_of, files_after, next_content}
@@ -38,11 +38,27 @@ is_plain (Command port bytes false false) = true
 is_plain (File port size file false false) = true
 is_plain _ = false
 
--- The driver of the port sends each command back. Of all steps those that send to the port are its owner's, and send commands without options
+-- the act closes its port
+abbrev pub closes : Act → Bool
+closes (Close port) = true
+closes (SendClose port) = true
+closes _ = false
+
+-- each of these steps that sends to the port closes it
+abbrev pub OnlyClose : ℕ → List Step → Type 0
+OnlyClose number steps = All (λ s. sends_to s.act ≡ Some number → closes s.act ≡ true) steps
+
+-- of these steps those that close the port stand behind all others that send to it
+abbrev pub ClosesLast : ℕ → List Step → Type 0
+ClosesLast number [] = Unit {0}
+ClosesLast number (step ∷ steps) = (sends_to step.act ≡ Some number → closes step.act ≡ true → OnlyClose number steps) × ClosesLast number steps
+
+-- The driver of the port sends each command back. Of all steps those that send to the port are its owner's: they send commands without options or close it, and those that close it stand last
 pub record IsEchoPort (number : ℕ) (decl : PortDecl) (programs : List Program) : Type 0 where
   pub driver : sends_back decl.driver ≡ true
   pub sent : (process : ℕ) (p : Program) → process < length programs
-      → All (λ s. sends_to s.act ≡ Some number → (process ≡ decl.owner) × (is_plain s.act ≡ true)) (slice_index_or programs process p).steps.items
+      → All (λ s. sends_to s.act ≡ Some number → (process ≡ decl.owner) × ((is_plain s.act || closes s.act) ≡ true)) (slice_index_or programs process p).steps.items
+  pub closes_last : (process : ℕ) (p : Program) → process < length programs → ClosesLast number (slice_index_or programs process p).steps.items
 
 -- the bytes that an act sends to a port in commands: those of a file are its content
 abbrev pub sent_by : ℕ → Act → List ℕ → List ℕ

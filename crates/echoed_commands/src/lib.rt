@@ -5,9 +5,9 @@ ghost use Rattle.echoed_commands.specs.Echoed.{AllIsEchoed, CommandsAreEchoed, N
 
 pub use script_run::{Driver, PortLeft, ProcessLeft, RunEnd, RunFault, ScriptRan, run_script};
 
-/// Of a port whose driver sends each command back (`echo`, `valve` and `valve_soft`), and to which its owner alone sends, commands without options, until the processes end, each run of the script leaves
-/// for the owner the data of its commands that were accepted or suspended, in their order. No command is dropped, refused as closed or late. Where none is refused at all, it is all that the steps send; and
-/// none is where the owner makes at most 131,072 calls and its commands have at most 262,143 bytes.
+/// Of a port whose driver sends each command back (`echo`, `valve` and `valve_soft`), and to which its owner alone sends, commands without options and behind them nothing but closes, until the processes
+/// end, each run of the script leaves for the owner the data of its commands that were accepted or suspended, in their order. No command is dropped, refused as closed or late. Where none is refused at all,
+/// it is all that the steps send; and none is where the owner makes at most 131,072 calls and its commands have at most 262,143 bytes.
 pub fn commands_are_echoed<D: Driver>()
     ensures echoed { CommandsAreEchoed D.kind D.stage D.faults D.own D.program }
     ensures all { AllIsEchoed D.kind D.stage D.faults D.own D.program }

@@ -1,12 +1,12 @@
 -- A row of a port that sends each command back: who is tied to it, and what it sends.
-use Rattle.std.proofs.Common.{◌≡◌, ℕ, ◌+◌, ◌==◌, ◌&&◌, ◌||◌, not, Bool, true, false, cond, List, [], ◌∷◌, ◌++◌, Option, Some, None, refl, sym, ap, ◌∙◌, ⊎_elim}
-use Rattle.std.specs.Prelude.{nat_lt, is_some, map}
-use Rattle.std.specs.List.{flat_map, concat}
-use Rattle.std.proofs.lemmas.Bool.{eqb-true, eq-eqb, ne_eqb, cases_eq, or_right}
+use Rattle.std.proofs.Common.{◌≡◌, ℕ, ◌+◌, ◌==◌, ◌&&◌, ◌||◌, not, Bool, true, false, cond, List, [], ◌∷◌, ◌++◌, Option, Some, None, refl, sym, ap, ◌∙◌}
+use Rattle.std.specs.Prelude.{nat_lt, is_some, map, codes}
+use Rattle.std.specs.List.{AllByRecursion, flat_map, concat}
+use Rattle.std.proofs.lemmas.Bool.{eq-eqb, ne_eqb, or_left}
 use Rattle.std.proofs.lemmas.List.{append-nil}
 use Rattle.std.proofs.lemmas.List.Sums.{sum_by-cons}
 use Rattle.driver_model.specs.port_signal.Links.{has, with_process, without_process, end_closes}
-use Rattle.driver_model.specs.port_signal.Reasons.{is_normal}
+use Rattle.driver_model.specs.port_signal.Reasons.{is_kill, is_normal}
 use Rattle.port_history.specs.port_model.io_vector.declared.flag.Flag.TheVariants.{Plain}
 use Rattle.port_history.specs.port_model.declared.event.Dir.TheVariants.{Read, Write}
 use Rattle.port_history.specs.port_model.declared.effect.Effect.{Effect}
@@ -18,7 +18,7 @@ use Rattle.port_history.specs.port_model.declared.row.Row.{Row}
 use Rattle.port_history.specs.port_model.declared.signal.Sender.{Sender}
 use Rattle.port_history.specs.port_model.declared.signal.Sender.TheVariants.{Process, Poller, Worker, Timer}
 use Rattle.port_history.specs.port_model.declared.signal.Signal.{Signal}
-use Rattle.port_history.specs.port_model.declared.signal.Signal.TheVariants.{Command, Gone, Ready, Dropped, AsyncDone}
+use Rattle.port_history.specs.port_model.declared.signal.Signal.TheVariants.{Command, OwnerCommand, Close, OwnerClose, Gone, Ready, Dropped, AsyncDone}
 use Rattle.port_history.specs.port_model.Signals.{is_command}
 use Rattle.port_history.specs.port_model.Tasks.{TaskView}
 use Rattle.driver_model.specs.Calls as driver
@@ -27,13 +27,14 @@ use Rattle.port_history.specs.Counts.{saved_of, is_late_command, late_commands}
 use Rattle.port_history.specs.Laws.{may_send}
 use Rattle.port_history.specs.Mail.{Sent, effect_mail, mail_for, answers, answer_mail, closing_mail, closed_mail, handled_mail, send}
 use Rattle.port_history.specs.Opening.{Opening, Taken, taken_of}
-use Rattle.port_history.specs.Service.{callback_of, caller_of, calls_by, exit_callback, effects_after, flush_calls, must_stop, stop_calls, first_reason}
+use Rattle.port_history.specs.Service.{callback_of, caller_of, calls_by, exit_callback, effects_after, flush_calls, is_drained, must_stop, stop_calls, first_reason}
 use Rattle.port_history.specs.State.{State, closing_reason, signal_calls, flushed_calls, stops, row_calls, closer_after}
 use Rattle.port_history.specs.Ties.{Ties, tied, tied_by, closes_for, signal_reason, failure}
 use Rattle.echoed_history.proofs.Effects.{}
-use Rattle.echoed_history.specs.Commands.{command_data, echoes, task_data}
+use Rattle.echoed_history.specs.Commands.{command_data, echoes, is_closing, task_data}
 use Rattle.port_body.specs.LanePort.{task_from}
 use Rattle.echoed_history.proofs.Effects.{is_silent, silent, sends-back}
+use Rattle.echoed_history.proofs.Lists.{both}
 
 -- who has ended
 
@@ -45,18 +46,6 @@ has-other p q (x ∷ xs) apart = place (has-other p q xs apart) (nat_lt q x) (x 
     place rest true b = ap (λ c. c || ((x == p) || has p xs)) (ne_eqb q p apart)
     place rest false true = refl
     place rest false false = ap (λ c. (x == p) || c) rest
-
-pub has-own : (p q : ℕ) (xs : List ℕ) → q ≡ p → has p (with_process q xs) ≡ true
-has-own p q [] own = ap (λ b. b || false) (eq-eqb q p own)
-has-own p q (x ∷ xs) own = place (has-own p q xs own) (nat_lt q x) (x == q) refl
-  where
-    place : has p (with_process q xs) ≡ true → (a b : Bool) → (x == q) ≡ b → has p (cond a (q ∷ x ∷ xs) (cond b (x ∷ xs) (x ∷ with_process q xs))) ≡ true
-    place rest true b is = ap (λ c. c || ((x == p) || has p xs)) (eq-eqb q p own)
-    place rest false true is = ap (λ c. c || has p xs) (eq-eqb x p (eqb-true x q is ∙ own))
-    place rest false false is = or_right (x == p) (has p (with_process q xs)) rest
-
-pub has-kept : (p q : ℕ) (xs : List ℕ) → has p xs ≡ true → has p (with_process q xs) ≡ true
-has-kept p q xs there = ⊎_elim (λ own. has-own p q xs own) (λ apart. has-other p q xs apart ∙ there) (cases_eq q p)
 
 -- the port is open, its opener is its owner, the only linked process and hasn't ended, and its driver isn't stopped
 pub record IsServing (port : Opening) (s : State) : Type 0 where
@@ -123,7 +112,7 @@ command-is-served port s p seq task outside effects payload is serving own comma
     map-mail b = map (λ (m : Sent). m.mail) (cond b (send s.ties.owner (mail.Message port.number Plain (concat payload)) ∷ []) [])
 
 -- a callback that has no effect, or none
-abbrev is_quiet : Option Callback → Bool
+abbrev pub is_quiet : Option Callback → Bool
 is_quiet None = true
 is_quiet (Some callback) = is_silent callback
 
@@ -137,6 +126,62 @@ quiet-end watched p = elim (has p watched) as (λ b. is_quiet (cond b (Some (dri
   | true ↦ refl
   | false ↦ refl
 ]
+
+-- calls that have no effect
+abbrev AreSilent : List DriverCall → Type 0
+AreSilent calls = AllByRecursion (λ (c : DriverCall). is_silent c.callback ≡ true) calls
+
+no-effects : (port : Opening) (earlier calls : List DriverCall) → echoes port.kind ≡ true → AreSilent calls → effects_after port earlier calls ≡ []
+no-effects port earlier [] is quiet = refl
+no-effects port earlier (call ∷ before) is quiet = (λ i. no-effects port earlier before is quiet.1 i ++ silent port.kind port.config call (before ++ earlier) is quiet.0 i)
+
+stop-silent : (stopped : Bool) (caller : ℕ) → AreSilent (stop_calls stopped caller)
+stop-silent true caller = (refl, tt)
+stop-silent false caller = tt
+
+flush-silent : (port : Opening) (caller : ℕ) (reason : Option (List ℕ)) (earlier : List DriverCall) → AreSilent (flush_calls port caller reason earlier)
+flush-silent port caller None earlier = tt
+flush-silent port caller (Some reason) earlier = by (is_kill reason || is_drained port earlier)
+  where
+    by : (b : Bool) → AreSilent (cond b [] (call_of driver.Flush caller [] [] ∷ []))
+    by true = tt
+    by false = (refl, tt)
+
+signal-silent : (callback : Option Callback) (caller : ℕ) (t : Taken) → is_quiet callback ≡ true → AreSilent (calls_by callback caller t)
+signal-silent None caller t quiet = tt
+signal-silent (Some callback) caller t quiet = (quiet, tt)
+
+-- the row of a task has no effects whose signal has none
+pub row-silent : (port : Opening) (s : State) (t : Taken) → echoes port.kind ≡ true → is_quiet (callback_of s.ties s.watched t.from t.task.signal) ≡ true → effects_after port s.calls (row_calls port s t) ≡ []
+row-silent port s t is quiet =
+    let caller = caller_of s.ties t.from in
+    no-effects port s.calls (row_calls port s t) is
+    (both _ (stop_calls (stops port s t) caller) (flushed_calls port s t) (stop-silent (stops port s t) caller)
+    (both _ (flush_calls port caller (closing_reason s t) (signal_calls s t ++ s.calls)) (signal_calls s t) (flush-silent port caller (closing_reason s t) (signal_calls s t ++ s.calls))
+    (signal-silent (callback_of s.ties s.watched t.from t.task.signal) caller t quiet)))
+
+-- what closes the port is no command, and has no effect
+pub closing-command : (signal : Signal) → is_closing signal ≡ true → is_command signal ≡ false
+closing-command (Command payload) is = absurd cc
+closing-command (OwnerCommand payload) is = absurd cc
+closing-command signal is = refl
+
+pub closing-data : (signal : Signal) → is_closing signal ≡ true → command_data signal ≡ []
+closing-data (Command payload) is = absurd cc
+closing-data signal is = refl
+
+pub closing-quiet : (ties : Ties) (watched : List ℕ) (p : ℕ) (signal : Signal) → is_closing signal ≡ true → is_quiet (callback_of ties watched (Process p) signal) ≡ true
+closing-quiet ties watched p Close is = refl
+closing-quiet ties watched p OwnerClose is = refl
+closing-quiet ties watched p (Gone reason) is = quiet-end watched p
+closing-quiet ties watched p signal is = absurd cc
+
+-- and closes it where the owner sends it
+pub closes-for : (ties : Ties) (p : ℕ) (signal : Signal) → p ≡ ties.owner → is_closing signal ≡ true → (reason : List ℕ) × (closes_for ties p signal ≡ Some reason)
+closes-for ties p Close own is = (codes "normal", refl)
+closes-for ties p OwnerClose own is = (codes "normal", ap (λ b. cond b (Some (codes "normal")) None) (eq-eqb p ties.owner own))
+closes-for ties p (Gone reason) own is = (reason, ap (λ b. cond b (Some reason) None) (or_left (p == ties.owner) (has p ties.linked && not (is_normal reason)) (eq-eqb p ties.owner own)))
+closes-for ties p signal own is = absurd cc
 
 -- the end of another process is nothing to the port
 pub end-is-served : (port : Opening) (s : State) (p seq : ℕ) (task : TaskView) (outside : List Outside) (effects : List Effect) (reason : List ℕ) → echoes port.kind ≡ true → IsServing port s
@@ -161,7 +206,7 @@ abbrev pub is_outside : Sender → Bool
 is_outside (Process p) = false
 is_outside from = true
 
-quiet-outside : (ties : Ties) (watched : List ℕ) (from : Sender) (signal : Signal) → is_outside from ≡ true → may_send from signal ≡ true → is_quiet (callback_of ties watched from signal) ≡ true
+pub quiet-outside : (ties : Ties) (watched : List ℕ) (from : Sender) (signal : Signal) → is_outside from ≡ true → may_send from signal ≡ true → is_quiet (callback_of ties watched from signal) ≡ true
 quiet-outside ties watched (Process p) signal is may = absurd cc
 quiet-outside ties watched from (Ready event Read) is may = refl
 quiet-outside ties watched from (Ready event Write) is may = refl

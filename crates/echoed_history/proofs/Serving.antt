@@ -1,12 +1,11 @@
--- The history of a port that sends each command back, whose owner sends it commands and then its end, and whose other processes send it their ends: it serves the owner up to the owner's end.
-use Rattle.std.proofs.Common.{◌≡◌, ℕ, ◌==◌, ◌&&◌, ◌||◌, not, Bool, true, false, cond, List, [], ◌∷◌, ◌++◌, Option, Some, None, refl, sym, ap, ◌∙◌, subst, ⊎_elim}
+-- The history of a port that sends each command back, whose owner has sent it commands alone, and whose other processes send it their ends: it serves the owner.
+use Rattle.std.proofs.Common.{◌≡◌, ℕ, ◌==◌, ◌&&◌, ◌||◌, not, Bool, true, false, cond, List, [], ◌∷◌, ◌++◌, Option, None, refl, sym, ap, ◌∙◌, subst, ⊎_elim}
 use Rattle.std.specs.Prelude.{is_some, map}
 use Rattle.std.specs.List.{AllByRecursion, flat_map, list_all}
-use Rattle.std.proofs.lemmas.Bool.{and_parts, eq-eqb, cases_eq, true≢false, or_left}
-use Rattle.driver_model.specs.port_signal.Reasons.{is_normal}
+use Rattle.std.proofs.lemmas.Bool.{and_parts, cases_eq, true≢false}
 use Rattle.std.proofs.lemmas.List.{append-nil}
 use Rattle.std.proofs.lemmas.List.Concat.{flat_map-append}
-use Rattle.driver_model.specs.port_signal.Links.{has, end_closes}
+use Rattle.driver_model.specs.port_signal.Links.{has}
 use Rattle.driver_model.specs.port_signal.declared.outside.Outside.{Outside}
 use Rattle.driver_model.specs.Same.{same_effects}
 use Rattle.port_history.specs.port_model.declared.effect.Effect.{Effect}
@@ -18,7 +17,6 @@ use Rattle.port_history.specs.port_model.declared.signal.Sender.{Sender}
 use Rattle.port_history.specs.port_model.declared.signal.Sender.TheVariants.{Process}
 use Rattle.port_history.specs.port_model.declared.signal.Signal.{Signal}
 use Rattle.port_history.specs.port_model.declared.signal.Signal.TheVariants.{Command, Gone}
-use Rattle.port_history.specs.port_model.Signals.{is_command}
 use Rattle.port_history.specs.port_model.Tasks.{TaskView}
 use Rattle.port_history.specs.Counts.{saved_mail, saved_of, is_late_command, late_commands}
 use Rattle.port_history.specs.Jobs.{is_done}
@@ -27,15 +25,15 @@ use Rattle.port_history.specs.Lawful.{KeepsLaws, Lawful, IsFinished}
 use Rattle.port_history.specs.Mail.{Sent, send, mails, mail_for, row_mail, handled_mail}
 use Rattle.port_history.specs.Opening.{Opening, taken_of}
 use Rattle.port_history.specs.Service.{effects_after, first_reason}
-use Rattle.port_history.specs.State.{State, state, is_open, closing_reason, signal_calls, row_calls, ties_after}
-use Rattle.port_history.specs.Ties.{Ties, tied, tied_by, tied_late, untied, closes_for, signal_reason, failure}
+use Rattle.port_history.specs.State.{State, state, is_open, signal_calls, row_calls, ties_after}
+use Rattle.port_history.specs.Ties.{Ties, tied, untied, failure}
 use Rattle.echoed_history.proofs.Effects.{}
-use Rattle.echoed_history.specs.Laws.{CommandsComeBack, NotFinishedBefore}
-use Rattle.echoed_history.specs.Commands.{AreCommands, EndsWith, OthersEnd, command_data, echoes, is_plain_command, task_data}
+use Rattle.echoed_history.specs.Laws.{NotFinishedBefore}
+use Rattle.echoed_history.specs.Commands.{AreCommands, OthersEnd, echoes, is_plain_command, task_data}
 use Rattle.port_body.specs.LanePort.{task_from, rows_from}
 use Rattle.process_receipts.specs.Asks.{is_gone}
 use Rattle.echoed_history.proofs.Effects.{same-effects, row-never-fails}
-use Rattle.echoed_history.proofs.Rows.{IsServing, IsServed, stays-open, command-is-served, end-is-served, outside-is-served, is_outside, untold, no-tasks, no-command, row-saved, not-late, has-own, has-kept, own-task, other-task}
+use Rattle.echoed_history.proofs.Rows.{IsServing, IsServed, stays-open, command-is-served, end-is-served, outside-is-served, is_outside, no-tasks, no-command, row-saved, not-late, own-task}
 use Rattle.echoed_history.proofs.Lists.{back, front}
 
 is-command : (signal : Signal) → is_plain_command signal ≡ true → (payload : List (List ℕ)) × (signal ≡ Command payload)
@@ -91,17 +89,17 @@ handled port older from seq task outside effects made is laws before served =
     }
 
 -- an open port has no late task of a process
-not-open : (r : Option (List ℕ)) → r ≡ None → not (not (is_some r)) ≡ true → ⊥
+pub not-open : (r : Option (List ℕ)) → r ≡ None → not (not (is_some r)) ≡ true → ⊥
 not-open r none late = true≢false (sym late ∙ ap (λ x. not (not (is_some x))) none)
 
-resumed-saved : (number owner p seq word : ℕ) (closed : Bool) → saved_of number (mail_for owner (send p (mail.Resume number seq word closed) ∷ [])) ≡ []
+pub resumed-saved : (number owner p seq word : ℕ) (closed : Bool) → saved_of number (mail_for owner (send p (mail.Resume number seq word closed) ∷ [])) ≡ []
 resumed-saved number owner p seq word closed = resume (p == owner)
   where
     resume : (b : Bool) → saved_of number (map (λ (m : Sent). m.mail) (cond b (send p (mail.Resume number seq word closed) ∷ []) [])) ≡ []
     resume true = refl
     resume false = refl
 
-own-tasks : (P : TaskView → Type 0) (owner : ℕ) (task : TaskView) (tasks : List TaskView) → AllByRecursion P (tasks ++ task_from (Process owner) (Process owner) task) → P task
+pub own-tasks : (P : TaskView → Type 0) (owner : ℕ) (task : TaskView) (tasks : List TaskView) → AllByRecursion P (tasks ++ task_from (Process owner) (Process owner) task) → P task
 own-tasks P owner task tasks all = (subst (AllByRecursion P) (own-task owner owner task refl) (back P tasks (task_from (Process owner) (Process owner) task) all)).0
 
 -- a state that differs in nothing that serving speaks of
@@ -125,7 +123,7 @@ idle port row older before reason ties stopped none rows late = record {
   none_late = not-late row older late before.none_late;
 }
 
-may-send : (port : Opening) (older : List Row) (from : Sender) (seq : ℕ) (signal : Signal) → is_next (state port older) from seq signal ≡ true → may_send from signal ≡ true
+pub may-send : (port : Opening) (older : List Row) (from : Sender) (seq : ℕ) (signal : Signal) → is_next (state port older) from seq signal ≡ true → may_send from signal ≡ true
 may-send port older from seq signal next = (and_parts (seq == count_of from (state port older).senders) (may_send from signal) next).1
 
 told : (port : Opening) (older : List Row) (from : Sender) (seq : ℕ) (task : TaskView) (outside : List Outside) (effects : List Effect) → echoes port.kind ≡ true → is_outside from ≡ true
@@ -141,7 +139,7 @@ told-late port older from seq task out laws before =
     idle port (Late from seq task) older before refl refl refl refl (data-more port.owner from task (rows_from (Process port.owner) older) (no-tasks port.owner from task out))
     (no-command from task.signal out (may-send port older from seq task.signal laws.order))
 
--- as long as the owner hasn't ended, the port serves it
+-- as long as the owner hasn't closed the port or ended, the port serves it
 pub serves : (port : Opening) (history : List Row) → echoes port.kind ≡ true → Lawful port history → AreCommands (rows_from (Process port.owner) history) → OthersEnd port.owner history → Serves port history
 serves port [] is lawful commands others = record { serving = record { unclosed = refl; owner = refl; linked = refl; alive = refl; running = refl }; saved = refl; none_late = refl }
 serves port (Handled (Process p) seq task outside effects ∷ older) is lawful commands others =
@@ -175,165 +173,7 @@ serves port (Resumed (Process p) seq word ∷ older) is lawful commands others =
 serves port (Resumed from seq word ∷ older) is lawful commands others = idle port (Resumed from seq word) older (serves port older is lawful.1 commands others) refl refl refl refl refl refl
 serves port (Mark kind ∷ older) is lawful commands others = idle port (Mark kind) older (serves port older is lawful.1 commands others) refl refl refl refl refl refl
 
--- what the rows tell once the owner has ended
-pub record HasServed (port : Opening) (history : List Row) : Type 0 where
-  pub ended : has port.owner (state port history).ties.ended ≡ true
-  pub closed : is_some (state port history).reason ≡ true
-  pub saved : saved_of port.number (mails port port.owner history) ≡ flat_map task_data (rows_from (Process port.owner) history)
-  pub none_late : late_commands history ≡ 0
-
--- a row behind the owner's end
-behind : (port : Opening) (row : Row) (older : List Row) → HasServed port older → has port.owner (state port (row ∷ older)).ties.ended ≡ true → is_some (state port (row ∷ older)).reason ≡ true
-    → rows_from (Process port.owner) older ≡ rows_from (Process port.owner) (row ∷ older) → is_late_command row ≡ false → HasServed port (row ∷ older)
-behind port row older before ended closed rows late = record {
-  ended = ended;
-  closed = closed;
-  saved = ap (λ b. saved_of port.number (cond b (mails port port.owner older) (mails port port.owner older ++ mail_for port.owner (row_mail port (state port older) row)))) ended
-      ∙ before.saved ∙ ap (flat_map task_data) rows;
-  none_late = not-late row older late before.none_late;
-}
-
--- the row of the owner's end
-closes : (port : Opening) (older : List Row) (p seq : ℕ) (task : TaskView) (outside : List Outside) (effects : List Effect) (reason : List ℕ) → echoes port.kind ≡ true
-    → KeepsLaws port (state port older) (Handled (Process p) seq task outside effects) → Serves port older → p ≡ port.owner → task.signal ≡ Gone reason
-    → HasServed port (Handled (Process p) seq task outside effects ∷ older)
-closes port older p seq task outside effects reason is laws before own gone =
-    let s = state port older in
-    let t = taken_of (Process p) seq task outside effects in
-    let given : effects ≡ effects_after port s.calls (row_calls port s t) =
-    same-effects effects (effects_after port s.calls (row_calls port s t)) (and_parts (same_effects effects (effects_after port s.calls (row_calls port s t))) (is_answered_by port s (signal_calls s t) outside) laws.effects).0 in
-    let fails : failure effects ≡ None = ap failure given ∙ row-never-fails port s.calls (row_calls port s t) is in
-    let linked : end_closes s.ties.owner s.ties.linked p reason ≡ true = or_left (p == s.ties.owner) (has p s.ties.linked && not (is_normal reason)) (eq-eqb p s.ties.owner (own ∙ sym before.serving.owner)) in
-    let told : signal_reason s.ties (Process p) task.signal ≡ Some reason = ap (closes_for s.ties p) gone ∙ ap (λ b. cond b (Some reason) None) linked in
-    let closing : closing_reason s t ≡ Some reason = λ i. cond (is_some (before.serving.unclosed i)) None (first_reason (fails i) (told i)) in
-    let ties : ties_after port s t ≡ untied (tied port s.ties (Process p) task.signal) =
-    ap (λ r. cond (is_some r) (untied (tied port s.ties (Process p) task.signal)) (tied port s.ties (Process p) task.signal)) closing in
-    let ended : has port.owner (ties_after port s t).ended ≡ true =
-    ap (λ (x : Ties). has port.owner x.ended) ties ∙ ap (λ x. has port.owner (tied_by port s.ties p x).ended) gone ∙ has-own port.owner p s.ties.ended own in
-    let old = mails port port.owner older in
-    let rows = rows_from (Process port.owner) older in
-    let more = task_from (Process port.owner) (Process p) task in
-    record {
-      ended = ended;
-      closed = λ i. is_some (first_reason (before.serving.unclosed i) (closing i));
-      saved = ap (λ b. saved_of port.number (cond b old (old ++ mail_for port.owner (handled_mail port s t)))) ended
-          ∙ before.saved
-          ∙ sym (flat_map-append task_data rows more ∙ ap (λ bytes. flat_map task_data rows ++ bytes) (ap (flat_map task_data) (own-task port.owner p task own) ∙ ap (λ x. command_data x ++ []) gone)
-          ∙ append-nil (flat_map task_data rows));
-      none_late = not-late (Handled (Process p) seq task outside effects) older refl before.none_late;
-    }
-
-none-last : {X : Type 0} (xs : List X) (x : X) → [] ≡ xs ++ x ∷ [] → ⊥
-none-last [] x e = cc
-none-last (y ∷ xs) x e = cc
-
-same-last : {X : Type 0} (xs ys : List X) (x y : X) → xs ++ x ∷ [] ≡ ys ++ y ∷ [] → (xs ≡ ys) × (x ≡ y)
-same-last [] [] x y e = (refl, cc)
-same-last [] (b ∷ ys) x y e = absurd (none-last ys y cc)
-same-last (a ∷ xs) [] x y e = absurd (none-last xs x (let rest : xs ++ x ∷ [] ≡ [] = cc in sym rest))
-same-last (a ∷ xs) (b ∷ ys) x y e =
-    let first : a ≡ b = cc in
-    let rest = same-last xs ys x y cc in
-    (λ i. first i ∷ rest.0 i, rest.1)
-
--- the reason for which a port closed stays
-stays-closed : (r other : Option (List ℕ)) → is_some r ≡ true → is_some (first_reason r other) ≡ true
-stays-closed (Some reason) other closed = refl
-stays-closed None other closed = absurd cc
-
--- no task of a process is handled where the port is closed
-not-closed : (r : Option (List ℕ)) → is_some r ≡ true → not (is_some r) ≡ true → ⊥
-not-closed r closed unclosed = true≢false (sym unclosed ∙ ap not closed)
-
--- a row of the poller or of a worker behind the owner's end
-told-behind : (port : Opening) (older : List Row) (from : Sender) (seq : ℕ) (task : TaskView) (outside : List Outside) (effects : List Effect) → is_outside from ≡ true → HasServed port older
-    → HasServed port (Handled from seq task outside effects ∷ older)
-told-behind port older from seq task outside effects out before =
-    let s = state port older in
-    let t = taken_of from seq task outside effects in
-    let closing : closing_reason s t ≡ None = ap (λ b. cond b None (first_reason (failure effects) (signal_reason s.ties from task.signal))) before.closed in
-    let ties : ties_after port s t ≡ s.ties = ap (λ r. cond (is_some r) (untied (tied port s.ties from task.signal)) (tied port s.ties from task.signal)) closing ∙ untold port s.ties from task.signal out in
-    behind port (Handled from seq task outside effects) older before (ap (λ (x : Ties). has port.owner x.ended) ties ∙ before.ended) (stays-closed s.reason (closing_reason s t) before.closed)
-    (data-more port.owner from task (rows_from (Process port.owner) older) (no-tasks port.owner from task out)) refl
-
-late-behind : (port : Opening) (older : List Row) (from : Sender) (seq : ℕ) (task : TaskView) → is_outside from ≡ true
-    → KeepsLaws port (state port older) (Late from seq task) → HasServed port older → HasServed port (Late from seq task ∷ older)
-late-behind port older (Process p) seq task out laws before = absurd cc
-late-behind port older from seq task out laws before =
-    behind port (Late from seq task) older before before.ended before.closed (data-more port.owner from task (rows_from (Process port.owner) older) (no-tasks port.owner from task out))
-    (no-command from task.signal out (may-send port older from seq task.signal laws.order))
-
--- the late end of another process
-end-behind : (port : Opening) (older : List Row) (p seq : ℕ) (task : TaskView) (reason : List ℕ) → (p ≡ port.owner → ⊥) → task.signal ≡ Gone reason → HasServed port older
-    → HasServed port (Late (Process p) seq task ∷ older)
-end-behind port older p seq task reason apart gone before =
-    behind port (Late (Process p) seq task) older before
-    (ap (λ x. has port.owner (tied_late (state port older).ties (Process p) x).ended) gone ∙ has-kept port.owner p (state port older).ties.ended before.ended) before.closed
-    (data-more port.owner (Process p) task (rows_from (Process port.owner) older) (other-task port.owner p task apart)) (ap is_command gone)
-
-ends-before : (owner : ℕ) (commands : List TaskView) (gone : TaskView) (from : Sender) (task : TaskView) (row : Row) (older : List Row) → EndsWith owner commands gone (row ∷ older)
-    → rows_from (Process owner) older ≡ rows_from (Process owner) (row ∷ older) → EndsWith owner commands gone older
-ends-before owner commands gone from task row older ends same = record { tasks = same ∙ ends.tasks; commands_are = ends.commands_are; gone_is = ends.gone_is }
-
--- where the last of the owner's tasks is its end, those before it are commands
-ends-last : (owner p : ℕ) (commands : List TaskView) (gone task : TaskView) (row : Row) (older : List Row) → EndsWith owner commands gone (row ∷ older)
-    → rows_from (Process owner) (row ∷ older) ≡ rows_from (Process owner) older ++ task_from (Process owner) (Process p) task → p ≡ owner
-    → AreCommands (rows_from (Process owner) older) × (is_gone task.signal ≡ true)
-ends-last owner p commands gone task row older ends more own =
-    let last = same-last (rows_from (Process owner) older) commands task gone (ap (λ ts. rows_from (Process owner) older ++ ts) (sym (own-task owner p task own)) ∙ sym more ∙ ends.tasks) in
-    (subst AreCommands (sym last.0) ends.commands_are, ap (λ (t : TaskView). is_gone t.signal) last.1 ∙ ends.gone_is)
-
--- once the owner has ended, all its commands were sent back
-pub has-served : (port : Opening) (commands : List TaskView) (gone : TaskView) (history : List Row) → echoes port.kind ≡ true → Lawful port history → EndsWith port.owner commands gone history
-    → OthersEnd port.owner history → HasServed port history
-has-served port commands gone [] is lawful ends others = absurd (none-last commands gone ends.tasks)
-has-served port commands gone (Handled (Process p) seq task outside effects ∷ older) is lawful ends others =
-    let fewer : OthersEnd port.owner older = λ q apart. front _ (rows_from (Process q) older) (task_from (Process q) (Process p) task) (others q apart) in
-    let row = Handled (Process p) seq task outside effects in
-    ⊎_elim
-    (λ own.
-    let last = ends-last port.owner p commands gone task row older ends refl own in
-    let end = is-end task.signal last.1 in
-    closes port older p seq task outside effects end.0 is lawful.0 (serves port older is lawful.1 last.0 fewer) own end.1)
-    (λ apart.
-    let before = has-served port commands gone older is lawful.1
-    (ends-before port.owner commands gone (Process p) task row older ends (data-more port.owner (Process p) task (rows_from (Process port.owner) older) (other-task port.owner p task apart))) fewer in
-    absurd (not-closed (state port older).reason before.closed lawful.0.lifetime))
-    (cases_eq p port.owner)
-has-served port commands gone (Handled from seq task outside effects ∷ older) is lawful ends others =
-    told-behind port older from seq task outside effects refl (has-served port commands gone older is lawful.1
-    (ends-before port.owner commands gone from task (Handled from seq task outside effects) older ends (data-more port.owner from task (rows_from (Process port.owner) older) refl))
-    (λ q apart. front _ (rows_from (Process q) older) (task_from (Process q) from task) (others q apart)))
-has-served port commands gone (Late (Process p) seq task ∷ older) is lawful ends others =
-    let fewer : OthersEnd port.owner older = λ q apart. front _ (rows_from (Process q) older) (task_from (Process q) (Process p) task) (others q apart) in
-    let row = Late (Process p) seq task in
-    ⊎_elim
-    (λ own.
-    let last = ends-last port.owner p commands gone task row older ends refl own in
-    absurd (not-open (state port older).reason (serves port older is lawful.1 last.0 fewer).serving.unclosed lawful.0.lifetime))
-    (λ apart.
-    let end = is-end task.signal (own-tasks (λ (t : TaskView). is_gone t.signal ≡ true) p task (rows_from (Process p) older) (others p apart)) in
-    end-behind port older p seq task end.0 apart end.1 (has-served port commands gone older is lawful.1
-    (ends-before port.owner commands gone (Process p) task row older ends (data-more port.owner (Process p) task (rows_from (Process port.owner) older) (other-task port.owner p task apart))) fewer))
-    (cases_eq p port.owner)
-has-served port commands gone (Late from seq task ∷ older) is lawful ends others =
-    late-behind port older from seq task refl lawful.0 (has-served port commands gone older is lawful.1
-    (ends-before port.owner commands gone from task (Late from seq task) older ends (data-more port.owner from task (rows_from (Process port.owner) older) refl))
-    (λ q apart. front _ (rows_from (Process q) older) (task_from (Process q) from task) (others q apart)))
-has-served port commands gone (Listed from seq ∷ older) is lawful ends others =
-    let ends' : EndsWith port.owner commands gone older = record { tasks = ends.tasks; commands_are = ends.commands_are; gone_is = ends.gone_is } in
-    let before = has-served port commands gone older is lawful.1 ends' others in
-    behind port (Listed from seq) older before before.ended before.closed refl refl
-has-served port commands gone (Resumed from seq word ∷ older) is lawful ends others =
-    let ends' : EndsWith port.owner commands gone older = record { tasks = ends.tasks; commands_are = ends.commands_are; gone_is = ends.gone_is } in
-    let before = has-served port commands gone older is lawful.1 ends' others in
-    behind port (Resumed from seq word) older before before.ended before.closed refl refl
-has-served port commands gone (Mark kind ∷ older) is lawful ends others =
-    let ends' : EndsWith port.owner commands gone older = record { tasks = ends.tasks; commands_are = ends.commands_are; gone_is = ends.gone_is } in
-    let before = has-served port commands gone older is lawful.1 ends' others in
-    behind port (Mark kind) older before before.ended before.closed refl refl
-
--- a port whose owner hasn't ended isn't finished
+-- a port that serves its owner isn't finished
 pub unfinished : (port : Opening) (history : List Row) → IsFinished port history → Serves port history → ⊥
 unfinished port history finished serves =
     let s = state port history in
@@ -342,10 +182,5 @@ unfinished port history finished serves =
     let stopped = (and_parts s.stopped (all_resumed s.listed) (and_parts (s.stopped && all_resumed s.listed) given (and_parts ((s.stopped && all_resumed s.listed) && given) done finished.end).0).0).0 in
     true≢false (sym stopped ∙ serves.serving.running)
 
-pub commands-come-back : CommandsComeBack
-commands-come-back port commands gone history is lawful ends others = let has = has-served port commands gone history is lawful ends others in record { saved = has.saved; none_late = has.none_late }
-
 pub not-finished-before : NotFinishedBefore
-not-finished-before port history is lawful commands others =
-    let serving = serves port history is lawful commands others in
-    (record { saved = serving.saved; none_late = serving.none_late }, λ finished. unfinished port history finished serving)
+not-finished-before port history is lawful commands others finished = unfinished port history finished (serves port history is lawful commands others)

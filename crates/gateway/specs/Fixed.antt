@@ -21,8 +21,8 @@ pub record EchoesBack (script : RunScript) (left : ScriptRan) (number owner : �
   pub all : (p : Program) (l : ProcessLeft) → EchoesAllTo script left number owner p l
   pub none_refused : (p : Program) (l : ProcessLeft) → RefusesNoneOf script left number owner p l
 
--- Each port of a driver that sends back, and to which its owner alone sends, does so. What is saved of each port of a program, which no step hands to another process, are the messages of the bytes that the port
--- took
+-- Each port of a driver that sends back, and to which its owner alone sends, commands and behind them closes, does so. What is saved of each port of a program, which no step hands to another process, are the
+-- messages of the bytes that the port took
 pub record AnswersAreFixed (script : RunScript) (left : ScriptRan) : Type 0 where
   pub echoes : (number : ℕ) (decl : PortDecl) → number < length script.ports.items
       → IsEchoPort number (slice_index_or script.ports.items number decl) script.programs.items

@@ -1,4 +1,5 @@
-use Rattle.echoed_history.proofs.Serving.{commands-come-back, not-finished-before}
+use Rattle.echoed_history.proofs.Closing.{commands-come-back}
+use Rattle.echoed_history.proofs.Serving.{not-finished-before}
 use Rattle.echoed_history.proofs.commands_come_back.Goals as goal
 
 pub returns-clause-whole : goal.returns-clause-whole
