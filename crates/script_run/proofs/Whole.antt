@@ -61,6 +61,7 @@ use Rattle.closed_mail.specs.Joined.{rows_of, PortWordsHold as WordsOfPort}
 use Rattle.port_body.specs.recorded_port.Asks.{resumed_words}
 use Rattle.port_mail.specs.Ends.{MailEnd}
 use Rattle.process_job.specs.Mails.{Came, own_mails, readable, AreReplied, HasReply}
+use Rattle.process_job.specs.Waits.{WaitsAreShown}
 use Rattle.process_receipts.specs.Asks.{Asked}
 use Rattle.process_receipts.specs.declared.receipt.Receipt.{Receipt}
 use Rattle.suspended_calls.specs.Listed.{ListedCallsAreInOrder, SuspendedCallsAreListed}
@@ -384,7 +385,7 @@ module _ {D : Type 0} (kind : D → Kind) (stage : D → Life) (faults : D → �
     finished = subst (λ o. IsFinished o (reverse port.journal.rows)) same closed.finished;
     senders = λ n d below. subst (λ p. IsFrom p s.size.workers (get_or port.journal.rows n d)) processes (subst (λ w. IsFrom name.key.processes w (get_or port.journal.rows n d)) workers
         (from-end senders name.key (get_or port.journal.rows n d) (closed.senders n d below)));
-    workers = subst (λ o. WorkersTell s.size.workers o (reverse port.journal.rows)) same (subst (λ w. WorkersTell w name.opening (reverse port.journal.rows)) workers closed.workers);
+    worked = subst (λ o. WorkersTell s.size.workers o (reverse port.journal.rows)) same (subst (λ w. WorkersTell w name.opening (reverse port.journal.rows)) workers closed.workers);
     listed = subst (λ o. HaveRows (state o (reverse port.journal.rows))) same closed.listed.have_rows;
   }
 

@@ -88,7 +88,7 @@ pub record PortHolds (number processes workers : ℕ) (kind : Kind) (decl : Port
   pub lawful : Lawful (opening_of number processes kind decl port) (history_of port)
   pub finished : IsFinished (opening_of number processes kind decl port) (history_of port)
   pub senders : All (IsFrom processes workers) port.journal.rows
-  pub workers : WorkersTell workers (opening_of number processes kind decl port) (history_of port)
+  pub worked : WorkersTell workers (opening_of number processes kind decl port) (history_of port)
   pub listed : HaveRows (state (opening_of number processes kind decl port) (history_of port))
 
 -- Of a process and a port: the tasks of the process that have a row are those that its receipts show accepted, in the order sent, each once; the calls for which it was listed, and those
