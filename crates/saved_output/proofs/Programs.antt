@@ -5,10 +5,11 @@ use Rattle.driver_model.specs.port_config.declared.config.Config.{Config}
 use Rattle.driver_model.specs.Calls.{Kind, Own, DriverCall, Running, Spawn}
 use Rattle.driver_model.specs.Drivers.{holds}
 use Rattle.driver_model.specs.Programs.{TellsOfProgram, ToldProgram, Tells}
-use Rattle.driver_model.specs.Spawn.{asked, program as kept}
+use Rattle.driver_model.specs.Spawn.{program as kept}
 use Rattle.port_driver.specs.declared.life.Life.{Life}
 use Rattle.echoed_commands.specs.script_run.run_opening.driver_hosts.declared.hosted.Hosted.{Hosted}
 use Rattle.echoed_commands.specs.script_run.Ran.{history_of, opening_of}
+use Rattle.unframed_output.specs.Laws.{frames_asked}
 use Rattle.unframed_output.proofs.Ended.{end-is-told}
 use Rattle.unframed_output.proofs.Input.{input-is-taken}
 use Rattle.unframed_output.proofs.Rows.{output-is-unframed}
@@ -52,7 +53,7 @@ module _ {D : Type 0} (kind : D → Kind) (stage : D → Life) (faults : D → �
           told_is = told.told_is;
           took = taken.0;
           whole = input-is-whole opening history of mine.holds.finished;
-          given = told.tells.given ∙ ap (λ n. take n (asked decl.config _)) taken.1;
+          given = told.tells.given ∙ ap (λ n. take n (frames_asked opening history)) taken.1;
           gave = told.tells.taken ∙ output-is-taken opening history of;
           at_end = told.tells.at_end ∙ end-is-told opening history of;
           sent = output-is-unframed opening history of;
