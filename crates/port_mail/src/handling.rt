@@ -2,7 +2,7 @@ ghost use Rattle.std.specs.Prelude.{◌≡◌};
 ghost use Rattle.port_links.specs.port_history.Opening.{Opening};
 ghost use Rattle.port_mail.specs.Rows.{may_connect, IsHandling};
 
-use crate::{Links, Post, Sender, Signal};
+use crate::{Effect, Links, Post, Sender, Signal};
 
 /// What is known of a port and of a signal to it before the signal is noted in the port's ties.
 #[derive(Clone, Copy)]
@@ -18,6 +18,31 @@ pub struct Handling {
     pub seq: u64,
 }
 
+/// Where a signal came from.
+#[derive(Clone, Copy)]
+pub struct Origin {
+    /// The place of the signal's port in the order of declaration, from 0.
+    pub port: u32,
+    pub from: Sender,
+    /// The place of the signal among those of its sender to the port, from 0.
+    pub seq: u64,
+}
+
+/// The end of a sender's wait for a busy port.
+#[derive(Clone, Copy)]
+pub struct Resumption {
+    /// The place of the port in the order of declaration, from 0.
+    pub port: u32,
+    /// The process that waited, by its place in the order of declaration, from 0.
+    pub process: u32,
+    /// The place of the command for which it waited among its signals to the port, from 0.
+    pub seq: u64,
+    /// The word MSGQ that was loaded for it.
+    pub word: u64,
+    /// Whether the port isn't open.
+    pub closed: bool,
+}
+
 /// What the closing of a port adds to the mail of a row.
 #[derive(Drop)]
 pub struct Closing {
@@ -27,6 +52,15 @@ pub struct Closing {
     pub stops: bool,
     /// The owner that asked for the close, where one did.
     pub closer: Option<u32>,
+}
+
+/// What the mail of a handled row is made of.
+#[derive(Drop)]
+pub struct HandledRow<'a> {
+    pub handling: Handling,
+    pub effects: &'a [Effect],
+    pub signal: &'a Signal,
+    pub closing: Closing,
 }
 
 impl Handling {

@@ -14,7 +14,7 @@ mod mailboxes;
 mod parts;
 mod rows;
 
-pub use handling::{Closing, Handling};
+pub use handling::{Closing, HandledRow, Handling, Origin, Resumption};
 pub use mailboxes::Mailboxes;
 pub use port_links::{Links, Post};
 pub use port_model::{Effect, Mail, NoMemory, Sender, Signal};

@@ -8,7 +8,7 @@ ghost use Rattle.port_mail.specs.Ends.{Puts};
 ghost use Rattle.port_mail.specs.Rows.{IsHandling};
 
 use crate::answers::{answer_post, closed_post, effect_post, late_post};
-use crate::{Effect, Handling, Links, Mailboxes, NoMemory, Signal};
+use crate::{Effect, Handling, Links, Mailboxes, NoMemory, Origin, Signal};
 use std::sync::Wait;
 
 impl Mailboxes {
@@ -67,14 +67,14 @@ impl Mailboxes {
         &mut self,
         rt: &R,
         links: &Links,
-        port: u32,
-        from: u32,
-        seq: u64,
+        process: u32,
+        origin: Origin,
         signal: &Signal,
     ) -> Result<(), NoMemory>
-        ensures { Puts result links.now.ties.ended self.old self.new (late_mail port from seq signal.now) }
+        ensures { Puts result links.now.ties.ended self.old self.new (late_mail origin.port process origin.seq signal.now) }
     {
-        self.post_any(rt, links, late_post(port, from, seq, signal))
+        let post = late_post(origin.port, process, origin.seq, signal);
+        self.post_any(rt, links, post)
     }
 
     /// Tells the owner that asked for the close, where the row stops the driver.

@@ -8,7 +8,9 @@ ghost use Rattle.port_links.specs.port_history.Mail.{handled_mail, row_mail};
 ghost use Rattle.port_mail.specs.Ends.{Puts};
 ghost use Rattle.port_mail.specs.Rows.{IsRowOf};
 
-use crate::{Closing, Effect, Handling, Links, Mail, Mailboxes, NoMemory, Sender, Signal};
+use crate::{
+    Closing, HandledRow, Links, Mail, Mailboxes, NoMemory, Origin, Resumption, Sender, Signal,
+};
 use std::sync::Wait;
 
 impl Mailboxes {
@@ -18,14 +20,17 @@ impl Mailboxes {
         &mut self,
         rt: &R,
         links: &Links,
-        handling: Handling,
-        effects: &[Effect],
-        signal: &Signal,
-        closing: Closing,
+        row: HandledRow<'_>,
     ) -> Result<(), NoMemory>
-        ensures { (opening : Opening) (s : State) (t : Taken) → IsRowOf handling effects.now signal.now closing opening s t
+        ensures { (opening : Opening) (s : State) (t : Taken) → IsRowOf row.handling row.effects.now row.signal.now row.closing opening s t
             → Puts result links.now.ties.ended self.old self.new (handled_mail opening s t) }
     {
+        let HandledRow {
+            handling,
+            effects,
+            signal,
+            closing,
+        } = row;
         let Closing {
             posts,
             stops,
@@ -37,40 +42,40 @@ impl Mailboxes {
         self.post_closed(rt, links, handling.port, stops, closer)
     }
 
-    /// Puts the mail of a late row of the port of this number.
+    /// Puts the mail of a late row.
     pub fn post_late_row<R: Wait>(
         &mut self,
         rt: &R,
         links: &Links,
-        port: u32,
-        from: Sender,
-        seq: u64,
+        origin: Origin,
         signal: &Signal,
     ) -> Result<(), NoMemory>
-        ensures { (opening : Opening) (s : State) (task : TaskView) → opening.number ≡ port → task.signal ≡ signal.now
-            → Puts result links.now.ties.ended self.old self.new (row_mail opening s (Late from seq task)) }
+        ensures { (opening : Opening) (s : State) (task : TaskView) → opening.number ≡ origin.port → task.signal ≡ signal.now
+            → Puts result links.now.ties.ended self.old self.new (row_mail opening s (Late origin.from origin.seq task)) }
     {
-        match from {
-            Sender::Process(process) => self.post_late(rt, links, port, process, seq, signal),
+        match origin.from {
+            Sender::Process(process) => self.post_late(rt, links, process, origin, signal),
             Sender::Poller | Sender::Worker(_) | Sender::Timer => Ok(()),
         }
     }
 
-    /// Puts the mail of the row by which a suspended process is resumed: `word` is the word MSGQ that was loaded for it, and `closed`
-    /// tells that the port isn't open.
+    /// Puts the mail of the row by which a suspended process is resumed.
     pub fn post_resume<R: Wait>(
         &mut self,
         rt: &R,
         links: &Links,
-        port: u32,
-        process: u32,
-        seq: u64,
-        word: u64,
-        closed: bool,
+        resumption: Resumption,
     ) -> Result<(), NoMemory>
-        ensures { (opening : Opening) (s : State) → opening.number ≡ port → closed ≡ not (is_open s)
-            → Puts result links.now.ties.ended self.old self.new (row_mail opening s (Resumed (Sender.Process process) seq word)) }
+        ensures { (opening : Opening) (s : State) → opening.number ≡ resumption.port → resumption.closed ≡ not (is_open s)
+            → Puts result links.now.ties.ended self.old self.new (row_mail opening s (Resumed (Sender.Process resumption.process) resumption.seq resumption.word)) }
     {
+        let Resumption {
+            port,
+            process,
+            seq,
+            word,
+            closed,
+        } = resumption;
         let mail = Mail::Resume {
             port,
             seq,

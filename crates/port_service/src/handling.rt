@@ -9,6 +9,15 @@ pub struct Caller {
     pub owns: bool,
 }
 
+/// How a port stands when it handles a task.
+#[derive(Clone, Copy)]
+pub struct PortStanding<'a> {
+    /// Whether the port is closing.
+    pub closing: bool,
+    /// The events that its driver holds.
+    pub held: &'a [u32],
+}
+
 /// What handling a task made: the outside's answers and the driver's effects, in their order, the reason for which the port closes in this row, if
 /// it does, and whether its driver was stopped.
 #[derive(Drop)]

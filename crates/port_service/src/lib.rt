@@ -11,7 +11,7 @@ mod opening;
 mod service;
 mod watching;
 
-pub use handling::{Caller, Handled};
+pub use handling::{Caller, Handled, PortStanding};
 pub use port_driver::{Config, Driver, Life, StartRefusal};
 pub use port_model::NoMemory;
 pub use service::Service;

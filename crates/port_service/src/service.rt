@@ -15,7 +15,7 @@ ghost use Rattle.port_service.specs.Serves.{IsCaller, IsFlagged, IsServed, Serve
 
 use crate::calling::call_driver;
 use crate::closing::{ends_driver, failure, flush_queued, halt};
-use crate::handling::{Caller, Handled};
+use crate::handling::{Caller, Handled, PortStanding};
 use crate::opening::begin;
 use crate::watching::{is_flagged, note_watches};
 use driver_queue::DriverQueue;
@@ -144,19 +144,18 @@ impl<D: Driver> Service<D> {
     }
 
     /// Handles a task of a port that is open or closing: makes the callback of its signal, has the driver flushed where the port closes with bytes
-    /// queued, and stops it once nothing is queued any more. `why` is the reason for which the signal closes an open port, if it does; `held` are the events
-    /// that the driver holds. After want of memory the driver stands as its callback left it, and its queue is given up.
+    /// queued, and stops it once nothing is queued any more. `why` is the reason for which the signal closes an open port, if it does. After want of
+    /// memory the driver stands as its callback left it, and its queue is given up.
     pub fn handle(
         &mut self,
         alloc: Global,
         caller: Caller,
         signal: &Signal,
         why: Option<Reason>,
-        closing: bool,
-        held: &[u32],
+        stands: PortStanding<'_>,
     ) -> Result<Handled, NoMemory>
         requires started { self.old.stage ≡ Life.Started }
-        requires held { length held.now ≤ 64 }
+        requires held { length stands.held.now ≤ 64 }
         ensures kind { self.new.kind ≡ self.old.kind }
         ensures faults { self.old.faults ≤ self.new.faults }
         ensures failed { IfOk result (λ made. RisenBy (failures made.outside) self.old.faults self.new.faults) }
@@ -165,10 +164,11 @@ impl<D: Driver> Service<D> {
         ensures flags { length self.new.watched ≡ length self.old.watched }
         ensures watches { IfOk result (λ made. (before : List ℕ) → Watches self.old.watched before → Watches self.new.watched (watched_by made.effects before)) }
         ensures serves { IfOk result (λ made. (port : Opening) (s : State) (seq : ℕ) (task : TaskView) → port.kind ≡ self.old.kind → task.signal ≡ signal.now
-            → IsCaller s caller → why ≡ signal_reason s.ties caller.from signal.now → IsServed s closing → IsFlagged self.old.watched s.watched caller.from
-            → Stands port.kind port.config s.calls self.old.own self.old.program (standing self.old.next_job held.now self.old.queue)
+            → IsCaller s caller → why ≡ signal_reason s.ties caller.from signal.now → IsServed s stands.closing → IsFlagged self.old.watched s.watched caller.from
+            → Stands port.kind port.config s.calls self.old.own self.old.program (standing self.old.next_job stands.held.now self.old.queue)
             → Served port s (taken_of caller.from seq task made.outside made.effects) made.reason made.stops self.new) }
     {
+        let PortStanding { closing, held } = stands;
         let watched = is_flagged(&self.watched, caller.from);
         let queue = mem::replace(&mut self.queue, DriverQueue::new(alloc));
         let mut ctx = context(alloc, caller.process, self.next_job, held, queue)?;

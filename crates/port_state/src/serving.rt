@@ -22,7 +22,7 @@ use crate::{Driver, Effect, Items, NoMemory, PortState, Reason, Sender, Served, 
 use port_driver::Life;
 use port_links::{Links, Post};
 use port_mail::{Closing, Handling};
-use port_service::{Caller, Handled};
+use port_service::{Caller, Handled, PortStanding};
 use std::alloc::Global;
 
 /// Who calls: the process that sent a task, or else the owner.
@@ -134,9 +134,11 @@ impl<D: Driver> PortState<D> {
         let handling = Handling::new(&self.links, self.number, from, seq, signal);
         let caller = caller(&self.links, from);
         let why = self.links.reason_to_close(from, signal);
-        let made = self
-            .service
-            .handle(alloc, caller, signal, why, self.reason.is_some(), held)?;
+        let stands = PortStanding {
+            closing: self.reason.is_some(),
+            held,
+        };
+        let made = self.service.handle(alloc, caller, signal, why, stands)?;
         self.links.note_signal(from, signal)?;
         let posts = untie(&mut self.links, alloc, self.number, &made.reason)?;
         Ok(self.note_row(from, signal, made, handling, posts))

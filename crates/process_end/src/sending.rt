@@ -19,6 +19,13 @@ use process_receipts::{How, Outcome, Receipt};
 use std::sync::Wait;
 use task_queue::SendEnd;
 
+/// Where a call stands: the line of its step, and the place of its port in the order of declaration, from 0.
+#[derive(Clone, Copy)]
+pub(crate) struct CallPlace {
+    pub line: u32,
+    pub port: u32,
+}
+
 /// The task of a command.
 fn task_of(signal: Signal, how: How, suspends: bool) -> Task
     requires command { is_command signal ≡ true }
@@ -197,8 +204,7 @@ pub(crate) fn send<R: Wait>(
     rt: &R,
     lane: &mut SendEnd<Parcel>,
     seat: &mut SendSeat,
-    line: u32,
-    port: u32,
+    place: CallPlace,
     signal: Signal,
     how: How,
 ) -> Result<Receipt, NoMemory>
@@ -207,13 +213,14 @@ pub(crate) fn send<R: Wait>(
     requires few { is_command signal ≡ true → length seat.old.sender.ledger.adds < 131072 }
     requires form { is_command signal ≡ false → is_forcing how ≡ false }
     requires table { lane.old.key.table ≡ seat.old.table }
-    ensures receipt { IfOk result (λ receipt. (calls : ℕ) (soft : Bool) → MayLook calls soft (asked line port signal how)
-        → IsReceiptOf calls soft (length (tasks_of lane.old)) (asked line port signal how) receipt) }
-    ensures sent { IfOk result (λ receipt. HasSent (asked line port signal how) lane.old lane.new receipt.outcome) }
-    ensures steps { IfOk result (λ receipt. HasStepped (asked line port signal how) seat.old seat.new receipt.outcome receipt.stat receipt.msgq) }
-    ensures missed { OnErr result ((stat : ℕ) × HasLooked (asked line port signal how) stat seat.old seat.new) }
+    ensures receipt { IfOk result (λ receipt. (calls : ℕ) (soft : Bool) → MayLook calls soft (asked place.line place.port signal how)
+        → IsReceiptOf calls soft (length (tasks_of lane.old)) (asked place.line place.port signal how) receipt) }
+    ensures sent { IfOk result (λ receipt. HasSent (asked place.line place.port signal how) lane.old lane.new receipt.outcome) }
+    ensures steps { IfOk result (λ receipt. HasStepped (asked place.line place.port signal how) seat.old seat.new receipt.outcome receipt.stat receipt.msgq) }
+    ensures missed { OnErr result ((stat : ℕ) × HasLooked (asked place.line place.port signal how) stat seat.old seat.new) }
     ensures unsent { OnErr result (lane.new ≡ lane.old) }
 {
+    let CallPlace { line, port } = place;
     let stat = seat.look();
     if stat_closed(stat) {
         return Ok(unput_receipt(line, port, stat, Outcome::Closed));

@@ -16,7 +16,7 @@ ghost use Rattle.process_end.specs.Mailbox.{HasTaken};
 
 use crate::answers::ProcParts;
 use crate::refusal::{refusal, refused_receipt};
-use crate::sending::send;
+use crate::sending::{CallPlace, send};
 use no_memory::NoMemory;
 use port_lanes::Parcel;
 use port_model::{Mail, Signal};
@@ -87,30 +87,29 @@ fn send_at<R: Wait>(
     rt: &R,
     lanes: &mut Vec<SendEnd<Parcel>>,
     seats: &mut Vec<SendSeat>,
-    line: u32,
-    port: u32,
+    place: CallPlace,
     signal: Signal,
     how: How,
 ) -> Result<Receipt, NoMemory>
-    requires lane { port < length lanes.old.items }
-    requires seat { port < length seats.old.items }
-    requires may { (d : LaneEnd) (e : SendKnown) → MaySend signal (slice_index_or lanes.old.items port d) (slice_index_or seats.old.items port e) }
+    requires lane { place.port < length lanes.old.items }
+    requires seat { place.port < length seats.old.items }
+    requires may { (d : LaneEnd) (e : SendKnown) → MaySend signal (slice_index_or lanes.old.items place.port d) (slice_index_or seats.old.items place.port e) }
     requires short { data_size signal ≤ 262143 }
     requires form { is_command signal ≡ false → is_forcing how ≡ false }
-    ensures touched { TouchesPort port lanes.old.items lanes.new.items seats.old.items seats.new.items }
-    ensures receipt { IfOk result (λ receipt. (d : LaneEnd) (calls : ℕ) (soft : Bool) → MayLook calls soft (asked line port signal how)
-        → IsReceiptOf calls soft (length (tasks_of (slice_index_or lanes.old.items port d))) (asked line port signal how) receipt) }
+    ensures touched { TouchesPort place.port lanes.old.items lanes.new.items seats.old.items seats.new.items }
+    ensures receipt { IfOk result (λ receipt. (d : LaneEnd) (calls : ℕ) (soft : Bool) → MayLook calls soft (asked place.line place.port signal how)
+        → IsReceiptOf calls soft (length (tasks_of (slice_index_or lanes.old.items place.port d))) (asked place.line place.port signal how) receipt) }
     ensures sent { IfOk result (λ receipt. (d : LaneEnd)
-        → HasSent (asked line port signal how) (slice_index_or lanes.old.items port d) (slice_index_or lanes.new.items port d) receipt.outcome) }
+        → HasSent (asked place.line place.port signal how) (slice_index_or lanes.old.items place.port d) (slice_index_or lanes.new.items place.port d) receipt.outcome) }
     ensures steps { IfOk result (λ receipt. (d : SendKnown)
-        → HasStepped (asked line port signal how) (slice_index_or seats.old.items port d) (slice_index_or seats.new.items port d) receipt.outcome receipt.stat receipt.msgq) }
+        → HasStepped (asked place.line place.port signal how) (slice_index_or seats.old.items place.port d) (slice_index_or seats.new.items place.port d) receipt.outcome receipt.stat receipt.msgq) }
     ensures missed { OnErr result ((stat : ℕ) × ((d : SendKnown)
-        → HasLooked (asked line port signal how) stat (slice_index_or seats.old.items port d) (slice_index_or seats.new.items port d))) }
+        → HasLooked (asked place.line place.port signal how) stat (slice_index_or seats.old.items place.port d) (slice_index_or seats.new.items place.port d))) }
     ensures unsent { OnErr result (lanes.new.items ≡ lanes.old.items) }
 {
-    let lane = &mut lanes[port as usize];
-    let seat = &mut seats[port as usize];
-    send(rt, lane, seat, line, port, signal, how)
+    let lane = &mut lanes[place.port as usize];
+    let seat = &mut seats[place.port as usize];
+    send(rt, lane, seat, place, signal, how)
 }
 
 /// Takes the next mail.
@@ -173,15 +172,8 @@ impl Sides {
             return Ok(receipt);
         }
         let adds = signal.is_command();
-        match send_at(
-            rt,
-            &mut self.lanes,
-            &mut self.seats,
-            line,
-            port,
-            signal,
-            how,
-        ) {
+        let place = CallPlace { line, port };
+        match send_at(rt, &mut self.lanes, &mut self.seats, place, signal, how) {
             Ok(receipt) => {
                 self.receipts.push_reserved(receipt);
                 Ok(receipt)

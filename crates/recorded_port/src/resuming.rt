@@ -10,6 +10,7 @@ ghost use Rattle.recorded_port.specs.Taking.{IsSameRecorded, UsesRoom};
 ghost use Rattle.recorded_port.specs.Resuming.{MayList, Resumes, ResumesAll, ResumesNext, may_go};
 
 use crate::{Driver, NoMemory, RecordedPort, Row, Sender};
+use port_mail::Resumption;
 use port_suspension::may_resume;
 use std::sync::Wait;
 use suspend_list::Entry;
@@ -102,15 +103,16 @@ impl<D: Driver> RecordedPort<D> {
         ensures mail { OnOk result ((s : State) → (is_open s ≡ not (is_some self.old.port.state.reason))
             → Posts self.old.port.state.links.ties.ended self.old.ends self.new.ends (row_mail self.old.opening s (Resumed (Process entry.process) entry.seq word))) }
     {
-        let posted = self.mailboxes.post_resume(
-            rt,
-            self.port.links(),
-            self.fixed.number,
-            entry.process,
-            entry.seq,
+        let resumption = Resumption {
+            port: self.fixed.number,
+            process: entry.process,
+            seq: entry.seq,
             word,
-            !self.port.is_open(),
-        );
+            closed: !self.port.is_open(),
+        };
+        let posted = self
+            .mailboxes
+            .post_resume(rt, self.port.links(), resumption);
         self.write(Row::Resumed {
             from: Sender::Process(entry.process),
             seq: entry.seq,

@@ -12,6 +12,7 @@ ghost use Rattle.recorded_port.specs.View.{IsRecorded, IsSettled, removed_sizes}
 ghost use Rattle.recorded_port.specs.Taking.{FoundMore, IsSameRecorded, IsSameSeat, MayTake, MayWrite, Takes, UsesRoom, WritesMarks, WritesNext, WritesTask, sizes_of};
 
 use crate::{Driver, NoMemory, Parcel, RecordedPort, Row, Sender, Served, Task};
+use port_mail::{HandledRow, Origin};
 use port_words::busy::Weight;
 use served_port::HandledOrLate;
 use std::alloc::Global;
@@ -94,10 +95,12 @@ impl<D: Driver> RecordedPort<D> {
         let posted = self.mailboxes.post_row(
             rt,
             self.port.links(),
-            handling,
-            effects.as_slice(),
-            task.signal(),
-            closing,
+            HandledRow {
+                handling,
+                effects: effects.as_slice(),
+                signal: task.signal(),
+                closing,
+            },
         );
         self.write(Row::Handled {
             from,
@@ -126,9 +129,11 @@ impl<D: Driver> RecordedPort<D> {
         let posted = self.mailboxes.post_late_row(
             rt,
             self.port.links(),
-            self.fixed.number,
-            from,
-            seq,
+            Origin {
+                port: self.fixed.number,
+                from,
+                seq,
+            },
             task.signal(),
         );
         self.write(Row::Late { from, seq, task });

@@ -4,7 +4,7 @@ ghost use Rattle.port_driver.specs.declared.life.Life.TheVariants.{Started};
 
 use port_driver::{Config, Driver, Life};
 use port_model::{Effect, IoVec, Piece, Reason, Sender, Signal};
-use port_service::{Caller, Handled, Service};
+use port_service::{Caller, Handled, PortStanding, Service};
 use std::alloc::Global;
 
 /// What a process sends.
@@ -131,7 +131,11 @@ impl<D: Driver> ServedDriver<D> {
             return false;
         };
         let caller = caller(process);
-        let Ok(made) = service.handle(self.alloc, caller, signal, why, false, &[]) else {
+        let stands = PortStanding {
+            closing: false,
+            held: &[],
+        };
+        let Ok(made) = service.handle(self.alloc, caller, signal, why, stands) else {
             return false;
         };
         if made.stops {

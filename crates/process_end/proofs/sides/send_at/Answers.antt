@@ -16,8 +16,8 @@ send-requires-clause-table g c =
 pub returns-clause-receipt : goal.returns-clause-receipt
 returns-clause-receipt g c = IfOk-weaker c.send.result _ _
     (λ receipt h d calls soft may.
-    subst (λ v. IsReceiptOf calls soft (length (tasks_of v)) (asked c.args.line c.args.port c.args.signal c.args.how) receipt)
-    (get_or_read c.args.lanes.now.items c.args.port c.index_mut-lane.result.now c.requires.lane c.index_mut-lane.ensures.value d) (h calls soft may))
+    subst (λ v. IsReceiptOf calls soft (length (tasks_of v)) (asked c.args.place.line c.args.place.port c.args.signal c.args.how) receipt)
+    (get_or_read c.args.lanes.now.items c.args.place.port c.index_mut-lane.result.now c.requires.lane c.index_mut-lane.ensures.value d) (h calls soft may))
     c.send.ensures.receipt
 
 pub returns-clause-missed : goal.returns-clause-missed
@@ -25,8 +25,8 @@ returns-clause-missed g c = on_err_weaker c.send.result
     (λ m. (
       m.0,
       (λ d. rw (
-        get_or-set_same c.args.seats.now.items c.args.port c.send.new.seat d c.requires.seat,
-        ← get_or_read c.args.seats.now.items c.args.port c.index_mut-seat.result.now c.requires.seat c.index_mut-seat.ensures.value d,
+        get_or-set_same c.args.seats.now.items c.args.place.port c.send.new.seat d c.requires.seat,
+        ← get_or_read c.args.seats.now.items c.args.place.port c.index_mut-seat.result.now c.requires.seat c.index_mut-seat.ensures.value d,
       ) m.1),
     ))
     c.send.ensures.missed

@@ -20,7 +20,7 @@ returns-clause-serves g c = rw (← c.self.view_is) (λ port s seq task k e call
     let first = c.call_driver.ensures.kept.caller ∙ (ap (λ x. x.caller) fresh ∙ caller.process) in
     let queue = ap (λ (q : Queued). concat q.segments) c.replace-queue.ensures.value in
     let start = Stands-in _ _ _ _ _ _ _ queue refl refl stands in
-    let whole = Serves-by port s c.args.caller.from seq task c.args.closing c.ends_driver-stops.result _ _ _ _ _ _ _ _ _ _ _ c.call_driver.new.ctx c.flush_queued.new.ctx
+    let whole = Serves-by port s c.args.caller.from seq task c.args.stands.closing c.ends_driver-stops.result _ _ _ _ _ _ _ _ _ _ _ c.call_driver.new.ctx c.flush_queued.new.ctx
     c.reason_to_close-reason.result c.args.why called flushed halted first (c.flush_queued.ensures.kept.room.caller ∙ first) (why ∙ ap (λ x. signal_reason s.ties c.args.caller.from x) (sym e)) c.reason_to_close-reason.ensures c.ends_driver-stops.ensures served start in
     Served-by port s c.args.caller.from seq task _ _ _ c.flush_queued.new.ctx _ _ whole c.finish-queue.ensures.outside c.finish-queue.ensures.effects c.finish-queue.ensures.queue c.next_job-self-inside.ensures c.finish-queue.ensures.held)
 
