@@ -22,7 +22,7 @@ impl Mailboxes {
         links: &Links,
         row: HandledRow<'_>,
     ) -> Result<(), NoMemory>
-        ensures { (opening : Opening) (s : State) (t : Taken) → IsRowOf row.handling row.effects.now row.signal.now row.closing opening s t
+        ensures { (opening : Opening) (s : State) (t : Taken) → IsRowOf row.entry.handling row.entry.effects.now row.entry.signal.now row.entry.closing opening s t
             → Puts result links.now.ties.ended self.old self.new (handled_mail opening s t) }
     {
         let HandledRow {

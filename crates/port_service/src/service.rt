@@ -164,8 +164,8 @@ impl<D: Driver> Service<D> {
         ensures flags { length self.new.watched ≡ length self.old.watched }
         ensures watches { IfOk result (λ made. (before : List ℕ) → Watches self.old.watched before → Watches self.new.watched (watched_by made.effects before)) }
         ensures serves { IfOk result (λ made. (port : Opening) (s : State) (seq : ℕ) (task : TaskView) → port.kind ≡ self.old.kind → task.signal ≡ signal.now
-            → IsCaller s caller → why ≡ signal_reason s.ties caller.from signal.now → IsServed s stands.closing → IsFlagged self.old.watched s.watched caller.from
-            → Stands port.kind port.config s.calls self.old.own self.old.program (standing self.old.next_job stands.held.now self.old.queue)
+            → IsCaller s caller → why ≡ signal_reason s.ties caller.from signal.now → IsServed s stands.entry.closing → IsFlagged self.old.watched s.watched caller.from
+            → Stands port.kind port.config s.calls self.old.own self.old.program (standing self.old.next_job stands.entry.held.now self.old.queue)
             → Served port s (taken_of caller.from seq task made.outside made.effects) made.reason made.stops self.new) }
     {
         let PortStanding { closing, held } = stands;
