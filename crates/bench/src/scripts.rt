@@ -1,7 +1,7 @@
 //! Scripts that are read.
 use crate::work::ROUNDS;
 use anyhow::Result;
-use gateway_script::read_script;
+use gateway_script::{Piece, read_script};
 use std::alloc::Global;
 use std::rt::Clock;
 use std::time::{Duration, Instant};
@@ -66,11 +66,11 @@ fn write_round(text: &mut String, round: u32) -> Result<()> {
 
 /// The shortest time of some rounds to read a script of about so many bytes.
 pub(crate) fn read_time<R: Clock + AllocGlobal>(rt: &R, bytes: u32) -> Result<Duration> {
-    let text = script_text(rt.alloc(), bytes as usize)?;
+    let text = Piece::of_vec(script_text(rt.alloc(), bytes as usize)?.into_bytes())?;
     let mut best = Duration::MAX;
     for _ in 0..ROUNDS {
         let start = Instant::now(rt)?;
-        let _script = read_script(rt.alloc(), text.as_bytes())?;
+        let _script = read_script(rt.alloc(), &text)?;
         best = best.min(start.elapsed(rt)?);
     }
     Ok(best)

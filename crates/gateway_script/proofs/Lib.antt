@@ -9,3 +9,4 @@ pub mod Configs
 pub mod Turns
 pub mod Plans
 pub mod FirstLine
+pub mod Sources

@@ -8,3 +8,4 @@ pub mod Ranges
 pub mod Script
 pub mod Steps
 pub mod Draft
+pub mod Source

@@ -3,11 +3,13 @@
 ghost use Rattle.std.specs.Prelude.{◌≡◌, option_map};
 ghost use Rattle.script_text.specs.PartFault.{Reads};
 ghost use Rattle.port_terms.specs.Written.{external};
+ghost use Rattle.gateway_script.specs.Source.{EndsAt};
 ghost use Rattle.gateway_script.specs.Forms.{nosuspend_at, how_at, payload_at, op_at, term_at, command_at, file_at, send_at, control_at, call_at, only_number_at, only_name_at, bare_action, bare_at, named_at, action_at};
 
+use crate::source::LineSource;
 use crate::statement::{Action, CommandOptions};
 use crate::words::{
-    gap, next_file, next_name, next_number, next_piece, next_word, number_within, spells,
+    gap, next_file, next_name, next_number, next_shared_piece, next_word, number_within, spells,
 };
 use port_terms::encode;
 use script_plan::{Piece, Reason};
@@ -19,17 +21,23 @@ const MAX_SIZE: u32 = 262_143;
 
 /// What stands behind the port of a step of this kind.
 #[tactic(auto, unfolding(crate::specs::Forms::action_at))]
-pub(crate) fn action(alloc: Global, kind: &[u8], bytes: &[u8]) -> Result<Action, PartFault>
+pub(crate) fn action(
+    alloc: Global,
+    source: LineSource<'_>,
+    kind: &[u8],
+    bytes: &[u8],
+) -> Result<Action, PartFault>
+    requires { EndsAt source.text.now source.end bytes.now }
     ensures { Reads (λ action. action) result (action_at kind.now bytes.now) }
 {
     if spells(kind, "command") {
-        command(alloc, bytes)
+        command(alloc, source, bytes)
     } else if spells(kind, "file") {
         file(alloc, bytes)
     } else if spells(kind, "send") {
-        send(alloc, bytes)
+        send(alloc, source, bytes)
     } else if spells(kind, "control") {
-        control(alloc, bytes)
+        control(alloc, source, bytes)
     } else if spells(kind, "call") {
         call(alloc, bytes)
     } else {
@@ -39,10 +47,11 @@ pub(crate) fn action(alloc: Global, kind: &[u8], bytes: &[u8]) -> Result<Action,
 
 /// `IOLIST HOW`, to the end of the line.
 #[tactic(auto, unfolding(crate::specs::Forms::command_at))]
-fn command(alloc: Global, bytes: &[u8]) -> Result<Action, PartFault>
+fn command(alloc: Global, source: LineSource<'_>, bytes: &[u8]) -> Result<Action, PartFault>
+    requires { EndsAt source.text.now source.end bytes.now }
     ensures { Reads (λ action. action) result (command_at bytes.now) }
 {
-    let (bytes, rest) = payload(alloc, bytes)?;
+    let (bytes, rest) = payload(alloc, source, bytes)?;
     let how = how(rest).ok_or(PartFault::Bad)?;
     Ok(Action::Command { bytes, how })
 }
@@ -60,10 +69,11 @@ fn file(alloc: Global, bytes: &[u8]) -> Result<Action, PartFault>
 
 /// An IOLIST, to the end of the line.
 #[tactic(auto, unfolding(crate::specs::Forms::send_at))]
-fn send(alloc: Global, bytes: &[u8]) -> Result<Action, PartFault>
+fn send(alloc: Global, source: LineSource<'_>, bytes: &[u8]) -> Result<Action, PartFault>
+    requires { EndsAt source.text.now source.end bytes.now }
     ensures { Reads (λ action. action) result (send_at bytes.now) }
 {
-    let (bytes, rest) = payload(alloc, bytes)?;
+    let (bytes, rest) = payload(alloc, source, bytes)?;
     let [] = rest else {
         return Err(PartFault::Bad);
     };
@@ -72,11 +82,12 @@ fn send(alloc: Global, bytes: &[u8]) -> Result<Action, PartFault>
 
 /// `OP TEXT`, to the end of the line.
 #[tactic(auto, unfolding(crate::specs::Forms::control_at))]
-fn control(alloc: Global, bytes: &[u8]) -> Result<Action, PartFault>
+fn control(alloc: Global, source: LineSource<'_>, bytes: &[u8]) -> Result<Action, PartFault>
+    requires { EndsAt source.text.now source.end bytes.now }
     ensures { Reads (λ action. action) result (control_at bytes.now) }
 {
     let (op, rest) = op(bytes).ok_or(PartFault::Bad)?;
-    let (bytes, rest) = next_piece(alloc, rest)?;
+    let (bytes, rest) = next_shared_piece(alloc, source, rest)?;
     let [] = rest else {
         return Err(PartFault::Bad);
     };
@@ -105,12 +116,17 @@ fn op(bytes: &[u8]) -> Option<(u32, &[u8])>
 
 /// The bytes of the IOLIST behind a gap, and what stands behind it.
 #[tactic(auto, unfolding(crate::specs::Forms::payload_at))]
-fn payload(alloc: Global, bytes: &[u8]) -> Result<(Piece, &[u8]), PartFault>
+fn payload<'a>(
+    alloc: Global,
+    source: LineSource<'_>,
+    bytes: &'a [u8],
+) -> Result<(Piece, &'a [u8]), PartFault>
+    requires { EndsAt source.text.now source.end bytes.now }
     ensures { Reads (λ x. (x.0, x.1.now)) result (payload_at bytes.now) }
 {
     let inner = gap(bytes).ok_or(PartFault::Bad)?;
-    let (bytes, rest) = read_io_bytes(alloc, inner)?;
-    Ok((Piece::of_vec(bytes)?, rest))
+    let (content, rest) = read_io_bytes(alloc, inner)?;
+    Ok((source.piece_of(inner, content)?, rest))
 }
 
 /// The external form of the TERM behind a gap, and what stands behind it.

@@ -3,11 +3,13 @@
 ghost use Rattle.std.specs.Prelude.{◌≡◌};
 ghost use Rattle.std.specs.List.{list_all};
 ghost use Rattle.script_text.specs.PartFault.{Reads};
+ghost use Rattle.gateway_script.specs.Source.{EndsAt};
 ghost use Rattle.gateway_script.specs.Forms.{process_at, port_at, journal_at, save_at, step_behind, step_at, form_at, statement_of, is_printable, is_silent};
 
 use crate::actions::{action, only_name};
 use crate::config::all_suit;
 use crate::options::options;
+use crate::source::LineSource;
 use crate::statement::Statement;
 use crate::words::{free_name_of, next_file, next_free_name, next_name, next_word, spells, word};
 use script_plan::Reason;
@@ -16,7 +18,12 @@ use std::alloc::Global;
 
 /// What a line says, if it has a form.
 #[tactic(auto, unfolding(crate::specs::Forms::statement_of))]
-pub(crate) fn statement_of(alloc: Global, line: &[u8]) -> Result<Statement, PartFault>
+pub(crate) fn statement_of(
+    alloc: Global,
+    source: LineSource<'_>,
+    line: &[u8],
+) -> Result<Statement, PartFault>
+    requires { EndsAt source.text.now source.end line.now }
     ensures { Reads (λ said. said) result (statement_of line.now) }
 {
     if !all_printable(line) {
@@ -26,7 +33,7 @@ pub(crate) fn statement_of(alloc: Global, line: &[u8]) -> Result<Statement, Part
         return Ok(Statement::Nothing);
     }
     let (first, rest) = word(line);
-    form(alloc, first, rest)
+    form(alloc, source, first, rest)
 }
 
 /// Whether a line may have each of these bytes. It looks at all of them, many at a time, since few lines have one that isn't.
@@ -59,7 +66,13 @@ fn is_silent(line: &[u8]) -> bool
 
 /// A line by its first word.
 #[tactic(auto, unfolding(crate::specs::Forms::form_at))]
-fn form(alloc: Global, first: &[u8], rest: &[u8]) -> Result<Statement, PartFault>
+fn form(
+    alloc: Global,
+    source: LineSource<'_>,
+    first: &[u8],
+    rest: &[u8],
+) -> Result<Statement, PartFault>
+    requires { EndsAt source.text.now source.end rest.now }
     ensures { Reads (λ said. said) result (form_at first.now rest.now) }
 {
     if spells(first, "process") {
@@ -71,7 +84,7 @@ fn form(alloc: Global, first: &[u8], rest: &[u8]) -> Result<Statement, PartFault
     } else if spells(first, "save") {
         save(alloc, rest)
     } else {
-        step(alloc, first, rest)
+        step(alloc, source, first, rest)
     }
 }
 
@@ -139,22 +152,30 @@ fn save(alloc: Global, bytes: &[u8]) -> Result<Statement, PartFault>
 
 /// A step, behind the name of its process.
 #[tactic(auto, unfolding(crate::specs::Forms::step_at))]
-fn step(alloc: Global, process: &[u8], bytes: &[u8]) -> Result<Statement, PartFault>
+fn step(
+    alloc: Global,
+    source: LineSource<'_>,
+    process: &[u8],
+    bytes: &[u8],
+) -> Result<Statement, PartFault>
+    requires { EndsAt source.text.now source.end bytes.now }
     ensures { Reads (λ said. said) result (step_at process.now bytes.now) }
 {
     let process = free_name_of(process).ok_or(PartFault::Bad)?;
     let (kind, rest) = next_word(bytes).ok_or(PartFault::Bad)?;
-    step_behind(alloc, process, kind, rest)
+    step_behind(alloc, source, process, kind, rest)
 }
 
 /// What a process does, behind the word that says which step it is.
 #[tactic(auto, unfolding(crate::specs::Forms::step_behind))]
 fn step_behind(
     alloc: Global,
+    source: LineSource<'_>,
     process: Reason,
     kind: &[u8],
     bytes: &[u8],
 ) -> Result<Statement, PartFault>
+    requires { EndsAt source.text.now source.end bytes.now }
     ensures { Reads (λ said. said) result (step_behind process kind.now bytes.now) }
 {
     if spells(kind, "die") {
@@ -162,7 +183,7 @@ fn step_behind(
         return Ok(Statement::Die { process, reason });
     }
     let (port, rest) = next_name(bytes).ok_or(PartFault::Bad)?;
-    let action = action(alloc, kind, rest)?;
+    let action = action(alloc, source, kind, rest)?;
     Ok(Statement::Step {
         process,
         port,

@@ -15,6 +15,7 @@ mod line_fault;
 mod lines;
 mod options;
 mod reader;
+mod source;
 mod statement;
 mod steps;
 mod words;

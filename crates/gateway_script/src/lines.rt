@@ -1,6 +1,6 @@
 //! The lines of a text, one after another.
 
-ghost use Rattle.std.specs.Prelude.{◌≡◌, ◌+◌, ◌≤◌, ◌∷◌, true, false, Some, length, take, drop, All, IfOk, option_map};
+ghost use Rattle.std.specs.Prelude.{◌≡◌, ◌+◌, ◌≤◌, ◌∷◌, true, false, Some, length, take, drop, All, IfOk, IfSome, option_map};
 ghost use Rattle.gateway_script.specs.Lines.{is_line_end, parts_left};
 
 use memchr::memchr;
@@ -15,7 +15,9 @@ pub(crate) fn number_behind(number: u32) -> Result<u32, NoMemory>
 
 /// The first line of a text, without its end, and what stands behind that, if it has one.
 pub(crate) fn first_line(text: &[u8]) -> (&[u8], Option<&[u8]>)
-    ensures { parts_left (Some text.now) ≡ result.0.now ∷ parts_left (option_map (λ rest. rest.now) result.1) }
+    ensures lines { parts_left (Some text.now) ≡ result.0.now ∷ parts_left (option_map (λ rest. rest.now) result.1) }
+    ensures front { result.0.now ≡ take (length result.0.now) text.now }
+    ensures rest { IfSome result.1 (λ rest. rest.now ≡ drop (length result.0.now + 1) text.now) }
 {
     let (line, behind) = text.split_at(line_len(text));
     match behind {

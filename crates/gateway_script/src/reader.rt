@@ -1,6 +1,7 @@
 ghost use Rattle.std.specs.Prelude.{◌≡◌, Ok, OnOk, IfOk, IfErr};
 ghost use Rattle.gateway_script.specs.Draft.{IsDraft, plan_of};
 ghost use Rattle.gateway_script.specs.LineFault.{Tells};
+ghost use Rattle.gateway_script.specs.Source.{EndsAt};
 ghost use Rattle.script_plan.specs.Plan.{IsPlan};
 ghost use Rattle.gateway_script.specs.Script.{script, with_line, IsFaultOf};
 
@@ -8,10 +9,11 @@ use crate::draft::Draft;
 use crate::forms::statement_of;
 use crate::line_fault::LineFault;
 use crate::lines::{first_line, number_behind};
-use script_plan::{Script, ScriptFault};
+use crate::source::LineSource;
+use script_plan::{Piece, Script, ScriptFault};
 use std::alloc::Global;
 
-/// The script that the bytes spell, or else the first faulty line, counted from 1, with the least fault in it by the order
+/// The script that the text spells, or else the first faulty line, counted from 1, with the least fault in it by the order
 /// of `ScriptFault`.
 ///
 /// A line ends with byte 10, which the last one may lack, and has bytes 32 to 126. Empty lines and lines that begin with `#`
@@ -44,20 +46,25 @@ use std::alloc::Global;
 /// all written to different files. `demonitor` ends the oldest monitor that the process has of the port. A process makes no step
 /// after its `die`.
 ///
-/// The bytes of an IOLIST are those of its parts from left to right, and those of a TERM its external form.
-pub fn read_script(alloc: Global, bytes: &[u8]) -> Result<Script, ScriptFault>
-    ensures ok { IfOk result (λ s. script bytes.now ≡ Ok s) }
+/// The bytes of an IOLIST are those of its parts from left to right, and those of a TERM its external form. The data of a TEXT without
+/// escapes isn't copied: it shares the memory of the text.
+pub fn read_script(alloc: Global, text: &Piece) -> Result<Script, ScriptFault>
+    ensures ok { IfOk result (λ s. script text.now ≡ Ok s) }
     // What the script names by a number is there, and its numbers lie in their ranges.
     ensures plan { IfOk result IsPlan }
-    ensures fault { IfErr result (λ f. IsFaultOf (script bytes.now) f) }
+    ensures fault { IfErr result (λ f. IsFaultOf (script text.now) f) }
 {
     let mut draft = Draft::new(alloc)?;
     let mut number = 0;
-    let mut left = Some(bytes);
-    while let Some(text) = left {
+    let mut left = Some(text.as_slice());
+    while let Some(lines) = left {
         number = number_behind(number)?;
-        let (line, rest) = first_line(text);
-        if let Err(fault) = take_line(alloc, &mut draft, number, line) {
+        let (line, rest) = first_line(lines);
+        let source = LineSource {
+            text,
+            end: text.len() - lines.len() + line.len(),
+        };
+        if let Err(fault) = take_line(alloc, &mut draft, source, number, line) {
             return Err(fault.at(number));
         }
         left = rest;
@@ -67,12 +74,19 @@ pub fn read_script(alloc: Global, bytes: &[u8]) -> Result<Script, ScriptFault>
 
 /// Takes in the line of this number.
 #[tactic(auto, unfolding(crate::specs::Script::with_line))]
-fn take_line(alloc: Global, draft: &mut Draft, number: u32, line: &[u8]) -> Result<(), LineFault>
-    requires { IsDraft draft.old }
+fn take_line(
+    alloc: Global,
+    draft: &mut Draft,
+    source: LineSource<'_>,
+    number: u32,
+    line: &[u8],
+) -> Result<(), LineFault>
+    requires draft { IsDraft draft.old }
+    requires ends { EndsAt source.text.now source.end line.now }
     ensures draft { OnOk result (IsDraft draft.new) }
     ensures ok { OnOk result (with_line (plan_of draft.old) (record { number = number; bytes = line.now }) ≡ Ok (plan_of draft.new)) }
     ensures fault { IfErr result (λ f. Tells (with_line (plan_of draft.old) (record { number = number; bytes = line.now })) f) }
 {
-    let statement = statement_of(alloc, line)?;
+    let statement = statement_of(alloc, source, line)?;
     draft.take_in(alloc, number, statement)
 }

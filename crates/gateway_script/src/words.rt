@@ -4,10 +4,12 @@ ghost use Rattle.std.specs.Prelude.{◌≡◌, ◌≤◌, length, drop, option_m
 ghost use Rattle.std.specs.List.{take_while, prefix_len};
 ghost use Rattle.std.specs.Str.{bytes_eq};
 ghost use Rattle.script_text.specs.PartFault.{Reads};
+ghost use Rattle.gateway_script.specs.Source.{EndsAt};
 ghost use Rattle.gateway_script.specs.Words.{is_word_byte, gap_at, word_at, next_word_at, name_of, next_name_at, is_reserved, free_name_of, next_free_name_at, next_number_at, number_within, next_text_at, next_file_at, utf8_name_of};
 
+use crate::source::LineSource;
 use script_plan::{FileName, Piece, Reason};
-use script_text::{PartFault, read_number, read_text_bytes, skip_gap};
+use script_text::{PartFault, read_number, read_text_bytes, read_text_content, skip_gap};
 use std::alloc::Global;
 
 /// Whether a word has this byte.
@@ -158,6 +160,21 @@ pub(crate) fn next_piece(alloc: Global, bytes: &[u8]) -> Result<(Piece, &[u8]), 
 {
     let (text, rest) = next_text(alloc, bytes)?;
     Ok((Piece::of_vec(text)?, rest))
+}
+
+/// The TEXT behind a gap, which shares the bytes of the script where it has no escapes.
+#[tactic(auto, unfolding(crate::specs::Words::next_text_at))]
+pub(crate) fn next_shared_piece<'a>(
+    alloc: Global,
+    source: LineSource<'_>,
+    bytes: &'a [u8],
+) -> Result<(Piece, &'a [u8]), PartFault>
+    requires { EndsAt source.text.now source.end bytes.now }
+    ensures { Reads (λ x. (x.0, x.1.now)) result (next_text_at bytes.now) }
+{
+    let inner = gap(bytes).ok_or(PartFault::Bad)?;
+    let (content, rest) = read_text_content(alloc, inner)?;
+    Ok((source.piece_of(inner, content)?, rest))
 }
 
 /// The name of a file of these bytes, if they are UTF-8.

@@ -1,5 +1,5 @@
-use crate::shown::first_wrong;
-use gateway_script::{ScriptFault, each_line_says_what_it_spells, read_script};
+use crate::shown::{first_wrong, script_of};
+use gateway_script::{ScriptFault, each_line_says_what_it_spells};
 use std::test::Fail;
 
 /// A process, two ports of it, a program and an echo, and what is written.
@@ -165,9 +165,9 @@ fn a_script_has_at_most_131072_steps(rt: HostRuntime) -> Result<(), Fail> {
     for _ in 0..131_072 {
         text.push_str("a link p\n")?;
     }
-    assert!(rt; read_script(alloc, text.as_bytes()).is_ok());
+    assert!(rt; script_of(alloc, text.as_str()).is_ok());
     text.push_str("a die x")?;
-    let fault = read_script(alloc, text.as_bytes()).err();
+    let fault = script_of(alloc, text.as_str()).err();
     let wanted = ScriptFault::Limit {
         line: 131_075,
         which: 3,

@@ -1,4 +1,4 @@
-use gateway_script::{Act, Config, Mode, Script, Step, read_script};
+use gateway_script::{Act, Config, Mode, Piece, Script, ScriptFault, Step, read_script};
 use std::alloc::{AllocError, Global};
 
 /// The script in one line of text.
@@ -122,9 +122,14 @@ fn shown_bare(alloc: Global, act: &Act) -> Result<String, AllocError> {
     }
 }
 
+/// The script that the text spells.
+pub fn script_of(alloc: Global, text: &str) -> Result<Script, ScriptFault> {
+    read_script(alloc, &Piece::of_slice(alloc, text.as_bytes())?)
+}
+
 /// What the text reads as, or its fault.
 fn outcome(alloc: Global, text: &str) -> Result<String, AllocError> {
-    match read_script(alloc, text.as_bytes()) {
+    match script_of(alloc, text) {
         Ok(script) => shown(alloc, &script),
         Err(fault) => format!(in alloc; "{fault:?}"),
     }

@@ -1,7 +1,9 @@
 -- What is done to each event that is held, one after another, is done to all.
 use Rattle.std.proofs.Common.{◌≡◌, ℕ, ◌<◌, ◌==◌, cond, map, Bool, true, false, ◌||◌, ◌&&◌, not, List, [], ◌∷◌, ◌++◌, refl, sym, ap, ◌∙◌, subst, arith, eqb-true, eq-eqb, ne_eqb}
 use Rattle.std.specs.Prelude.{filter}
-use Rattle.std.specs.List.{AllByRecursion, flat_map}
+use Rattle.std.specs.List.{AllByRecursion, flat_map, list_all}
+use Rattle.std.proofs.lemmas.Bool.{and_parts}
+use Rattle.port_history.specs.Laws.{is_given_back}
 use Rattle.ready_select.specs.declared.ask.PollAsk.{PollAsk}
 use Rattle.ready_select.specs.Sets.{has}
 use Rattle.port_history.specs.Events.{Event, change, event_of, unused, numbers, is_armed, arm, give_up, read_no_more, left_by}
@@ -199,3 +201,14 @@ stopped-all port events old new before after a done =
       given_back = d.given_back ∙ ap (λ xs. before ++ xs) (left events);
       room = refl;
     }
+
+-- where each event is given back, none is held
+pub none-held : (events : List Event) → list_all is_given_back events ≡ true → held_of events ≡ []
+none-held [] all = refl
+none-held (e ∷ events) all =
+    let p = and_parts (is_given_back e) (list_all is_given_back events) all in
+    let free : e.held ≡ false = elim e.held as (λ b. not (b || e.waits) ≡ true → b ≡ false) [
+      | true ↦ λ h. absurd cc
+      | false ↦ λ _. refl
+    ] p.0 in
+    rw free (none-held events p.1)

@@ -75,6 +75,10 @@ impl PortEvents {
         ensures ok { OnOk result (Does (arming self.old.port) self.old self.new [] []) }
         ensures same { KeepsEnd self.old self.new }
     {
+        // Most ports have no events, and the list of those that are held is large.
+        if self.is_given_back() {
+            return Ok(());
+        }
         let held = self.held();
         self.arm_each(rt, held.as_slice())
     }

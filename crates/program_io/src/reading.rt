@@ -4,7 +4,7 @@ ghost use Rattle.program_io.specs.Files.{files_view, HasRead, NothingWritten, Re
 ghost use Rattle.program_io.specs.Script.{ScriptEnds, ScriptRead};
 
 use crate::InputFault;
-use gateway_script::read_script;
+use gateway_script::{Piece, read_script};
 use outside::{FileFault, Files};
 use script_plan::{Script, ScriptFault};
 use std::alloc::Global;
@@ -49,7 +49,10 @@ pub fn read_run_script<F: Files>(
         (files_view F.told F.answered F.wrote F.reads F.writes files.new) }
 {
     let bytes = read_file(alloc, files, name, 0, MAX_SCRIPT)?;
-    match read_script(alloc, bytes.as_slice()) {
+    let Ok(text) = Piece::of_vec(bytes) else {
+        return Err(InputFault::NoMemory);
+    };
+    match read_script(alloc, &text) {
         Ok(script) => Ok(script),
         Err(ScriptFault::NoMemory) => Err(InputFault::NoMemory),
         Err(fault) => Err(InputFault::Script { fault }),

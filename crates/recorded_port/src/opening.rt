@@ -50,36 +50,15 @@ impl<D: Driver> RecordedPort<D> {
             ends,
         } = outlets;
         let Ok(suspension) = Suspension::new(alloc, place.processes) else {
-            let outlets = PortOutlets {
-                mailboxes,
-                seat,
-                ends,
-            };
-            return Err((
-                PortParts {
-                    driver,
-                    config,
-                    outlets,
-                },
-                StartRefusal::NoMemory,
-            ));
+            let outlets = PortOutlets::new(mailboxes, seat, ends);
+            let parts = PortParts::new(driver, config, outlets);
+            return Err((parts, StartRefusal::NoMemory));
         };
         let port = match ServedPort::open(rt, alloc, driver, &config, place, ends) {
             Ok(port) => port,
             Err((driver, ends, refusal)) => {
-                let outlets = PortOutlets {
-                    mailboxes,
-                    seat,
-                    ends,
-                };
-                return Err((
-                    PortParts {
-                        driver,
-                        config,
-                        outlets,
-                    },
-                    refusal,
-                ));
+                let outlets = PortOutlets::new(mailboxes, seat, ends);
+                return Err((PortParts::new(driver, config, outlets), refusal));
             }
         };
         let (read, write) = port.program_events();

@@ -4,3 +4,4 @@ pub mod Data
 pub mod InFront
 pub mod Reading
 pub mod PartFault
+pub mod Borrowed

@@ -3,6 +3,8 @@
 ghost use Rattle.std.specs.Prelude.{◌≡◌, ◌≤◌, ℕ, List, Some, length, IfOk};
 ghost use Rattle.port_terms.specs.IoView.{io_tree, io_trees};
 ghost use Rattle.port_terms.specs.declared.values.TheConstants.{MAX_ITEMS};
+ghost use Rattle.std.specs.Cow.{cow_slice_items};
+ghost use Rattle.script_text.specs.Borrowed.{Borrows};
 ghost use Rattle.script_text.specs.Data.{io_item, SpellsIoList};
 ghost use Rattle.script_text.specs.InFront.{InFront};
 ghost use Rattle.port_terms.specs.Tree.{Tree};
@@ -11,10 +13,11 @@ ghost use Rattle.script_text.specs.Reading.{bin_at, io_byte_at, some_at, forest_
 
 use crate::fault::PartFault;
 use crate::openings::{Opening, opening_of};
-use crate::texts::{text, text_bytes};
+use crate::texts::{text, text_content};
 use crate::tokens::{after, number, skip_gap};
 use port_terms::{IoList, IoParts, MAX_DEPTH, MAX_ITEMS, flatten, parts};
 use std::alloc::Global;
+use std::borrow::CowSlice;
 
 /// The IOLIST in front of the bytes, and what stands behind it: a TEXT, or `[` and `]` round items separated by commas, where an item
 /// is a NUMBER up to 255 or an IOLIST. Spaces may stand between its parts. It has at most 64 levels, and each list at most 262,143
@@ -30,26 +33,29 @@ pub fn read_io_list(alloc: Global, bytes: &[u8]) -> Result<(IoList, &[u8]), Part
     io_list(alloc, bytes)
 }
 
-/// The bytes of the IOLIST in front, from left to right, and what stands behind it. A TEXT is copied once, and those of a list in
-/// brackets once more.
+/// The bytes of the IOLIST in front, from left to right, and what stands behind it. Those of a TEXT without escapes aren't copied:
+/// they are borrowed from where they stand, behind the opening quote. Those of a list in brackets are copied twice.
 #[tactic(auto, unfolding(crate::specs::Reading::io_bytes_at, crate::specs::Reading::io_list_at, crate::specs::Reading::value_at, crate::specs::Reading::bin_at))]
-pub fn read_io_bytes(alloc: Global, bytes: &[u8]) -> Result<(Vec<u8>, &[u8]), PartFault>
+pub fn read_io_bytes(alloc: Global, bytes: &[u8]) -> Result<(CowSlice<'_, u8>, &[u8]), PartFault>
     // They are the bytes of what the definition reads there.
-    ensures { Reads (λ x. (x.0.items, x.1.now)) result (io_bytes_at bytes.now) }
+    ensures reads { Reads (λ x. (cow_slice_items x.0, x.1.now)) result (io_bytes_at bytes.now) }
+    // Where they are borrowed, they stand behind the first byte.
+    ensures borrowed { IfOk result (λ x. Borrows x.0 bytes.now) }
 {
     match opening_of(bytes) {
-        Opening::Quote => text_bytes(alloc, bytes),
+        Opening::Quote => text_content(alloc, bytes),
         _ => flat_list(alloc, bytes),
     }
 }
 
 /// The bytes of the IOLIST in front, and what stands behind it.
 #[tactic(auto, unfolding(crate::specs::Reading::io_bytes_at))]
-fn flat_list(alloc: Global, bytes: &[u8]) -> Result<(Vec<u8>, &[u8]), PartFault>
-    ensures { Reads (λ x. (x.0.items, x.1.now)) result (io_bytes_at bytes.now) }
+fn flat_list(alloc: Global, bytes: &[u8]) -> Result<(CowSlice<'_, u8>, &[u8]), PartFault>
+    ensures reads { Reads (λ x. (cow_slice_items x.0, x.1.now)) result (io_bytes_at bytes.now) }
+    ensures borrowed { IfOk result (λ x. Borrows x.0 bytes.now) }
 {
     let (list, rest) = io_list(alloc, bytes)?;
-    Ok((flatten(alloc, &list)?, rest))
+    Ok((CowSlice::Owned(flatten(alloc, &list)?), rest))
 }
 
 /// The IOLIST in front, and what stands behind it.

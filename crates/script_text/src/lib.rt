@@ -17,5 +17,5 @@ pub use fault::PartFault;
 pub use io_lists::{read_io_bytes, read_io_list};
 pub use laws::each_text_has_one_value;
 pub use terms::read_term;
-pub use texts::{read_text, read_text_bytes};
+pub use texts::{read_text, read_text_bytes, read_text_content};
 pub use tokens::{read_number, skip_gap};

@@ -1,10 +1,13 @@
 //! TEXTs: bytes in double quotes, some of them escaped.
 
-ghost use Rattle.std.specs.Prelude.{◌≡◌, ◌<◌, ◌≤◌, ◌+◌, ◌*◌, ◌-◌, ℕ, List, Some, None, false, All, length, take, option_map, IfOk, IfSome};
+ghost use Rattle.std.specs.Prelude.{◌≡◌, ◌<◌, ◌≤◌, ◌+◌, ◌*◌, ◌-◌, ℕ, List, Some, None, false, All, length, take, option_map, IfOk, IfErr, IfSome};
 ghost use Rattle.port_terms.specs.declared.values.TheConstants.{MAX_ITEMS};
+ghost use Rattle.std.specs.Cow.{cow_slice_items};
 ghost use Rattle.script_text.specs.Texts.{SpellsText};
 ghost use Rattle.script_text.specs.InFront.{InFront};
 ghost use Rattle.script_text.specs.PartFault.{Reads, Gives};
+ghost use Rattle.script_text.specs.Borrowed.{Borrows, IsFrontOf};
+ghost use Rattle.script_text.specs.declared.fault.PartFault.TheVariants.{NoMemory};
 ghost use Rattle.memchr.specs.Find.{is_byte2};
 ghost use Rattle.script_text.specs.Reading.{hex_value, hexadecimal_at, escape_at, byte_at, content_at, text_at};
 
@@ -13,6 +16,7 @@ use crate::tokens::after;
 use memchr::memchr2;
 use port_terms::{MAX_ITEMS, Octets, octets};
 use std::alloc::Global;
+use std::borrow::CowSlice;
 
 /// The TEXT in front of the bytes, and what stands behind it. Bytes of a TEXT stand for themselves, or are escaped as `\n`, `\r`,
 /// `\t`, `\\`, `\"` or `\xHH` with two digits from `0` to `9` and from `a` to `f`. It has at most 262,143 bytes.
@@ -39,6 +43,20 @@ pub fn read_text_bytes(alloc: Global, bytes: &[u8]) -> Result<(Vec<u8>, &[u8]), 
     text_bytes(alloc, bytes)
 }
 
+/// The bytes of the TEXT in front, as `read_text` reads it. Where it has no escapes none is copied: they are borrowed from where they
+/// stand, behind the opening quote.
+pub fn read_text_content(
+    alloc: Global,
+    bytes: &[u8],
+) -> Result<(CowSlice<'_, u8>, &[u8]), PartFault>
+    // It is what the definition reads there.
+    ensures reads { Reads (λ x. (cow_slice_items x.0, x.1.now)) result (text_at bytes.now) }
+    // Where it is borrowed, it stands behind the first byte.
+    ensures borrowed { IfOk result (λ x. Borrows x.0 bytes.now) }
+{
+    text_content(alloc, bytes)
+}
+
 /// The TEXT in front, and what stands behind it.
 pub(crate) fn text(alloc: Global, bytes: &[u8]) -> Result<(Octets, &[u8]), PartFault>
     ensures reads { Reads (λ x. (x.0, x.1.now)) result (text_at bytes.now) }
@@ -49,28 +67,54 @@ pub(crate) fn text(alloc: Global, bytes: &[u8]) -> Result<(Octets, &[u8]), PartF
 }
 
 /// The bytes of the TEXT in front, and what stands behind it.
-#[tactic(auto, unfolding(crate::specs::Reading::text_at))]
 pub(crate) fn text_bytes(alloc: Global, bytes: &[u8]) -> Result<(Vec<u8>, &[u8]), PartFault>
     ensures reads { Reads (λ x. (x.0.items, x.1.now)) result (text_at bytes.now) }
     ensures few { IfOk result (λ x. length x.0.items ≤ MAX_ITEMS) }
+{
+    let (content, rest) = text_content(alloc, bytes)?;
+    Ok((owned(alloc, content)?, rest))
+}
+
+/// The bytes, copied where they are borrowed.
+fn owned(alloc: Global, bytes: CowSlice<'_, u8>) -> Result<Vec<u8>, PartFault>
+    ensures owned { IfOk result (λ owned. owned.items ≡ cow_slice_items bytes.entry) }
+    ensures memory { IfErr result (λ fault. fault ≡ NoMemory) }
+{
+    match bytes {
+        CowSlice::Borrowed(bytes) => Ok(Vec::from_slice(alloc, bytes)?),
+        CowSlice::Owned(bytes) => Ok(bytes),
+    }
+}
+
+/// The bytes of the TEXT in front, and what stands behind it. Those of a text without escapes are borrowed from where they stand.
+#[tactic(auto, unfolding(crate::specs::Reading::text_at))]
+pub(crate) fn text_content(
+    alloc: Global,
+    bytes: &[u8],
+) -> Result<(CowSlice<'_, u8>, &[u8]), PartFault>
+    ensures reads { Reads (λ x. (cow_slice_items x.0, x.1.now)) result (text_at bytes.now) }
+    ensures few { IfOk result (λ x. length (cow_slice_items x.0) ≤ MAX_ITEMS) }
+    ensures borrowed { IfOk result (λ x. Borrows x.0 bytes.now) }
 {
     let inner = after(b'"', bytes).ok_or(PartFault::Bad)?;
     content(alloc, inner)
 }
 
-/// The bytes that a text spells up to its closing quote, and what stands behind that. Those of a text without escapes are taken
-/// at once.
-fn content(alloc: Global, bytes: &[u8]) -> Result<(Vec<u8>, &[u8]), PartFault>
-    ensures reads { Reads (λ x. (x.0.items, x.1.now)) result (content_at (MAX_ITEMS + 1) bytes.now) }
-    ensures few { IfOk result (λ x. length x.0.items ≤ MAX_ITEMS) }
+/// The bytes that a text spells up to its closing quote, and what stands behind that. Those of a text without escapes are borrowed
+/// from where they stand.
+fn content(alloc: Global, bytes: &[u8]) -> Result<(CowSlice<'_, u8>, &[u8]), PartFault>
+    ensures reads { Reads (λ x. (cow_slice_items x.0, x.1.now)) result (content_at (MAX_ITEMS + 1) bytes.now) }
+    ensures few { IfOk result (λ x. length (cow_slice_items x.0) ≤ MAX_ITEMS) }
+    ensures front { IfOk result (λ x. IsFrontOf x.0 bytes.now) }
 {
     let (plain, behind) = bytes.split_at(plain_len(bytes));
     if plain.len() <= MAX_ITEMS
         && let Some(rest) = after(b'"', behind)
     {
-        return Ok((Vec::from_slice(alloc, plain)?, rest));
+        return Ok((CowSlice::Borrowed(plain), rest));
     }
-    content_with_escapes(alloc, bytes)
+    let (content, rest) = content_with_escapes(alloc, bytes)?;
+    Ok((CowSlice::Owned(content), rest))
 }
 
 /// The bytes that a text spells up to its closing quote, and what stands behind that. Those that stand for themselves are taken

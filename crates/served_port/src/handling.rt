@@ -87,6 +87,10 @@ impl<D: Driver> ServedPort<D> {
             };
             return Ok(self.state.serve_dropped(alloc, seq, *event));
         }
+        // Most ports have no events, and the list of those that are held is large.
+        if self.events.is_given_back() {
+            return self.state.serve(alloc, from, seq, signal, &[]);
+        }
         let held = self.events.held();
         self.state.serve(alloc, from, seq, signal, held.as_slice())
     }

@@ -2,6 +2,7 @@ use Rattle.std.proofs.Common.{◌≡◌, true, sym, ap, ◌∙◌, subst, arith}
 use Rattle.port_driver.specs.Context.{SameEvents}
 use Rattle.port_driver.specs.driver_model.Drivers.{held_events}
 use Rattle.port_events.specs.port_history.Opening.{taken_of}
+use Rattle.port_events.proofs.AllHeld.{none-held}
 use Rattle.port_model.specs.declared.signal.Sender.TheVariants.{Poller}
 use Rattle.port_state.specs.Served.{IsServed}
 use Rattle.served_port.specs.View.{ServedView}
@@ -13,6 +14,13 @@ pub returns-clause-serves : goal.returns-clause-serves
 returns-clause-serves g c = rw (← c.self.view_is) (if-ok c.serve.result (λ made serves port s task e at settled.
     serves port s task e at.state settled
     (subst (λ x. SameEvents x (held_events port.kind port.config s.calls)) (sym (c.as_slice.ensures.value ∙ c.held-held.ensures s.events at.events))
+    (at.held (sym at.state.stopped ∙ (sym c.is_stopped.ensures ∙ c.if-is_stopped.false))))) c.serve.ensures.serves)
+
+pub returns-then-is_given_back-clause-serves : goal.returns-then-is_given_back-clause-serves
+returns-then-is_given_back-clause-serves g c = rw (← c.self.view_is) (if-ok c.serve.result (λ made serves port s task e at settled.
+    let none = none-held s.events (sym (c.is_given_back.ensures s.events at.events) ∙ c.if-is_given_back.true) in
+    serves port s task e at.state settled
+    (subst (λ x. SameEvents x (held_events port.kind port.config s.calls)) none
     (at.held (sym at.state.stopped ∙ (sym c.is_stopped.ensures ∙ c.if-is_stopped.false))))) c.serve.ensures.serves)
 
 pub returns-then-is_stopped-clause-serves : goal.returns-then-is_stopped-clause-serves
@@ -27,6 +35,9 @@ returns-then-is_stopped-clause-serves g c = rw (← c.self.view_is) (λ port s t
 
 pub returns-clause-failed : goal.returns-clause-failed
 returns-clause-failed g c = rw (← c.self.view_is) c.serve.ensures.failed
+
+pub returns-then-is_given_back-clause-failed : goal.returns-then-is_given_back-clause-failed
+returns-then-is_given_back-clause-failed g c = rw (← c.self.view_is) c.serve.ensures.failed
 
 pub returns-then-is_stopped-clause-failed : goal.returns-then-is_stopped-clause-failed
 returns-then-is_stopped-clause-failed g c = rw (← c.self.view_is, c.serve_dropped.ensures.outside) (omega arith)
