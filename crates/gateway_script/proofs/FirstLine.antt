@@ -1,9 +1,9 @@
 -- The first line of a text, and the lines behind it.
-use Rattle.std.proofs.Common.{◌≡◌, ℕ, suc, ◌-◌, ◌<◌, ◌≤◌, true, false, List, [], ◌∷◌, ◌++◌, length, take, drop, get_or, refl, sym, ap, ◌∙◌, subst, arith, inl, inr}
+use Rattle.std.proofs.Common.{◌≡◌, ℕ, suc, ◌+◌, ◌-◌, ◌<◌, ◌≤◌, true, false, List, [], ◌∷◌, ◌++◌, length, take, drop, get_or, refl, sym, ap, ◌∙◌, subst, arith, inl, inr}
 use Rattle.std.specs.Prelude.{All}
 use Rattle.std.specs.List.{slice_split}
 use Rattle.std.proofs.lemmas.Bool.{cases_Bool}
-use Rattle.std.proofs.lemmas.List.{append-nil, get_or-take, length-take-le, take-append-drop, take_all}
+use Rattle.std.proofs.lemmas.List.{append-nil, get_or-take, length-take-le, take-append-drop, take_all, take_rest, drop-drop}
 use Rattle.std.proofs.lemmas.List.Elements.{All-from_get_or}
 use Rattle.memchr.specs.Find.{Nowhere, Passes, is_byte}
 use Rattle.gateway_script.specs.Lines.{is_line_end}
@@ -49,3 +49,13 @@ line_in_front text front (byte ∷ back) n all ends is_front is_back more =
     let rest : take (length (byte ∷ back) - 1) back ≡ back = take_all (length (byte ∷ back) - 1) back (omega arith) in
     ap (slice_split is_line_end) whole ∙ line_and_rest (take n text) back byte all end
     ∙ ap (λ xs. xs ∷ slice_split is_line_end back) (sym is_front) ∙ ap (λ xs. front ∷ slice_split is_line_end xs) (sym rest)
+
+-- a front of the text is as many bytes of it as it has
+pub front-is : (text front : List ℕ) (n : ℕ) → n ≤ length text → front ≡ take n text → front ≡ take (length front) text
+front-is text front n within is = is ∙ ap (λ m. take m text) (sym (ap (λ (xs : List ℕ). length xs) is ∙ length-take-le n text within))
+
+-- behind the byte behind the front stands what is left of the text
+pub rest-is : (text front back : List ℕ) (n : ℕ) → n ≤ length text → front ≡ take n text → back ≡ drop n text → take (length back - 1) (drop 1 back) ≡ drop (length front + 1) text
+rest-is text front back n within is_front is_back =
+    let len : length front ≡ n = ap (λ (xs : List ℕ). length xs) is_front ∙ length-take-le n text within in
+    take_rest back 1 ∙ ap (λ (xs : List ℕ). drop 1 xs) is_back ∙ drop-drop 1 n text ∙ ap (λ m. drop (m + 1) text) (sym len)

@@ -71,7 +71,7 @@ pub ends-drop : (text : List ℕ) (end n : ℕ) (bytes rest : List ℕ) → rest
 ends-drop text end n bytes rest is ends =
     ends-behind text end (take n bytes) rest bytes (sym (take-append-drop n bytes) ∙ ap (λ xs. take n bytes ++ xs) (sym is)) ends
 
--- what is borrowed behind the first byte of the bytes is that part of the text
+-- what is borrowed behind the first byte of the bytes is this part of the text
 pub part-is : (text : List ℕ) (end : ℕ) (bytes content : List ℕ) (start : ℕ) → EndsAt text end bytes → start ≡ end - length bytes + 1 → length content + 1 ≤ length bytes
     → take (length content) (drop 1 bytes) ≡ content → slice_range text start (start + length content) ≡ content
 part-is text end bytes content start ends at fits is =
@@ -82,14 +82,3 @@ part-is text end bytes content start ends at fits is =
     let within : length ends.front + 1 ≤ length (ends.front ++ bytes) = omega (arith, fits, length-append ends.front bytes) in
     let few : length content ≤ length (drop 1 bytes) = omega (arith, fits, length-drop 1 bytes) in
     rw (count, begins, ends.parts, drop-append-le (length ends.front + 1) (ends.front ++ bytes) ends.behind within, first, take-append-le (length content) (drop 1 bytes) ends.behind few) is
-
--- and stands within the text
-pub part-within : (text : List ℕ) (end : ℕ) (bytes content : List ℕ) (start : ℕ) → EndsAt text end bytes → start ≡ end - length bytes + 1 → length content + 1 ≤ length bytes → start + length content ≤ length text
-part-within text end bytes content start ends at fits =
-    let sum : length text ≡ length ends.front + length bytes + length ends.behind =
-    ap (λ (xs : List ℕ). length xs) ends.parts ∙ length-append (ends.front ++ bytes) ends.behind ∙ ap (λ n. n + length ends.behind) (length-append ends.front bytes) in
-    omega (arith, sum, at, ends.place, fits)
-
--- the bytes aren't more than those up to where they end
-pub ends-fit : (text : List ℕ) (end : ℕ) (bytes : List ℕ) → EndsAt text end bytes → length bytes ≤ end
-ends-fit text end bytes ends = omega (arith, ends.place)

@@ -9,13 +9,13 @@ use Rattle.gateway_script.proofs.SoFar.{line_goes_on, line_at_fault, line_was_la
 use Rattle.gateway_script.proofs.reader.read_script.Goals as goal
 
 pub loop-left-init : goal.loop-left-init
-loop-left-init c = let own = c.in_ok-draft.ensures in record { read = rw own.empty refl; draft = own.draft; ends = ends-whole c.args.text.now }
+loop-left-init c = let own = c.in_ok-draft.ensures in record { read = rw (own.empty, c.as_slice.ensures) refl; draft = own.draft; ends = rw c.as_slice.ensures (ends-whole c.args.text.now) }
 
 pub take_line-requires-clause-draft : goal.take_line-requires-clause-draft
 take_line-requires-clause-draft c = c.loop-left.invariant.draft
 
 pub take_line-requires-clause-ends : goal.take_line-requires-clause-ends
-take_line-requires-clause-ends c = ends-line c.args.text.now c.in-Some.lines.now c.first_line.result.0.now c.loop-left.invariant.ends c.first_line.ensures.front
+take_line-requires-clause-ends c = ends-line c.args.text.now c.in-Some.lines.now c.first_line.result.0.now (rw c.in-Some.is at c.loop-left.invariant.ends) c.first_line.ensures.front
 
 pub returns-in-Err-clause-fault : goal.returns-in-Err-clause-fault
 returns-in-Err-clause-fault c =
@@ -34,7 +34,7 @@ loop-left-preserved c =
     record {
       read = line_goes_on (script c.args.text.now) c.in_ok-number.number _ _ c.first_line.result.0.now (plan_of c.loop-left.draft) _ parted (rw c.in_ok-number.ensures c.loop-left.invariant.read) c.in_default-take_line.ensures.ok;
       draft = c.in_default-take_line.ensures.draft;
-      ends = IfSome_then c.first_line.result.1 c.first_line.ensures.rest (λ rest h. ends-drop c.args.text.now (length c.args.text.now) (length c.first_line.result.0.now + 1) c.in-Some.lines.now rest.now h c.loop-left.invariant.ends);
+      ends = IfSome_then c.first_line.result.1 c.first_line.ensures.rest (λ rest h. ends-drop c.args.text.now (length c.args.text.now) (length c.first_line.result.0.now + 1) c.in-Some.lines.now rest.now h (rw c.in-Some.is at c.loop-left.invariant.ends));
     }
 
 pub into_script-requires : goal.into_script-requires

@@ -11,10 +11,10 @@ use Rattle.served_port.proofs.Same.{if-ok}
 use Rattle.served_port.proofs.served_port.ServedPort.serve.Goals as goal
 
 pub returns-clause-serves : goal.returns-clause-serves
-returns-clause-serves g c = rw (← c.self.view_is) (if-ok c.serve.result (λ made serves port s task e at settled.
+returns-clause-serves g c = rw (← c.self.view_is) (if-ok c.serve-2.result (λ made serves port s task e at settled.
     serves port s task e at.state settled
     (subst (λ x. SameEvents x (held_events port.kind port.config s.calls)) (sym (c.as_slice.ensures.value ∙ c.held-held.ensures s.events at.events))
-    (at.held (sym at.state.stopped ∙ (sym c.is_stopped.ensures ∙ c.if-is_stopped.false))))) c.serve.ensures.serves)
+    (at.held (sym at.state.stopped ∙ (sym c.is_stopped.ensures ∙ c.if-is_stopped.false))))) c.serve-2.ensures.serves)
 
 pub returns-then-is_given_back-clause-serves : goal.returns-then-is_given_back-clause-serves
 returns-then-is_given_back-clause-serves g c = rw (← c.self.view_is) (if-ok c.serve.result (λ made serves port s task e at settled.
@@ -34,7 +34,7 @@ returns-then-is_stopped-clause-serves g c = rw (← c.self.view_is) (λ port s t
     (c.serve_dropped.ensures.serves port s task (e ∙ c.in-Dropped.is) at.state settled)))
 
 pub returns-clause-failed : goal.returns-clause-failed
-returns-clause-failed g c = rw (← c.self.view_is) c.serve.ensures.failed
+returns-clause-failed g c = rw (← c.self.view_is) c.serve-2.ensures.failed
 
 pub returns-then-is_given_back-clause-failed : goal.returns-then-is_given_back-clause-failed
 returns-then-is_given_back-clause-failed g c = rw (← c.self.view_is) c.serve.ensures.failed
