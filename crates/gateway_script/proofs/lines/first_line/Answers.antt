@@ -1,4 +1,3 @@
-use Rattle.std.proofs.Common.{tt}
 use Rattle.gateway_script.proofs.FirstLine.{line_of_all, line_in_front, front-is, rest-is}
 use Rattle.gateway_script.proofs.lines.first_line.Goals as goal
 

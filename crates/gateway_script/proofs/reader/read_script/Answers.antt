@@ -15,7 +15,7 @@ pub take_line-requires-clause-draft : goal.take_line-requires-clause-draft
 take_line-requires-clause-draft c = c.loop-left.invariant.draft
 
 pub take_line-requires-clause-ends : goal.take_line-requires-clause-ends
-take_line-requires-clause-ends c = ends-line c.args.text.now c.in-Some.lines.now c.first_line.result.0.now (rw c.in-Some.is at c.loop-left.invariant.ends) c.first_line.ensures.front
+take_line-requires-clause-ends c = rw c.len.ensures.value (ends-line c.args.text.now c.in-Some.lines.now c.first_line.result.0.now (rw c.in-Some.is at c.loop-left.invariant.ends) c.first_line.ensures.front)
 
 pub returns-in-Err-clause-fault : goal.returns-in-Err-clause-fault
 returns-in-Err-clause-fault c =
