@@ -2,7 +2,7 @@ ghost use Rattle.std.specs.Prelude.{◌≡◌, ◌++◌, ◌∷◌, [], All, cod
 ghost use Rattle.port_history.specs.Counts.{saved_of, saved_data};
 ghost use Rattle.run_report.specs.Ports.{HasEnded};
 ghost use Rattle.run_report.specs.Report.{text_of, summary_of};
-ghost use Rattle.run_report_tests.specs.Worked.{mails_of_two_ports, shared_report, shared_text, wide_report, wide_summary, wide_text, worked_report, worked_summary, worked_text};
+ghost use Rattle.worked_reports.specs.Worked.{mails_of_two_ports, shared_report, shared_text, wide_report, wide_summary, wide_text, worked_report, worked_summary, worked_text};
 
 /// One process sends `abc` to its echo port and closes it: the definitions give the three lines, with the digest of `abc`, and the two
 /// lines of a summary.

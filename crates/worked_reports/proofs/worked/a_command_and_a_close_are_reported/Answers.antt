@@ -2,9 +2,13 @@ use Rattle.std.proofs.Common.{refl}
 use Rattle.std.specs.Fmt.{digits}
 use Rattle.hex.specs.Hex.{encode_with}
 use Rattle.sha2.specs.Sha256.{sha256, digest_bytes, hash_after, compress, rounds, schedule, first_words}
-use Rattle.run_report.specs.Report.{head_line, port_line, process_line, text_of}
-use Rattle.run_report_tests.proofs.worked.commands_of_two_processes_are_told_apart.Goals as goal
+use Rattle.run_report.specs.Report.{head_line, port_line, process_line, text_of, load_head, load_line, summary_of}
+use Rattle.worked_reports.proofs.worked.a_command_and_a_close_are_reported.Goals as goal
 
 pub returns-clause-text : goal.returns-clause-text
 unfolding digits encode_with sha256 digest_bytes hash_after compress rounds schedule first_words head_line port_line process_line text_of
 returns-clause-text c = refl
+
+pub returns-clause-summary : goal.returns-clause-summary
+unfolding digits load_head load_line summary_of
+returns-clause-summary c = refl

@@ -1,4 +1,4 @@
-//! Tests of `run_report`: its texts to the byte, what is counted in them, and the definitions computed on a worked report.
+//! The definitions of `run_report`, computed on worked reports: their texts to the byte, and what is counted in them.
 #![tactic(auto)]
 
 mod worked;
