@@ -8,6 +8,7 @@ use Rattle.driver_hosts.specs.declared.hosted.Hosted.{Hosted}
 use Rattle.load_summary.specs.run_output.run_opening.Faults.{LacksAt}
 use Rattle.run_report.specs.declared.cause.Cause.{Cause}
 use Rattle.run_report.specs.declared.cause.Cause.TheVariants.{Done, Usage, Script, ReadFault, WriteFault, NoDriver, StartRefused, PollFault, NoMemory, Illegal, Limit, JournalText}
+use Rattle.script_input.specs.program_io.Cause.{input_cause}
 use Rattle.script_input.specs.program_io.declared.fault.InputFault.{InputFault}
 use Rattle.script_input.specs.program_io.declared.fault.InputFault.TheVariants as input
 use Rattle.script_input.specs.declared.input.RunInput.{RunInput}
@@ -19,7 +20,7 @@ use Rattle.script_input.proofs.Contents.{none-done}
 use Rattle.script_plan.specs.declared.decl.PortDecl.{PortDecl}
 use Rattle.script_plan.specs.Plan.{Plan, IsPlan}
 use Rattle.gateway.specs.Run.{AskFor, SaysPlan, PlanRead, HasInput}
-use Rattle.gateway.specs.Stages.{input_cause, DriversEnd, InputEnds, SourceEnds}
+use Rattle.gateway.specs.Stages.{DriversEnd, InputEnds, SourceEnds}
 use Rattle.gateway.proofs.Asked.{same-source}
 use Rattle.gateway.proofs.Loads.{sends-none, stops-nowhere, none-read, some-none}
 

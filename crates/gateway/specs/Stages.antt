@@ -23,13 +23,6 @@ use Rattle.gateway.specs.Run.{PlanFound}
 use Rattle.gateway.specs.Ran.{PutOut}
 use Rattle.gateway.specs.Causes.{IsNoScript, ScriptUnread, ScriptOver, StepUnread, StepOver}
 
--- the cause of a run for which not all was read
-abbrev pub input_cause : InputFault → Cause
-input_cause (input.Script fault) = Script fault
-input_cause (input.ReadFault line) = ReadFault line
-input_cause (input.Limit line) = Limit line
-input_cause input.NoMemory = NoMemory
-
 -- the cause of a run that wasn't made
 abbrev pub run_cause : RunFault → Cause
 run_cause (ran.NoDriver line handed) = NoDriver line handed

@@ -1,16 +1,18 @@
-ghost use Rattle.std.specs.Prelude.{◌≡◌, ℕ, ◌≤◌, map, length, string_bytes, IfOk, IfErr};
+ghost use Rattle.std.specs.Prelude.{ℕ, ◌≤◌, map, length, string_bytes, IfOk, IfErr};
 ghost use Rattle.script_input.specs.run_setting.Script.{IsRunnable};
 ghost use Rattle.script_input.specs.Files.{files_view, NothingRead, NothingWritten};
 ghost use Rattle.script_input.specs.Words.{asked, source_of, FromLoad};
 ghost use Rattle.script_plan.specs.Plan.{IsPlan, Plan};
 ghost use Rattle.gateway.specs.Run.{AskFor, HasInput, SaysPlan};
-ghost use Rattle.gateway.specs.Stages.{input_cause, DriversEnd, InputEnds, SourceEnds};
+ghost use Rattle.gateway.specs.Stages.{DriversEnd, InputEnds, SourceEnds};
 
 use driver_hosts::{Driver, Hosted, Lacking, find_drivers};
 use no_memory::NoMemory;
 use outside::Files;
 use run_report::Cause;
-use script_input::{InputFault, RunInput, RunSource, load_programs, read_run_script, run_words};
+use script_input::{
+    InputFault, RunInput, RunSource, input_cause, load_programs, read_run_script, run_words,
+};
 use script_load::load_script;
 use script_plan::{PortDecl, Script};
 use std::alloc::Global;
@@ -19,18 +21,6 @@ use std::alloc::Global;
 pub struct Prepared<'a> {
     pub source: RunSource<'a>,
     pub input: RunInput,
-}
-
-/// The cause of a run for which not all was read.
-fn input_cause(fault: InputFault) -> Cause
-    ensures { result ≡ input_cause fault }
-{
-    match fault {
-        InputFault::Script { fault } => Cause::Script { fault },
-        InputFault::ReadFault { line } => Cause::ReadFault { line },
-        InputFault::Limit { line } => Cause::Limit { line },
-        InputFault::NoMemory => Cause::NoMemory,
-    }
 }
 
 /// Whether there is a driver for each port. None is touched.

@@ -4,11 +4,11 @@ ghost use Rattle.std.specs.Prelude.{◌≡◌, true, Ok, All, IfOk, IfErr};
 ghost use Rattle.port_config.specs.Config.{is_config};
 ghost use Rattle.gateway_script.specs.Ranges.{InOption};
 ghost use Rattle.std.specs.List.{list_any, list_all};
-ghost use Rattle.gateway_script.specs.Options.{is_for_every_driver, suits as suits_driver, is_same as is_same_option, is_repeated, set as set_option, set_all, config_of};
+ghost use Rattle.gateway_script.specs.Options.{is_for_every_driver, suits as suits_driver, is_same as is_same_option, is_repeated, set as set_option, config_of};
 ghost use Rattle.gateway_script.specs.LineFault.{Tells};
 
 use crate::line_fault::LineFault;
-use crate::options::{LimitPair, PortOption, PortOptions};
+use crate::options::{PortOption, PortOptions};
 use no_memory::NoMemory;
 use script_plan::{Config, Reason};
 use std::alloc::Global;

@@ -9,11 +9,10 @@ ghost use Rattle.gateway_script.specs.Options.{config_of};
 ghost use Rattle.script_plan.specs.Monitors.{monitor_count, oldest_monitor, NumberNext};
 ghost use Rattle.gateway_script.specs.declared.line_fault.LineFault.TheVariants as fault;
 ghost use Rattle.script_plan.specs.declared.step.Act.TheVariants as act;
-ghost use Rattle.gateway_script.specs.Steps.{IsSteps};
 ghost use Rattle.gateway_script.specs.Draft.{IsDraft, plan_of};
 ghost use Rattle.port_config.specs.Config.{is_config};
-ghost use Rattle.script_plan.specs.Plan.{IsPlan, IsWithin};
-ghost use Rattle.gateway_script.specs.Ranges.{InAction, InOption, InStatement};
+ghost use Rattle.script_plan.specs.Plan.{IsWithin};
+ghost use Rattle.gateway_script.specs.Ranges.{InAction, InStatement};
 
 use crate::config::config_of;
 use crate::line_fault::LineFault;
@@ -28,6 +27,9 @@ use script_plan::{
 };
 use std::alloc::Global;
 
+/// How many bytes of a script a step is expected to take. Where steps are shorter their list grows.
+const STEP_BYTES: usize = 32;
+
 /// What the lines so far say.
 #[derive(Drop)]
 pub(crate) struct Draft {
@@ -39,8 +41,8 @@ pub(crate) struct Draft {
 }
 
 impl Draft {
-    /// What no lines say.
-    pub(crate) fn new(alloc: Global) -> Result<Draft, NoMemory>
+    /// What no lines say, with room for the steps of the text.
+    pub(crate) fn for_text(alloc: Global, text: &Piece) -> Result<Draft, NoMemory>
         ensures draft { IfOk result IsDraft }
         ensures empty { IfOk result (λ d. plan_of d ≡ empty) }
     {
@@ -49,7 +51,7 @@ impl Draft {
             ports: Vec::new(alloc),
             saves: Vec::new(alloc),
             journal: None,
-            steps: Steps::new(alloc)?,
+            steps: Steps::with_room(alloc, text.len() / STEP_BYTES)?,
         })
     }
 

@@ -1,6 +1,6 @@
 //! The options of a port, each read from behind the word for it.
 
-ghost use Rattle.std.specs.Prelude.{◌≡◌, ◌∷◌, [], option_map};
+ghost use Rattle.std.specs.Prelude.{◌≡◌, option_map};
 ghost use Rattle.script_text.specs.PartFault.{Reads};
 ghost use Rattle.gateway_script.specs.Forms.{limits_at, msgq_at, packet_of, packet_at, line_at, run_at, busy_at, flag_of, option_behind, option_at, options_at};
 

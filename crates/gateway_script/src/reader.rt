@@ -54,7 +54,7 @@ pub fn read_script(alloc: Global, text: &Piece) -> Result<Script, ScriptFault>
     ensures plan { IfOk result IsPlan }
     ensures fault { IfErr result (λ f. IsFaultOf (script text.now) f) }
 {
-    let mut draft = Draft::new(alloc)?;
+    let mut draft = Draft::for_text(alloc, text)?;
     let mut number = 0;
     let mut left = Some(text.as_slice());
     while let Some(lines) = left {

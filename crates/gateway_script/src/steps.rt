@@ -1,6 +1,6 @@
 //! The steps so far, with what later steps ask of them.
 
-ghost use Rattle.std.specs.Prelude.{◌≡◌, ℕ, ◌+◌, ◌*◌, ◌<◌, ◌≤◌, ◌++◌, ◌∷◌, [], length, All, IfOk, OnOk};
+ghost use Rattle.std.specs.Prelude.{◌≡◌, ℕ, ◌+◌, ◌*◌, ◌<◌, ◌++◌, ◌∷◌, [], length, All, IfOk, OnOk};
 ghost use Rattle.script_plan.specs.Monitors.{has_died, monitor_count, oldest_monitor};
 ghost use Rattle.script_plan.specs.Plan.{IsWithin};
 ghost use Rattle.gateway_script.specs.Steps.{IsSteps, IsKept, IsNone};
@@ -47,13 +47,13 @@ fn pair_place(process: u32, port: u32) -> usize
 }
 
 impl Steps {
-    /// No steps.
-    pub(crate) fn new(alloc: Global) -> Result<Steps, NoMemory>
+    /// No steps, with room for so many.
+    pub(crate) fn with_room(alloc: Global, room: usize) -> Result<Steps, NoMemory>
         ensures steps { IfOk result (λ s. IsSteps s) }
         ensures none { IfOk result (λ s. s.list.items ≡ []) }
     {
         Ok(Steps {
-            list: Vec::new(alloc),
+            list: Vec::with_capacity(alloc, room)?,
             died: [false; MAX_NAMED],
             monitors: [0; MAX_NAMED],
             pairs: no_pairs(alloc)?,

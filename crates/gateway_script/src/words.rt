@@ -5,7 +5,7 @@ ghost use Rattle.std.specs.List.{take_while, prefix_len};
 ghost use Rattle.std.specs.Str.{bytes_eq};
 ghost use Rattle.script_text.specs.PartFault.{Reads};
 ghost use Rattle.gateway_script.specs.Source.{EndsAt};
-ghost use Rattle.gateway_script.specs.Words.{is_word_byte, gap_at, word_at, next_word_at, name_of, next_name_at, is_reserved, free_name_of, next_free_name_at, next_number_at, number_within, next_text_at, next_file_at, utf8_name_of};
+ghost use Rattle.gateway_script.specs.Words.{is_word_byte, gap_at, next_word_at, name_of, next_name_at, is_reserved, free_name_of, next_free_name_at, next_number_at, number_within, next_text_at, next_file_at, utf8_name_of};
 
 use crate::source::LineSource;
 use script_plan::{FileName, Piece, Reason};

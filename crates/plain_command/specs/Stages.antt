@@ -2,23 +2,16 @@
 use Rattle.std.specs.Prelude.{◌≡◌, ℕ, ◌⊎◌, List, Ok, true}
 use Rattle.history_replay.specs.declared.replaying.Verdict.TheVariants as verdict
 use Rattle.journal_text.specs.Books.{BookView, is_book}
+use Rattle.program_io.specs.Cause.{input_cause}
 use Rattle.program_io.specs.declared.fault.InputFault.{InputFault}
-use Rattle.program_io.specs.declared.fault.InputFault.TheVariants as input
 use Rattle.program_io.specs.script_plan.Plan.{Plan}
 use Rattle.program_io.specs.Files.{FilesView}
 use Rattle.program_io.specs.Script.{ScriptEnds, ScriptRead}
 use Rattle.program_io.specs.Sink.{SinkView, PutFailed, TookText}
 use Rattle.run_report.specs.declared.cause.Cause.{Cause}
-use Rattle.run_report.specs.declared.cause.Cause.TheVariants.{Done, Script, ReadFault, WriteFault, NoMemory, Illegal, Limit}
+use Rattle.run_report.specs.declared.cause.Cause.TheVariants.{Done, Script, WriteFault, NoMemory, Illegal}
 use Rattle.run_report.specs.Lines.{check_text_of, replay_text_of}
 use Rattle.plain_command.specs.Journals.{HasVerdict, JournalRead, JournalEnds}
-
--- the cause of a command whose script or journal wasn't read
-abbrev pub input_cause : InputFault → Cause
-input_cause (input.Script fault) = Script fault
-input_cause (input.ReadFault line) = ReadFault line
-input_cause (input.Limit line) = Limit line
-input_cause input.NoMemory = NoMemory
 
 -- how a line is put out: the sink took it, failed, or memory was wanting before
 abbrev pub PrintEnds : List ℕ → SinkView → SinkView → Cause → Type 0

@@ -1,13 +1,12 @@
 //! The check of a script.
-ghost use Rattle.std.specs.Prelude.{◌≡◌};
 ghost use Rattle.program_io.specs.Files.{files_view, NothingWritten};
 ghost use Rattle.program_io.specs.Sink.{sink_view};
 ghost use Rattle.run_report.specs.Lines.{check_text_of};
 ghost use Rattle.plain_command.specs.Stages.{CheckEnds, PrintEnds};
 
-use crate::causes::{input_cause, put_line};
+use crate::causes::put_line;
 use outside::{Files, Sink};
-use program_io::{Script, read_run_script};
+use program_io::{Script, input_cause, read_run_script};
 use run_report::{Cause, check_text};
 use std::alloc::Global;
 

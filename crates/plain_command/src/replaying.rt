@@ -7,11 +7,11 @@ ghost use Rattle.run_report.specs.Lines.{replay_text_of};
 ghost use Rattle.plain_command.specs.Journals.{JournalRead, JournalEnds};
 ghost use Rattle.plain_command.specs.Stages.{JudgeEnds, PrintEnds, ReplayEnds};
 
-use crate::causes::{input_cause, put_line};
+use crate::causes::put_line;
 use history_replay::{Book, PortReport, Verdict, replay};
 use journal_text::{JournalFault, read_journal};
 use outside::{Files, Sink};
-use program_io::read_file;
+use program_io::{input_cause, read_file};
 use run_report::{Cause, replay_text};
 use std::alloc::Global;
 

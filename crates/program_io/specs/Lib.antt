@@ -6,3 +6,4 @@ pub mod Word
 pub mod Files
 pub mod Script
 pub mod Sink
+pub mod Cause

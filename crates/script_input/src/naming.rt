@@ -1,6 +1,5 @@
 ghost use Rattle.std.specs.Prelude.{◌≡◌, IfOk, map};
 ghost use Rattle.script_input.specs.Names.{port_name, AreNamesOf};
-ghost use Rattle.script_plan.specs.Plan.{plan_of};
 
 use crate::{PortName, RunNames};
 use no_memory::NoMemory;
