@@ -1,4 +1,4 @@
-ghost use Rattle.std.specs.Prelude.{◌≡◌, ◌<◌, OnOk, IfErr, vec_len, length};
+ghost use Rattle.std.specs.Prelude.{◌≡◌, ◌<◌, OnOk, IfErr, vec_len};
 ghost use Rattle.async_jobs.specs.Pool.{Submitted, SameLanes};
 
 use crate::{Job, WorkItem};

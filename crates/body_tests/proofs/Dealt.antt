@@ -11,7 +11,7 @@ use Rattle.run_lanes.specs.declared.parts.WorkerLanes.{WorkerLanes}
 use Rattle.run_lanes.specs.declared.parts.RunLanes.{RunLanes}
 use Rattle.run_lanes.specs.declared.size.LaneSize.{LaneSize}
 use Rattle.run_lanes.specs.Opened.{CanBegin, CanOpen, HasCounts, HasLaneEnds, HasPoller, HasProcess, HasWorker}
-use Rattle.body_tests.specs.Beside.{AreOfOne, CanServeEach, AreOfWorkers, CanServe, IsDealtToOne, IsOfPoller, IsOfWorker, LastIs, is_worker}
+use Rattle.body_tests.specs.Beside.{CanServeEach, AreOfWorkers, CanServe, IsDealtToOne, IsOfPoller, IsOfWorker, LastIs, is_worker}
 
 abbrev size : LaneSize
 size = record { processes = 3; workers = 2 }

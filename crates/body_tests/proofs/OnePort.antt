@@ -1,5 +1,5 @@
 -- What the calls of a process leave of its one lane, and what the poller and the workers may send.
-use Rattle.std.proofs.Common.{◌≡◌, ◌∙◌, ℕ, Bool, List, length, Result, Ok, Err, inl, inr, true, refl, sym, ap, subst}
+use Rattle.std.proofs.Common.{◌≡◌, ◌∙◌, ℕ, List, Result, Ok, Err, inl, inr, true, refl, sym, ap, subst}
 use Rattle.std.specs.Prelude.{slice_index_or}
 use Rattle.port_model.specs.declared.event.Dir.{Dir}
 use Rattle.port_model.specs.declared.signal.Sender.{Sender}

@@ -1,5 +1,4 @@
 //! An outside of whose calls one fails.
-ghost use Rattle.std.specs.Prelude.{◌≡◌};
 
 use outside::{MemChild, MemSpawner, SpawnFault, Spawner};
 use std::alloc::Global;

@@ -1,8 +1,8 @@
 //! How the ports are opened, each with its driver.
-ghost use Rattle.std.specs.Prelude.{◌≡◌, ◌≢◌, ◌<◌, ◌≤◌, ℕ, length, All, AllPairs, IfOk, IfErr, slice_index_or};
+ghost use Rattle.std.specs.Prelude.{◌≡◌, ◌≢◌, ◌<◌, ◌≤◌, length, All, AllPairs, IfOk, IfErr};
 ghost use Rattle.driver_hosts.specs.Back.{AreBack, HasNotStarted};
 ghost use Rattle.driver_hosts.specs.Hosts.{IsUnused};
-ghost use Rattle.driver_hosts.specs.Opening.{AreOpened, Fit, FitsPort, HasOpened, IsUnopened, Starts};
+ghost use Rattle.driver_hosts.specs.Opening.{AreOpened, Fit, FitsPort, HasOpened, IsUnopened};
 
 use crate::{Driver, Hosted, PortDecl, PortRoom, take_back};
 use port_body::{Body, BodyParts, PortParts, PortPlace};

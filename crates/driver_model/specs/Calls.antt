@@ -1,7 +1,6 @@
 -- The calls of a driver, and what it keeps. Lists of calls are read newest call first.
-use Rattle.std.specs.Prelude.{ℕ, List, [], ◌∷◌, ◌++◌, length, Bool, true, false}
+use Rattle.std.specs.Prelude.{ℕ, List, [], ◌∷◌, length, Bool, true, false}
 use Rattle.port_config.specs.declared.config.Config.{Config}
-use Rattle.port_model.specs.declared.event.Dir.{Dir}
 use Rattle.port_model.specs.port_signal.declared.outside.Outside.{Outside}
 use Rattle.port_model.specs.declared.effect.Effect.{Effect}
 use Rattle.port_model.specs.declared.effect.Effect.TheVariants.{Message}

@@ -1,6 +1,6 @@
 -- Digest makes a job of each command: its first byte is the key, its second the code of the work, 1 to 3, and the rest the input. A job's
 -- output is sent.
-use Rattle.std.specs.Prelude.{◌&&◌, ℕ, ◌+◌, List, [], ◌∷◌, nat_le, Bool, true, false, if◌then◌else◌, codes}
+use Rattle.std.specs.Prelude.{◌&&◌, ℕ, ◌+◌, List, [], ◌∷◌, nat_le, Bool, false, if◌then◌else◌, codes}
 use Rattle.port_model.specs.io_vector.declared.flag.Flag.TheVariants.{Plain}
 use Rattle.port_model.specs.declared.effect.Effect.{Effect}
 use Rattle.port_model.specs.declared.effect.Effect.TheVariants.{Message, Async, ReplyBadarg, Fail}

@@ -2,7 +2,6 @@
 use Rattle.std.specs.Prelude.{◌==◌, ◌+◌, ℕ, List, [], ◌∷◌, ◌++◌, Bool, true, false, not, filter, if◌then◌else◌, Option, Some, None, codes, nat_eq}
 use Rattle.std.specs.List.{list_all, list_any}
 use Rattle.port_config.specs.declared.config.Config.{Config}
-use Rattle.port_model.specs.port_signal.declared.outside.Outside.{Outside}
 use Rattle.port_model.specs.declared.effect.Effect.{Effect}
 use Rattle.port_model.specs.declared.effect.Effect.TheVariants.{Select, Unuse, Async}
 use Rattle.driver_model.specs.Calls.{Callback, Start, DriverCall, Own, Nothing, Counted, Submitted, Running, Held, Kind, Echo, Tally, Valve, Store, Digest, Spawn, Refuse1, Refuse2, Refuse3}

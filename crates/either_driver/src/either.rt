@@ -1,4 +1,3 @@
-ghost use Rattle.std.specs.Prelude.{◌≡◌};
 ghost use Rattle.either_driver.specs.Either.{of_either};
 
 use port_driver::{Config, Driver, DriverCtx, Life, ReplyTo, StartRefusal};

@@ -1,5 +1,5 @@
 //! The verdict on a journal.
-ghost use Rattle.std.specs.Prelude.{◌≡◌, length, IfOk};
+ghost use Rattle.std.specs.Prelude.{length, IfOk};
 ghost use Rattle.history_replay.specs.Verdicts.{Replays};
 
 use crate::port::first_broken;

@@ -2,7 +2,6 @@
 ghost use Rattle.std.specs.Prelude.{◌≡◌, length, None, IfOk, OnOk};
 ghost use Rattle.driver_model.specs.Drivers.{job_count};
 ghost use Rattle.history_driver.specs.Kinds.{kind_of};
-ghost use Rattle.history_driver.specs.Handled.{IsDriverOf};
 ghost use Rattle.history_state.specs.Kept.{IsStateOf};
 ghost use Rattle.port_history.specs.Lawful.{end_broken, law_broken};
 ghost use Rattle.port_history.specs.Opening.{Opening};

@@ -1,7 +1,7 @@
 -- What is kept of events, event by event.
-use Rattle.std.proofs.Common.{◌≡◌, ◌==◌, ℕ, zero, suc, ◌<◌, ◌≤◌, Bool, true, false, ◌||◌, ◌&&◌, not, eqb, cond, List, [], ◌∷◌, ◌++◌, length, map, get_or, set, refl, sym, ap, ◌∙◌, ◌+◌, inl, inr, arith, subst}
+use Rattle.std.proofs.Common.{◌≡◌, ◌==◌, ℕ, zero, suc, ◌<◌, Bool, true, false, ◌&&◌, not, eqb, cond, List, [], ◌∷◌, ◌++◌, length, map, get_or, set, refl, sym, ap, ◌∙◌, ◌+◌, inl, inr, arith, subst}
 use Rattle.std.proofs.lemmas.List.{get_or_read}
-use Rattle.std.specs.Prelude.{Option, Some, None, Result, Ok, Err, OnOk, position, nat_lt, slice_set}
+use Rattle.std.specs.Prelude.{Some, None, Result, Ok, Err, OnOk, position, nat_lt}
 use Rattle.std.specs.List.{AllByRecursion, list_all, position_or_len}
 use Rattle.std.proofs.lemmas.Bool.{eqb-true, eq-eqb, ne_eqb, and_parts, ltb-false, cases_lt}
 use Rattle.std.proofs.lemmas.List.Quantifiers.{position-Some}
@@ -10,7 +10,7 @@ use Rattle.port_model.specs.declared.effect.Effect.{Effect}
 use Rattle.port_model.specs.declared.effect.Effect.TheVariants as effect
 use Rattle.port_model.specs.declared.event.Dir.{Dir}
 use Rattle.port_model.specs.declared.event.Dir.TheVariants.{Read, Write}
-use Rattle.port_history.specs.Events.{Event, unused, change, event_of, numbers, selected_by, select, disarm, read_no_more, arm, give_up, drop_event}
+use Rattle.port_history.specs.Events.{Event, unused, change, event_of, numbers, selected_by, select, disarm, give_up, drop_event}
 use Rattle.port_history.specs.Laws.{is_given_back}
 use Rattle.history_tables.specs.declared.events.EventState.{EventState}
 use Rattle.history_tables.specs.declared.events.Sweep.{Sweep}

@@ -1,7 +1,7 @@
 -- Jobs that stand by their numbers: which of a key is the last that is done.
 use Rattle.std.proofs.Common.{◌≡◌, ◌==◌, ℕ, zero, suc, ◌+◌, ◌-◌, ◌<◌, ◌≤◌, Bool, true, false, ◌||◌, ◌&&◌, not, eqb, ltb, leb, cond, List, [], ◌∷◌, ◌++◌, length, get_or, refl, sym, ap, ◌∙◌, arith, subst, inl, inr}
 use Rattle.std.specs.Prelude.{Option, Some, None, Result, Ok, Err, OnOk, nat_lt, if◌then◌else◌}
-use Rattle.std.specs.List.{list_all, list_any}
+use Rattle.std.specs.List.{list_all}
 use Rattle.std.specs.Ordering.{nat_cmp}
 use Rattle.std.specs.BTreeMap.{BTreeMap, get, is_at}
 use Rattle.std.specs.BTreeSet.{BTreeSet, contains}
@@ -13,7 +13,7 @@ use Rattle.port_history.specs.Jobs.{Submitted, is_done, is_submitted, each_of, i
 use Rattle.history_tables.specs.declared.jobs.KeptJob.{KeptJob}
 use Rattle.history_tables.specs.declared.jobs.JobTable.{JobTable}
 use Rattle.history_tables.specs.JobsKept.{Keeps, job_of, numbered, no_later, first_of, done_at, latest_of, are_next}
-use Rattle.history_tables.proofs.Keys.{numbers, turned}
+use Rattle.history_tables.proofs.Keys.{numbers}
 
 -- which numbers there are
 

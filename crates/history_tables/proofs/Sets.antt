@@ -1,6 +1,6 @@
 -- Sets of numbers, as lists of a history have them.
-use Rattle.std.proofs.Common.{◌≡◌, ◌==◌, ℕ, Bool, true, false, ◌||◌, ◌&&◌, not, eqb, cond, List, [], ◌∷◌, refl, sym, ap, ◌∙◌, arith}
-use Rattle.std.specs.Prelude.{nat_lt, filter, if◌then◌else◌}
+use Rattle.std.proofs.Common.{◌≡◌, ◌==◌, ℕ, Bool, true, false, ◌||◌, not, eqb, cond, List, [], ◌∷◌, refl, sym, ap, ◌∙◌, arith}
+use Rattle.std.specs.Prelude.{nat_lt, if◌then◌else◌}
 use Rattle.std.specs.Ordering.{nat_cmp}
 use Rattle.std.specs.BTreeMap.{is_at}
 use Rattle.std.specs.BTreeSet.{BTreeSet, contains}
@@ -9,7 +9,7 @@ use Rattle.port_signal.specs.Links.{has, with_process, without_process}
 use Rattle.port_model.specs.declared.effect.Effect.{Effect}
 use Rattle.port_model.specs.declared.effect.Effect.TheVariants as effect
 use Rattle.port_history.specs.Ties.{watched_by}
-use Rattle.history_tables.proofs.Keys.{numbers, turned}
+use Rattle.history_tables.proofs.Keys.{numbers}
 
 or-left : (a b c : Bool) → (a || (b || c)) ≡ (b || (a || c))
 or-left true true c = refl

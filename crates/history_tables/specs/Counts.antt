@@ -1,5 +1,5 @@
 -- How many tasks of each sender have a row, as a table keeps it.
-use Rattle.std.specs.Prelude.{◌≡◌, ℕ, List}
+use Rattle.std.specs.Prelude.{◌≡◌, List}
 use Rattle.std.specs.Map.{count_at}
 use Rattle.std.specs.BTreeMap.{get}
 use Rattle.port_model.specs.declared.signal.Sender.{Sender}

@@ -1,5 +1,5 @@
 //! The events of a driver.
-ghost use Rattle.std.specs.Prelude.{◌≡◌, ◌∷◌, ◌++◌, [], ℕ, List, Option, true, not, map, position, OnOk, ◌==◌, ◌&&◌, if◌then◌else◌, slice_set};
+ghost use Rattle.std.specs.Prelude.{◌≡◌, ◌∷◌, [], List, Option, true, map, position, OnOk, ◌==◌, ◌&&◌};
 ghost use Rattle.std.specs.List.{list_all};
 ghost use Rattle.port_history.specs.Events.{Event, event_of, change, unused, select, disarm, give_up, drop_event, is_selected, is_armed_in, told_of, selected_by, arm, events_after};
 ghost use Rattle.port_history.specs.Laws.{is_given_back, is_ready};

@@ -1,5 +1,5 @@
 //! The marks of a history.
-ghost use Rattle.std.specs.Prelude.{◌≡◌, ◌∷◌, ◌++◌, [], List, drop, true, is_some, if◌then◌else◌};
+ghost use Rattle.std.specs.Prelude.{◌≡◌, ◌∷◌, ◌++◌, [], List, drop, true};
 ghost use Rattle.port_signal.specs.declared.mark.MarkKind.{MarkKind as MarkView};
 ghost use Rattle.port_history.specs.Marks.{is_busy, busy_after, busy_marks, is_due, none_due};
 ghost use Rattle.history_tables.specs.Marked.{Marked, change_marks, closed_mark};

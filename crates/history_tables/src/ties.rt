@@ -1,9 +1,9 @@
 //! The owner of a port, the processes that are linked to it, and those that have ended.
-ghost use Rattle.std.specs.Prelude.{◌≡◌, ◌&&◌, not, nat_lt, OnOk, IfOk, if◌then◌else◌, Some, None};
+ghost use Rattle.std.specs.Prelude.{◌≡◌, ◌&&◌, OnOk, IfOk, if◌then◌else◌, Some, None};
 ghost use Rattle.port_history.specs.Opening.{Opening, is_process};
 ghost use Rattle.port_history.specs.Service.{caller_of};
 ghost use Rattle.port_history.specs.Ties.{Ties, opened, may_own, with_owner, without, tied, tied_by, tied_late, untied, signal_reason, closes_for};
-ghost use Rattle.port_signal.specs.Links.{has, exit_closes, end_closes};
+ghost use Rattle.port_signal.specs.Links.{exit_closes, end_closes};
 ghost use Rattle.history_tables.specs.Tied.{Tied};
 
 use crate::{NoMemory, Reason, Sender, Signal};

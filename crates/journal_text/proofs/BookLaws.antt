@@ -1,16 +1,14 @@
 -- Journals, line by line.
-use Rattle.std.proofs.Common.{◌≡◌, ℕ, zero, suc, ◌+◌, ◌^◌, ◌<◌, ◌≤◌, Bool, true, false, cond, List, [], ◌∷◌, ◌++◌, length, map, Option, Some, None, Result, Ok, Err, refl, sym, ap, subst, ◌∙◌, append_assoc, arith, inl, inr}
-use Rattle.std.specs.Prelude.{◌==◌, ◌&&◌, not, nat_le, codes}
-use Rattle.std.specs.List.{list_all, flat_map, take_while, slice_split, join_with_byte, onto_first}
+use Rattle.std.proofs.Common.{◌≡◌, ℕ, zero, suc, ◌+◌, ◌^◌, ◌≤◌, Bool, true, false, cond, List, [], ◌∷◌, ◌++◌, length, map, Option, Some, None, Result, Ok, Err, refl, sym, ap, subst, ◌∙◌, append_assoc, arith, inl, inr}
+use Rattle.std.specs.Prelude.{◌==◌, not, nat_le, codes}
+use Rattle.std.specs.List.{list_all, flat_map, take_while, slice_split, join_with_byte}
 use Rattle.std.specs.Str.{bytes_eq}
-use Rattle.std.specs.Fmt.{decimal}
 use Rattle.std.proofs.lemmas.Bool.{cases_Bool, and_parts, not-true, leb-true, le-leb}
 use Rattle.std.proofs.lemmas.Option.{option_and_then_some, cond_some}
 use Rattle.std.proofs.lemmas.Fmt.{decimal_digit}
 use Rattle.std.proofs.lemmas.List.{append-nil}
 use Rattle.std.proofs.lemmas.List.Folds.{list_all-append}
 use Rattle.std.proofs.lemmas.List.Splits.{join_with_byte-slice_split}
-use Rattle.std.proofs.lemmas.Slice.Eq.{bytes_eq-Decides}
 use Rattle.port_model.specs.declared.row.Row.{Row}
 use Rattle.journal_text.specs.declared.book.PortReport.{PortReport}
 use Rattle.journal_text.specs.declared.port_line.PortLine.{PortLine}
@@ -21,7 +19,7 @@ use Rattle.journal_text.specs.Books.{BookView, is_book, ended, head_line, names_
 use Rattle.journal_text.specs.Reading.{behind, spaced_at, name_at}
 use Rattle.journal_text.specs.ReadingRows.{row_of, row_by}
 use Rattle.journal_text.specs.ReadingPorts.{port_line_of}
-use Rattle.journal_text.specs.ReadingBooks.{Lines, lines_of, ◌>>=◌, first_line, or_fault, line_at, row_then, rows_at, port_at, is_over, ports_at, names_at, names_of, head_of, book_at}
+use Rattle.journal_text.specs.ReadingBooks.{Lines, lines_of, ◌>>=◌, or_fault, line_at, row_then, rows_at, port_at, is_over, ports_at, names_at, names_of, head_of, book_at}
 use Rattle.journal_text.proofs.ReadingLaws.{both, ends, front_parts, line_append, word_front, word_behind, spaced_found}
 use Rattle.journal_text.proofs.SenderLaws.{word_is}
 use Rattle.journal_text.proofs.TaskLaws.{name_law}

@@ -1,10 +1,10 @@
 -- The outside's answers, and effects.
-use Rattle.std.proofs.Common.{◌≡◌, ℕ, ◌^◌, ◌≤◌, Bool, true, false, cond, List, [], ◌∷◌, ◌++◌, Option, Some, None, refl, sym, ap, subst, ◌∙◌, arith, inl, inr}
-use Rattle.std.specs.Prelude.{◌&&◌, nat_lt, codes}
-use Rattle.std.specs.List.{list_all, take_while}
+use Rattle.std.proofs.Common.{◌≡◌, ℕ, ◌^◌, ◌≤◌, Bool, true, false, List, [], ◌∷◌, ◌++◌, Some, refl, ◌∙◌, arith, inl, inr}
+use Rattle.std.specs.Prelude.{nat_lt, codes}
+use Rattle.std.specs.List.{list_all}
 use Rattle.std.specs.Str.{bytes_eq}
 use Rattle.std.specs.Fmt.{decimal, signed_decimal}
-use Rattle.std.proofs.lemmas.Bool.{and_parts, cases_Bool, eqb-true}
+use Rattle.std.proofs.lemmas.Bool.{and_parts, cases_Bool}
 use Rattle.std.proofs.lemmas.Option.{option_and_then_some}
 use Rattle.io_vector.specs.declared.flag.Flag.{Flag}
 use Rattle.io_vector.specs.declared.flag.Flag.TheVariants as flag
@@ -14,10 +14,10 @@ use Rattle.port_model.specs.declared.event.Dir.{Dir}
 use Rattle.port_model.specs.declared.event.Dir.TheVariants.{Read, Write}
 use Rattle.port_model.specs.declared.effect.Effect.{Effect}
 use Rattle.port_model.specs.declared.effect.Effect.TheVariants as effect
-use Rattle.journal_text.specs.Words.{is_word_byte, is_line_byte, bytes_text, are_bytes, is_name, is_status}
+use Rattle.journal_text.specs.Words.{is_word_byte, bytes_text, are_bytes, is_name, is_status}
 use Rattle.journal_text.specs.Effects.{answer_text, is_answer, flag_text, dir_text, bit_text, effect_text, is_effect}
-use Rattle.journal_text.specs.Reading.{◌>>=◌, made, spaced_at, pair_at, field_at, by_word, behind, number_at, name_at, bytes_of, bytes_at, status_of, status_at, answer_by, answer_at, flag_of, dir_of, bit_of, reply_of, asking_by, effect_by, effect_at}
-use Rattle.journal_text.proofs.ReadingLaws.{both, ends, line_append, Law, Exact, By, Body, Front, field_law, pair_law, pair_text, pair_fits, nothing, tag, bare, part, part_again, own_part, word_then, by_word_law, made_found, spaced_found}
+use Rattle.journal_text.specs.Reading.{made, pair_at, field_at, number_at, name_at, bytes_of, bytes_at, status_of, status_at, answer_by, answer_at, flag_of, dir_of, bit_of, reply_of, asking_by, effect_by, effect_at}
+use Rattle.journal_text.proofs.ReadingLaws.{both, ends, Law, By, field_law, pair_law, pair_text, pair_fits, nothing, tag, bare, part, part_again, own_part, word_then, by_word_law}
 use Rattle.journal_text.proofs.NumberLaws.{status_exact}
 use Rattle.journal_text.proofs.HexLaws.{bytes_exact}
 use Rattle.journal_text.proofs.SenderLaws.{word_is, meant, never}

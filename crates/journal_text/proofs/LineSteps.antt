@@ -1,11 +1,10 @@
 -- The first line of a text, and reading row by row and port by port, as loops do.
 use Rattle.std.proofs.Common.{◌≡◌, ℕ, zero, suc, ◌+◌, ◌-◌, ◌<◌, ◌≤◌, Bool, true, false, cond, List, [], ◌∷◌, ◌++◌, length, take, drop, Option, Some, None, Result, Ok, Err, refl, sym, ap, subst, ◌∙◌, append_assoc, arith, inl, inr}
 use Rattle.std.specs.Prelude.{◌==◌, codes}
-use Rattle.std.specs.List.{list_all, take_while, prefix_len, join_with_byte, onto_first, slice_split}
+use Rattle.std.specs.List.{take_while, prefix_len, join_with_byte, onto_first, slice_split}
 use Rattle.std.specs.Str.{bytes_eq}
-use Rattle.std.proofs.lemmas.Bool.{cases_Bool, and_parts, not-true, eqb-true, ne_eqb}
+use Rattle.std.proofs.lemmas.Bool.{cases_Bool, ne_eqb}
 use Rattle.std.proofs.lemmas.List.{append-nil}
-use Rattle.std.proofs.lemmas.List.Sums.{take_while-cons}
 use Rattle.std.proofs.lemmas.List.Splits.{join_with_byte-slice_split}
 use Rattle.port_model.specs.declared.row.Row.{Row}
 use Rattle.journal_text.specs.declared.book.PortReport.{PortReport}

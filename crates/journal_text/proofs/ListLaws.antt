@@ -1,5 +1,5 @@
 -- Lists of items with a comma and a space between two of them.
-use Rattle.std.proofs.Common.{◌≡◌, ℕ, zero, suc, ◌+◌, ◌<◌, ◌≤◌, Bool, true, false, cond, List, [], ◌∷◌, ◌++◌, length, Option, Some, None, refl, sym, ap, subst, ◌∙◌, append_assoc, arith, inl, inr, ◌⊎◌}
+use Rattle.std.proofs.Common.{◌≡◌, ℕ, zero, suc, ◌+◌, ◌<◌, ◌≤◌, Bool, true, false, List, [], ◌∷◌, ◌++◌, length, Option, Some, None, refl, sym, ap, subst, ◌∙◌, append_assoc, arith, inl, inr, ◌⊎◌}
 use Rattle.std.specs.Prelude.{◌==◌, ◌&&◌, nat_le}
 use Rattle.std.specs.List.{list_all, flat_map}
 use Rattle.std.proofs.lemmas.Bool.{cases_Bool, and_parts, eqb-true, leb-true, le-leb}
@@ -8,7 +8,7 @@ use Rattle.std.proofs.lemmas.List.{append-nil}
 use Rattle.port_signal.specs.declared.items.TheConstants.{MAX_ITEMS}
 use Rattle.journal_text.specs.Words.{is_line_byte, listed}
 use Rattle.journal_text.specs.Rows.{is_list}
-use Rattle.journal_text.specs.Reading.{◌>>=◌, after, spaced_at}
+use Rattle.journal_text.specs.Reading.{◌>>=◌, after}
 use Rattle.journal_text.specs.ReadingRows.{next_at, some_at, list_at}
 use Rattle.journal_text.proofs.ReadingLaws.{both, ends, line_append, after_is, Law, Front}
 

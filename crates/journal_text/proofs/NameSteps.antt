@@ -1,6 +1,5 @@
 -- Reading name by name, as a loop does.
 use Rattle.std.proofs.Common.{◌≡◌, ℕ, zero, suc, ◌-◌, ◌+◌, ◌≤◌, ◌<◌, List, [], ◌∷◌, ◌++◌, length, Option, Some, None, refl, sym, ap, ◌∙◌, append_assoc, arith}
-use Rattle.std.specs.Prelude.{option_and_then}
 use Rattle.std.proofs.lemmas.List.{append-nil}
 use Rattle.journal_text.specs.Reading.{◌>>=◌, spaced_at, name_at}
 use Rattle.journal_text.specs.ReadingBooks.{names_at}

@@ -1,5 +1,5 @@
 -- The place of the first line that isn't in the grammar.
-use Rattle.std.proofs.Common.{◌≡◌, ℕ, zero, suc, ◌+◌, ◌-◌, ◌<◌, ◌≤◌, Bool, true, false, List, [], ◌∷◌, ◌++◌, length, take, drop, Result, Ok, Err, refl, sym, ap, subst, ◌∙◌, append_assoc, arith, inl, inr}
+use Rattle.std.proofs.Common.{◌≡◌, ℕ, ◌+◌, ◌-◌, ◌≤◌, true, List, [], ◌∷◌, ◌++◌, length, take, drop, Err, refl, sym, ap, ◌∙◌, append_assoc, arith, inl, inr}
 use Rattle.std.specs.Prelude.{◌==◌, ◌&&◌}
 use Rattle.std.specs.List.{list_all, flat_map, join_with_byte, onto_first}
 use Rattle.std.proofs.lemmas.Bool.{cases_Bool, and_parts}
@@ -8,7 +8,7 @@ use Rattle.std.proofs.lemmas.List.{append-nil, take_at, drop_at, length-append, 
 use Rattle.std.proofs.lemmas.List.Folds.{list_all-append}
 use Rattle.std.proofs.lemmas.List.Splits.{join_with_byte-slice_split}
 use Rattle.journal_text.specs.Words.{is_line_byte}
-use Rattle.journal_text.specs.Books.{BookView, is_book, ended, journal_lines, journal_text, BeginsJournal, IsFirstBadLine}
+use Rattle.journal_text.specs.Books.{ended, journal_lines, journal_text, BeginsJournal, IsFirstBadLine}
 use Rattle.journal_text.specs.ReadingBooks.{Lines, lines_of, size_of, book_at}
 use Rattle.journal_text.proofs.BookLaws.{are_lines, is_some, split_lines, book_clean, text_again}
 use Rattle.journal_text.proofs.StopLaws.{book_stop, BookStop}

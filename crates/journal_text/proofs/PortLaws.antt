@@ -1,6 +1,6 @@
 -- The line of a port.
 use Rattle.std.proofs.Common.{◌≡◌, ℕ, ◌^◌, ◌≤◌, Bool, true, false, cond, List, [], ◌∷◌, ◌++◌, Option, Some, None, refl, sym, ap, subst, ◌∙◌, append_assoc, arith, inl, inr}
-use Rattle.std.specs.Prelude.{◌==◌, ◌&&◌, ◌||◌, not, nat_lt, nat_le, codes}
+use Rattle.std.specs.Prelude.{◌==◌, ◌&&◌, not, nat_lt, nat_le, codes}
 use Rattle.std.specs.List.{list_all, list_any, take_while}
 use Rattle.std.specs.Str.{bytes_eq}
 use Rattle.std.specs.Fmt.{decimal}
@@ -10,17 +10,16 @@ use Rattle.std.proofs.lemmas.List.{append-nil}
 use Rattle.std.proofs.lemmas.Slice.Eq.{bytes_eq-Decides}
 use Rattle.packet_framing.specs.declared.mode.Mode.{Mode}
 use Rattle.packet_framing.specs.declared.mode.Mode.TheVariants.{Packet1, Packet2, Packet4, Line, Stream}
-use Rattle.port_config.specs.declared.config.Config.{Config}
 use Rattle.port_config.specs.Config.{is_config, is_served, is_pair}
 use Rattle.journal_text.specs.declared.port_line.Limits.{Limits}
 use Rattle.journal_text.specs.declared.port_line.ProgramOptions.{ProgramOptions}
 use Rattle.journal_text.specs.declared.port_line.PortLine.{PortLine}
 use Rattle.journal_text.specs.Words.{is_word_byte, is_line_byte, bytes_text, are_bytes, is_32, is_name}
-use Rattle.journal_text.specs.Ports.{drivers, is_driver, is_spawn, msgq_text, mode_text, eof_text, status_text, program_text, port_line, is_stream, is_nothing, without_program, are_limits, is_port}
-use Rattle.journal_text.specs.Reading.{◌>>=◌, behind, made, spaced_at, pair_at, field_at, by_word, number_of, number_at, name_at, bytes_at}
+use Rattle.journal_text.specs.Ports.{drivers, is_driver, is_spawn, msgq_text, mode_text, eof_text, status_text, port_line, is_stream, is_nothing, without_program, are_limits, is_port}
+use Rattle.journal_text.specs.Reading.{◌>>=◌, behind, made, spaced_at, pair_at, field_at, number_of, number_at, name_at, bytes_at}
 use Rattle.journal_text.specs.ReadingRows.{whole, all_of}
 use Rattle.journal_text.specs.ReadingPorts.{this, this_at, driver_of, limits_by, limits_at, packet_of, mode_by, mode_at, either, eof_at, exit_status_at, two_at, events_at, Tail, tail_at, Parts, parts_at, program_of, program_at, no_program, program_after, PortHead, head_at, line_with, checked, port_behind, port_by, port_line_of}
-use Rattle.journal_text.proofs.ReadingLaws.{both, ends, line_bytes, line_append, front_parts, Law, By, Body, Front, Exact, field_law, pair_law, pair_text, pair_fits, nothing, tag, bare, part, own_part, part_again, word_then, by_word_law, map_law, made_found, spaced_found}
+use Rattle.journal_text.proofs.ReadingLaws.{both, ends, line_bytes, line_append, front_parts, Law, By, Front, Exact, field_law, pair_law, pair_text, pair_fits, nothing, tag, bare, part, own_part, part_again, word_then, by_word_law, map_law, made_found, spaced_found}
 use Rattle.journal_text.proofs.NumberLaws.{number_exact}
 use Rattle.journal_text.proofs.SenderLaws.{word_is, meant, never}
 use Rattle.journal_text.proofs.TaskLaws.{number_law, law_32, name_law, bytes_law}

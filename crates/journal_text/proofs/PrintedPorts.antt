@@ -1,15 +1,13 @@
 -- The text of a journal, piece by piece as it is printed.
-use Rattle.std.proofs.Common.{◌≡◌, ℕ, Bool, true, false, cond, List, [], ◌∷◌, ◌++◌, map, refl, sym, ap, ◌∙◌, append_assoc, arith, inl, inr}
+use Rattle.std.proofs.Common.{◌≡◌, ℕ, true, false, List, [], ◌∷◌, ◌++◌, map, refl, sym, ap, ◌∙◌, append_assoc, arith}
 use Rattle.std.specs.Prelude.{codes}
 use Rattle.std.specs.List.{flat_map}
 use Rattle.std.specs.Fmt.{decimal}
-use Rattle.std.proofs.lemmas.Bool.{cases_Bool}
 use Rattle.std.proofs.lemmas.Fmt.{decimal_digit}
 use Rattle.std.proofs.lemmas.Grind.{flat_map-append}
 use Rattle.std.proofs.lemmas.List.{append-nil}
 use Rattle.port_model.specs.declared.row.Row.{Row}
 use Rattle.journal_text.specs.declared.book.PortReport.{PortReport}
-use Rattle.journal_text.specs.declared.port_line.PortLine.{PortLine}
 use Rattle.journal_text.specs.Words.{spaced, bytes_text}
 use Rattle.port_config.specs.declared.config.Config.{Config}
 use Rattle.journal_text.specs.Rows.{row_text}

@@ -1,6 +1,6 @@
 -- Rows.
-use Rattle.std.proofs.Common.{◌≡◌, ℕ, ◌^◌, ◌≤◌, Bool, true, false, cond, List, [], ◌∷◌, ◌++◌, Option, Some, None, refl, sym, ap, subst, ◌∙◌, append_assoc, arith, inl, inr}
-use Rattle.std.specs.Prelude.{◌==◌, ◌&&◌, nat_lt, codes}
+use Rattle.std.proofs.Common.{◌≡◌, ℕ, ◌^◌, ◌≤◌, Bool, true, List, [], ◌∷◌, ◌++◌, Option, Some, refl, sym, ap, subst, ◌∙◌, append_assoc}
+use Rattle.std.specs.Prelude.{◌&&◌, codes}
 use Rattle.std.specs.List.{list_all, take_while}
 use Rattle.std.specs.Fmt.{decimal}
 use Rattle.std.proofs.lemmas.Bool.{and_parts}
@@ -22,11 +22,11 @@ use Rattle.journal_text.specs.Effects.{answer_text, is_answer, effect_text, is_e
 use Rattle.journal_text.specs.Rows.{mark_text, row_text, is_row, is_list}
 use Rattle.journal_text.specs.Reading.{◌>>=◌, after, behind, made, spaced_at, pair_at, field_at, by_word, number_at, sender_of, sender_at, task_at, answer_at, effect_at}
 use Rattle.journal_text.specs.ReadingRows.{list_at, semicolon_at, whole, all_of, calls_at, sent_at, handled_at, mark_of, row_by, row_of}
-use Rattle.journal_text.proofs.ReadingLaws.{both, ends, line_append, front_parts, after_is, Law, By, Body, Front, field_law, pair_law, pair_text, pair_fits, nothing, tag, part, part_again, word_then, made_found, spaced_found}
+use Rattle.journal_text.proofs.ReadingLaws.{both, line_append, front_parts, after_is, Law, By, Front, field_law, pair_law, pair_text, pair_fits, nothing, tag, part, part_again, word_then, made_found, spaced_found}
 use Rattle.journal_text.proofs.SenderLaws.{sender_exact, meant, never}
 use Rattle.journal_text.proofs.TaskLaws.{law_64, task_law}
 use Rattle.journal_text.proofs.EffectLaws.{answer_law, effect_law}
-use Rattle.journal_text.proofs.ListLaws.{Begins, list_ends, list_found, list_again}
+use Rattle.journal_text.proofs.ListLaws.{Begins, list_found, list_again}
 
 -- ---- marks and senders
 

@@ -1,9 +1,8 @@
 -- Words that are senders and flags, and vectors.
-use Rattle.std.proofs.Common.{◌≡◌, ℕ, ◌+◌, ◌^◌, ◌<◌, ◌≤◌, Bool, true, false, cond, List, [], ◌∷◌, ◌++◌, length, Option, Some, None, refl, sym, ap, ◌∙◌, arith, inl, inr}
-use Rattle.std.specs.Prelude.{◌==◌, ◌&&◌, nat_lt, codes}
+use Rattle.std.proofs.Common.{◌≡◌, ℕ, ◌^◌, ◌≤◌, true, cond, List, [], ◌∷◌, length, Option, Some, None, refl, sym, ap, ◌∙◌, arith, inl, inr}
+use Rattle.std.specs.Prelude.{◌==◌, codes}
 use Rattle.std.specs.List.{list_all, concat}
 use Rattle.std.specs.Str.{bytes_eq}
-use Rattle.std.specs.Fmt.{decimal}
 use Rattle.std.proofs.lemmas.Bool.{cases_Bool, eqb-true}
 use Rattle.std.proofs.lemmas.Option.{option_and_then_some}
 use Rattle.std.proofs.lemmas.List.{append-nil, nil_from_length}
@@ -12,11 +11,11 @@ use Rattle.port_model.specs.declared.signal.Sender.{Sender}
 use Rattle.port_model.specs.declared.signal.Sender.TheVariants.{Process, Poller, Worker, Timer}
 use Rattle.journal_text.specs.declared.how.CommandFlags.{CommandFlags}
 use Rattle.journal_text.specs.declared.how.CommandFlags.TheVariants.{Plain, Suspends, Forced}
-use Rattle.journal_text.specs.Words.{is_word_byte, bytes_text, are_bytes, is_32}
+use Rattle.journal_text.specs.Words.{is_word_byte, bytes_text, are_bytes}
 use Rattle.journal_text.specs.Signals.{sender_text, is_sender, how_text, is_payload}
 use Rattle.journal_text.specs.Reading.{◌>>=◌, number_of, sender_of, how_of, bytes_of, bytes_at, payload_of, payload_at}
-use Rattle.journal_text.proofs.ReadingLaws.{both, Exact, Law, field_law, map_law}
-use Rattle.journal_text.proofs.NumberLaws.{number_exact, decimal_words}
+use Rattle.journal_text.proofs.ReadingLaws.{Exact, Law, field_law, map_law}
+use Rattle.journal_text.proofs.NumberLaws.{number_exact}
 use Rattle.journal_text.proofs.HexLaws.{bytes_exact}
 
 -- ---- words with one meaning each

@@ -1,27 +1,24 @@
 -- Where a text stops being a journal: the lines before the first bad one begin a journal, and with one line more they don't.
-use Rattle.std.proofs.Common.{◌≡◌, ℕ, zero, suc, ◌+◌, ◌^◌, ◌-◌, ◌<◌, ◌≤◌, Bool, true, false, cond, List, [], ◌∷◌, ◌++◌, length, take, drop, map, Option, Some, None, Result, Ok, Err, refl, sym, ap, subst, ◌∙◌, append_assoc, arith, inl, inr, ◌⊎◌}
-use Rattle.std.specs.Prelude.{◌==◌, ◌&&◌, nat_le, codes, option_and_then}
-use Rattle.std.specs.List.{list_all, flat_map, join_with_byte, onto_first}
+use Rattle.std.proofs.Common.{◌≡◌, ℕ, zero, suc, ◌+◌, ◌^◌, ◌-◌, ◌≤◌, Bool, true, false, List, [], ◌∷◌, ◌++◌, length, map, Option, Some, None, Result, Ok, Err, refl, sym, ap, ◌∙◌, append_assoc, arith, inl, inr, ◌⊎◌}
+use Rattle.std.specs.Prelude.{nat_le, codes, option_and_then}
+use Rattle.std.specs.List.{list_all, flat_map}
 use Rattle.std.specs.Str.{bytes_eq}
-use Rattle.std.proofs.lemmas.Bool.{cases_Bool, and_parts, le-leb}
-use Rattle.std.proofs.lemmas.Grind.{flat_map-append}
-use Rattle.std.proofs.lemmas.List.{append-nil, take_at, length-append}
-use Rattle.std.proofs.lemmas.List.Folds.{list_all-append}
-use Rattle.std.proofs.lemmas.List.Splits.{join_with_byte-slice_split}
+use Rattle.std.proofs.lemmas.Bool.{cases_Bool, le-leb}
+use Rattle.std.proofs.lemmas.List.{append-nil}
 use Rattle.port_model.specs.declared.row.Row.{Row}
 use Rattle.journal_text.specs.declared.book.PortReport.{PortReport}
 use Rattle.journal_text.specs.declared.port_line.PortLine.{PortLine}
-use Rattle.journal_text.specs.Words.{is_line_byte, is_name}
+use Rattle.journal_text.specs.Words.{is_name}
 use Rattle.journal_text.specs.Rows.{row_text, is_row}
-use Rattle.journal_text.specs.Ports.{port_line, port_lines, with_rows, line_of, is_port, is_report}
-use Rattle.journal_text.specs.Books.{BookView, is_book, ended, head_line, names_line, journal_lines, journal_text, BeginsJournal, IsFirstBadLine}
+use Rattle.journal_text.specs.Ports.{port_line, port_lines, with_rows, is_port, is_report}
+use Rattle.journal_text.specs.Books.{BookView, is_book, head_line, names_line, journal_lines}
 use Rattle.journal_text.specs.ReadingRows.{row_of}
 use Rattle.journal_text.specs.ReadingPorts.{port_line_of}
-use Rattle.journal_text.specs.ReadingBooks.{Lines, lines_of, size_of, ◌>>=◌, first_line, or_fault, line_at, row_then, rows_at, port_at, is_over, ports_at, names_of, head_of, book_at}
+use Rattle.journal_text.specs.ReadingBooks.{Lines, ◌>>=◌, or_fault, line_at, row_then, rows_at, port_at, is_over, ports_at, names_of, head_of, book_at}
 use Rattle.journal_text.proofs.ReadingLaws.{both}
 use Rattle.journal_text.proofs.RowLaws.{row_found, row_again}
 use Rattle.journal_text.proofs.PortLaws.{port_found, port_again}
-use Rattle.journal_text.proofs.BookLaws.{are_lines, is_some, split_line, split_lines, join_lines, line_found, line_again, FirstLine, rows_step, not_end, PortLines, port_at_found, port_at_again, NamesLine, names_line_found, names_line_again, head_found, head_again, book_clean, text_again, over_is, few_64, bind_ok, ok_is, lines_of_text}
+use Rattle.journal_text.proofs.BookLaws.{is_some, line_found, line_again, FirstLine, rows_step, not_end, PortLines, port_at_found, port_at_again, names_line_found, names_line_again, head_found, head_again, few_64, bind_ok, ok_is}
 
 -- the reader doesn't read what has these lines in front, the first bad line, and then others
 pub record Rejects {A : Type 0} (read : Lines → Result A Lines) (done bad : Lines) : Type 0 where

@@ -1,11 +1,10 @@
 -- Tasks.
-use Rattle.std.proofs.Common.{inl, inr, ◌≡◌, ℕ, ◌^◌, ◌≤◌, Bool, true, false, cond, List, [], ◌∷◌, ◌++◌, Option, Some, None, refl, sym, ap, subst, ◌∙◌, arith}
-use Rattle.std.specs.Prelude.{◌&&◌, ◌||◌, not, nat_lt, codes}
+use Rattle.std.proofs.Common.{inl, inr, ◌≡◌, ℕ, ◌^◌, ◌≤◌, Bool, true, false, List, [], ◌∷◌, ◌++◌, Some, None, refl, ap, subst, ◌∙◌, arith}
+use Rattle.std.specs.Prelude.{◌&&◌, not, nat_lt, codes}
 use Rattle.std.specs.List.{concat, take_while}
 use Rattle.std.specs.Fmt.{decimal}
 use Rattle.std.specs.Str.{bytes_eq}
 use Rattle.std.proofs.lemmas.Bool.{and_parts, cases_Bool}
-use Rattle.port_model.specs.declared.event.Dir.{Dir}
 use Rattle.port_model.specs.declared.event.Dir.TheVariants.{Read, Write}
 use Rattle.port_model.specs.declared.signal.Signal.{Signal}
 use Rattle.port_model.specs.declared.signal.Signal.TheVariants.{Command, OwnerCommand, Control, Call, Close, OwnerClose, Connect, OwnerConnect, Link, Unlink, Monitor, Demonitor, Exit, Gone, Ready, Dropped, AsyncDone}
@@ -15,9 +14,9 @@ use Rattle.journal_text.specs.declared.how.CommandFlags.{CommandFlags}
 use Rattle.journal_text.specs.declared.how.CommandFlags.TheVariants.{Plain, Suspends, Forced}
 use Rattle.journal_text.specs.Words.{is_word_byte, bytes_text, are_bytes, is_name}
 use Rattle.journal_text.specs.Signals.{how_text, signal_text, is_signal, is_payload, how_of, task_of, task_text, is_task, are_flags}
-use Rattle.journal_text.specs.Reading.{◌>>=◌, behind, made, spaced_at, pair_at, field_at, by_word, number_of, number_at, name_of, name_at, bytes_of, bytes_at, how_at, payload_at, event_by, carrying_by, signal_by, task_by, task_at}
+use Rattle.journal_text.specs.Reading.{behind, made, pair_at, by_word, number_of, number_at, name_of, name_at, bytes_of, bytes_at, how_at, payload_at, event_by, carrying_by, signal_by, task_by, task_at}
 use Rattle.journal_text.specs.Reading as R
-use Rattle.journal_text.proofs.ReadingLaws.{both, ends, Law, By, Body, Front, field_law, pair_law, pair_text, pair_fits, nothing, tag, bare, part, part_again, word_then, by_word_law, made_found}
+use Rattle.journal_text.proofs.ReadingLaws.{both, ends, Law, By, Front, field_law, pair_law, pair_text, pair_fits, nothing, tag, bare, part, part_again, word_then, by_word_law, made_found}
 use Rattle.journal_text.proofs.NumberLaws.{number_exact, name_exact}
 use Rattle.journal_text.proofs.HexLaws.{bytes_exact}
 use Rattle.journal_text.proofs.SenderLaws.{word_is, how_exact, payload_law}

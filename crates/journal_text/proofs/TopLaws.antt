@@ -2,7 +2,7 @@
 use Rattle.std.proofs.Common.{◌≡◌, ℕ, ◌-◌, ◌≤◌, true, List, length, Result, Ok, Err, refl, sym, ap, subst, ◌∙◌}
 use Rattle.journal_text.specs.declared.fault.TextFault.TheVariants.{Bad}
 use Rattle.journal_text.specs.Books.{BookView, is_book, journal_text, IsFirstBadLine}
-use Rattle.journal_text.specs.ReadingBooks.{Lines, lines_of, size_of, book_at}
+use Rattle.journal_text.specs.ReadingBooks.{Lines, lines_of, book_at}
 use Rattle.journal_text.specs.TextFault.{MissedText}
 use Rattle.journal_text.proofs.BookLaws.{text_again, ok_is}
 use Rattle.journal_text.proofs.PlaceLaws.{left_within, fault_place}

@@ -6,7 +6,6 @@ use Rattle.std.specs.Str.Parse.{digits_value}
 use Rattle.hex.specs.Hex.{decode_of}
 use Rattle.hex.specs.declared.error.FromHexError.{FromHexError}
 use Rattle.port_signal.specs.Name.{name_fault}
-use Rattle.port_signal.specs.declared.items.TheConstants.{MAX_ITEMS}
 use Rattle.port_model.specs.declared.event.Dir.{Dir}
 use Rattle.port_model.specs.declared.event.Dir.TheVariants.{Read, Write}
 use Rattle.port_model.specs.declared.signal.Sender.{Sender}

@@ -6,7 +6,7 @@ use Rattle.port_model.specs.declared.row.Row.{Row}
 use Rattle.journal_text.specs.declared.book.PortReport.{PortReport}
 use Rattle.journal_text.specs.Words.{is_word_byte}
 use Rattle.journal_text.specs.Ports.{with_rows}
-use Rattle.journal_text.specs.Books.{BookView, head_line}
+use Rattle.journal_text.specs.Books.{BookView}
 use Rattle.journal_text.specs.Reading.{behind, spaced_at, name_at}
 use Rattle.journal_text.specs.ReadingRows.{row_of}
 use Rattle.journal_text.specs.ReadingPorts.{port_line_of}

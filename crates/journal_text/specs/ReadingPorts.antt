@@ -1,17 +1,16 @@
 -- Reading the line of a port.
-use Rattle.std.specs.Prelude.{ℕ, ◌^◌, ◌==◌, Bool, true, false, if◌then◌else◌, List, [], ◌∷◌, Option, Some, None, codes}
+use Rattle.std.specs.Prelude.{ℕ, ◌^◌, Bool, true, false, if◌then◌else◌, List, [], Option, Some, None, codes}
 use Rattle.std.specs.List.{take_while}
 use Rattle.std.specs.Str.{bytes_eq}
 use Rattle.packet_framing.specs.declared.mode.Mode.{Mode}
 use Rattle.packet_framing.specs.declared.mode.Mode.TheVariants.{Packet1, Packet2, Packet4, Line, Stream}
-use Rattle.port_config.specs.declared.config.Config.{Config}
 use Rattle.port_config.specs.Config.{is_config}
 use Rattle.journal_text.specs.declared.port_line.Limits.{Limits}
 use Rattle.journal_text.specs.declared.port_line.ProgramOptions.{ProgramOptions}
 use Rattle.journal_text.specs.declared.port_line.PortLine.{PortLine}
 use Rattle.journal_text.specs.Ports.{is_driver, is_spawn}
 use Rattle.journal_text.specs.Words.{is_word_byte}
-use Rattle.journal_text.specs.Reading.{◌>>=◌, after, behind, field_at, by_word, spaced_at, pair_at, made, number_of, number_at, name_at, bytes_at}
+use Rattle.journal_text.specs.Reading.{◌>>=◌, behind, field_at, by_word, spaced_at, pair_at, made, number_of, number_at, name_at, bytes_at}
 use Rattle.journal_text.specs.ReadingRows.{whole, all_of}
 
 -- this word

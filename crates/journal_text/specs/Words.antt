@@ -1,5 +1,5 @@
 -- The words of a line of a journal, and what stands between them.
-use Rattle.std.specs.Prelude.{ℕ, ℤ, pos, negsuc, ◌^◌, ◌==◌, List, [], ◌∷◌, ◌++◌, Bool, not, ◌&&◌, ◌||◌, nat_lt, nat_le, is_none}
+use Rattle.std.specs.Prelude.{ℕ, ℤ, pos, negsuc, ◌^◌, ◌==◌, List, [], ◌∷◌, ◌++◌, Bool, not, ◌||◌, nat_lt, is_none}
 use Rattle.std.specs.List.{list_all, flat_map}
 use Rattle.hex.specs.Hex.{encode_lower}
 use Rattle.port_signal.specs.Name.{name_fault}

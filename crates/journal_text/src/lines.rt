@@ -1,6 +1,6 @@
 //! The lines of a text.
 
-ghost use Rattle.std.specs.Prelude.{◌≡◌, ◌≤◌, ◌<◌, length, option_map, IfSome, nat_eq};
+ghost use Rattle.std.specs.Prelude.{◌≡◌, ◌≤◌, ◌<◌, length, option_map, IfSome};
 ghost use Rattle.std.specs.List.{take_while, prefix_len};
 ghost use Rattle.journal_text.specs.Words.{is_line_byte};
 ghost use Rattle.journal_text.specs.Reading.{behind};

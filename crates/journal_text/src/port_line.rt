@@ -1,11 +1,10 @@
 //! The line of a port that is read.
 
-ghost use Rattle.std.specs.Prelude.{◌≡◌, ◌^◌, ◌≤◌, option_map, codes};
-ghost use Rattle.std.specs.Str.{bytes_eq};
+ghost use Rattle.std.specs.Prelude.{◌≡◌, ◌^◌, option_map};
 ghost use Rattle.journal_text.specs.LinePartFault.{Reads};
 ghost use Rattle.journal_text.specs.Ports.{is_driver, is_spawn};
-ghost use Rattle.journal_text.specs.Reading.{spaced_at, pair_at, made, field_at, number_at, name_at};
-ghost use Rattle.journal_text.specs.ReadingPorts.{this_at, driver_of, limits_by, limits_at, packet_of, mode_by, mode_at, either, eof_at, exit_status_at, two_at, events_at, tail_at, parts_at, program_of, program_at, no_program, program_after, head_at, line_with, checked, port_behind, port_line_of};
+ghost use Rattle.journal_text.specs.Reading.{spaced_at, field_at};
+ghost use Rattle.journal_text.specs.ReadingPorts.{this_at, driver_of, limits_by, limits_at, packet_of, mode_by, mode_at, either, eof_at, exit_status_at, two_at, events_at, tail_at, program_at, no_program, program_after, head_at, line_with, checked, port_behind, port_line_of};
 
 use crate::fault::LinePartFault;
 use crate::words::{

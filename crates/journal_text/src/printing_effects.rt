@@ -1,9 +1,9 @@
 //! The outside's answers and the driver's effects of rows that are printed.
 
-ghost use Rattle.std.specs.Prelude.{◌≡◌, ◌++◌, ◌∷◌, OnOk, decimal};
+ghost use Rattle.std.specs.Prelude.{◌≡◌, ◌++◌, ◌∷◌, OnOk};
 ghost use Rattle.std.specs.List.{flat_map};
-ghost use Rattle.journal_text.specs.Words.{bytes_text, listed};
-ghost use Rattle.journal_text.specs.Effects.{answer_text, flag_text, dir_text, bit_text, effect_text};
+ghost use Rattle.journal_text.specs.Words.{listed};
+ghost use Rattle.journal_text.specs.Effects.{answer_text, dir_text, bit_text, effect_text};
 
 use crate::printing::{
     put, put_next_number, put_numbered, put_with_bytes, put_with_name, put_with_number,

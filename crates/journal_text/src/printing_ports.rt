@@ -1,11 +1,11 @@
 //! The ports and the whole of a journal that are printed.
 
-ghost use Rattle.std.specs.Prelude.{◌≡◌, ◌++◌, ◌∷◌, [], ℕ, true, OnOk, IfOk, decimal, codes};
+ghost use Rattle.std.specs.Prelude.{◌≡◌, ◌++◌, ◌∷◌, [], true, OnOk, IfOk, decimal, codes};
 ghost use Rattle.std.specs.List.{flat_map};
 ghost use Rattle.journal_text.specs.Words.{spaced, bytes_text};
 ghost use Rattle.journal_text.specs.Ports.{msgq_text, mode_text, eof_text, status_text, program_text, port_line, line_of, port_lines};
 ghost use Rattle.journal_text.specs.Rows.{row_text};
-ghost use Rattle.journal_text.specs.Books.{is_book, ended, names_line, journal_text};
+ghost use Rattle.journal_text.specs.Books.{is_book, ended, journal_text};
 
 use crate::port_line::is_spawn;
 use crate::printing::{put, put_next_number, put_with_bytes, put_with_number, put_word};

@@ -5,7 +5,7 @@ ghost use Rattle.std.specs.List.{flat_map};
 ghost use Rattle.journal_text.specs.Words.{spaced, listed};
 ghost use Rattle.journal_text.specs.Effects.{answer_text, effect_text};
 ghost use Rattle.journal_text.specs.Signals.{sender_text, task_text};
-ghost use Rattle.journal_text.specs.Rows.{mark_text, row_text};
+ghost use Rattle.journal_text.specs.Rows.{row_text};
 ghost use Rattle.journal_text.specs.Books.{ended};
 
 use crate::printing::{put, put_next_number, put_word};

@@ -1,11 +1,10 @@
 //! Journals that are read, line by line.
 
-ghost use Rattle.std.specs.Prelude.{◌≡◌, ◌≤◌, ◌-◌, ℕ, true, Ok, Err, length, IfOk, IfErr, IfSome};
+ghost use Rattle.std.specs.Prelude.{◌≡◌, ◌≤◌, ◌-◌, true, Ok, Err, length, IfOk, IfErr};
 ghost use Rattle.journal_text.specs.LinePartFault.{Reads};
 ghost use Rattle.journal_text.specs.TextFault.{MissedText, ReadsText};
 ghost use Rattle.journal_text.specs.Ports.{with_rows};
 ghost use Rattle.journal_text.specs.Books.{BookView, is_book, journal_text};
-ghost use Rattle.journal_text.specs.Reading.{spaced_at, name_at};
 ghost use Rattle.journal_text.specs.ReadingRows.{row_of};
 ghost use Rattle.journal_text.specs.ReadingPorts.{port_line_of};
 ghost use Rattle.journal_text.specs.ReadingBooks.{lines_of, or_fault, line_at, rows_at, port_at, ports_at, names_at, names_of, head_of, book_at};

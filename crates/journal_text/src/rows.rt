@@ -1,6 +1,6 @@
 //! The rows of a port that are read, each from a whole line.
 
-ghost use Rattle.std.specs.Prelude.{◌≡◌, ◌^◌, ◌≤◌, ◌<◌, length, vec_len, option_map, IfOk};
+ghost use Rattle.std.specs.Prelude.{◌≡◌, ◌^◌, ◌≤◌, ◌<◌, vec_len, option_map, IfOk};
 ghost use Rattle.port_signal.specs.declared.items.TheConstants.{MAX_ITEMS};
 ghost use Rattle.journal_text.specs.LinePartFault.{Reads};
 ghost use Rattle.journal_text.specs.Reading.{field_at, made, spaced_at, pair_at, number_at, sender_at, answer_at, effect_at};

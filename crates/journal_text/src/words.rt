@@ -1,6 +1,6 @@
 //! The words of a line that are read, each from the front of the bytes that are left.
 
-ghost use Rattle.std.specs.Prelude.{◌≡◌, if◌then◌else◌, nat_lt, None, ◌≤◌, ◌<◌, ◌^◌, ◌+◌, length, option_map, IfSome};
+ghost use Rattle.std.specs.Prelude.{◌≡◌, if◌then◌else◌, nat_lt, None, ◌≤◌, ◌<◌, ◌^◌, ◌+◌, length, option_map};
 ghost use Rattle.std.specs.List.{list_all, take_while, prefix_len};
 ghost use Rattle.std.specs.Str.{bytes_eq};
 ghost use Rattle.journal_text.specs.LinePartFault.{Reads};

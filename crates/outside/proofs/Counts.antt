@@ -1,5 +1,5 @@
 -- What several calls together did to a count of faults.
-use Rattle.std.proofs.Common.{ℕ, ◌^◌, ◌<◌, ◌≤◌, min, arith}
+use Rattle.std.proofs.Common.{ℕ, ◌^◌, ◌<◌, ◌≤◌, arith}
 use Rattle.outside.specs.Causes.{Rose}
 
 -- a count that rose has risen after calls before it

@@ -1,5 +1,5 @@
 -- Output in memory.
-use Rattle.std.specs.Prelude.{◌≡◌, ℕ, ◌+◌, ◌≤◌, ◌<◌, ◌⊎◌, List, ◌++◌, length, take}
+use Rattle.std.specs.Prelude.{◌≡◌, ℕ, ◌+◌, ◌≤◌, ◌<◌, List, ◌++◌, length}
 use Rattle.outside.specs.Plan.{Plan}
 
 -- the bytes written so far, how many more there is room for, how many bytes a put that is to fail takes, the puts made and to fail, their

@@ -1,4 +1,4 @@
-ghost use Rattle.std.specs.Prelude.{◌≡◌, ◌≢◌, ◌≤◌, ◌<◌, ◌+◌, ◌↔◌, ◌++◌, min, true, false, cond, [], length, take, drop, None, Some, IfSome, IsTrue, IsSome, OnOk, OnErr, MatchResult, nat_lt, if◌then◌else◌, ◌^◌, ◌-◌, ◌&&◌, not, is_some};
+ghost use Rattle.std.specs.Prelude.{◌≡◌, ◌≢◌, ◌≤◌, ◌<◌, ◌+◌, ◌↔◌, min, true, false, [], length, drop, None, Some, IsTrue, OnOk, OnErr, nat_lt, if◌then◌else◌, ◌^◌, ◌-◌, ◌&&◌, not, is_some};
 ghost use Rattle.outside.specs.Children.{Offers, Fetches, HasStatus, Shows};
 ghost use Rattle.outside.specs.Plan.{fails, after_call, faults_after, no_calls, with_fault};
 ghost use Rattle.outside.specs.Programs.{shown, stands, count_of, ended, following, upcoming, GivesUpTo};

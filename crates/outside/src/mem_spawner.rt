@@ -1,4 +1,4 @@
-ghost use Rattle.std.specs.Prelude.{◌≡◌, ◌≤◌, ◌<◌, ◌+◌, ◌^◌, ◌↔◌, ◌⊎◌, [], ◌∷◌, ◌++◌, Some, IsTrue, IsErrOf, IfOk, OnOk, OnErr, MatchResult};
+ghost use Rattle.std.specs.Prelude.{◌≡◌, ◌≤◌, ◌<◌, ◌+◌, ◌^◌, ◌⊎◌, [], ◌∷◌, ◌++◌, Some, IsTrue, OnOk, OnErr, MatchResult};
 ghost use Rattle.outside.specs.Plan.{fails, after_call, no_calls, with_fault};
 ghost use Rattle.outside.specs.Programs.{shown};
 ghost use Rattle.outside.specs.Spawning.{Launches, IsLeft};

@@ -1,5 +1,5 @@
 -- Short lists of events, each of which stands once.
-use Rattle.std.proofs.Common.{◌≡◌, ℕ, ◌==◌, false, List, [], ◌∷◌, refl}
+use Rattle.std.proofs.Common.{◌≡◌, ℕ, ◌==◌, false, [], ◌∷◌}
 use Rattle.std.specs.List.{IsDistinct}
 
 pub distinct-two : (a b : ℕ) → (a == b) ≡ false → IsDistinct (λ x y. x == y) (a ∷ b ∷ [])

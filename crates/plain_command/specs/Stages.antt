@@ -9,7 +9,7 @@ use Rattle.program_io.specs.Files.{FilesView}
 use Rattle.program_io.specs.Script.{ScriptEnds, ScriptRead}
 use Rattle.program_io.specs.Sink.{SinkView, PutFailed, TookText}
 use Rattle.run_report.specs.declared.cause.Cause.{Cause}
-use Rattle.run_report.specs.declared.cause.Cause.TheVariants.{Done, Script, WriteFault, NoMemory, Illegal}
+use Rattle.run_report.specs.declared.cause.Cause.TheVariants.{Done, WriteFault, NoMemory, Illegal}
 use Rattle.run_report.specs.Lines.{check_text_of, replay_text_of}
 use Rattle.plain_command.specs.Journals.{HasVerdict, JournalRead, JournalEnds}
 

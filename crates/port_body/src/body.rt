@@ -1,5 +1,4 @@
-ghost use Rattle.std.specs.Prelude.{◌≡◌, false};
-ghost use Rattle.recorded_port.specs.View.{is_finished, state_of};
+ghost use Rattle.recorded_port.specs.View.{is_finished};
 ghost use Rattle.port_body.specs.Body.{BodyName, name_of};
 
 use crate::Driver;

@@ -2,9 +2,7 @@
 ghost use Rattle.std.specs.Prelude.{◌≡◌, ◌≤◌, ◌∷◌, ◌++◌, [], false, reverse};
 ghost use Rattle.task_queue.specs.Ends.{ended_of};
 ghost use Rattle.port_driver.specs.Faults.{failures_in, RisenBy};
-ghost use Rattle.port_driver.specs.declared.life.Life.TheVariants.{Stopped};
 ghost use Rattle.recorded_port.specs.View.{is_finished, state_of};
-ghost use Rattle.port_body.specs.Body.{name_of};
 ghost use Rattle.port_body.specs.Ends.{HasEnded, IsEndOf, IsLeftByCalls, IsWholeEnd};
 ghost use Rattle.port_body.specs.LanePort.{IsBody};
 

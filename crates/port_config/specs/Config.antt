@@ -1,5 +1,5 @@
 -- The options of a port: what they are where nothing is said, and their ranges.
-use Rattle.std.specs.Prelude.{ℕ, [], Bool, true, false, ◌&&◌, nat_lt, nat_le}
+use Rattle.std.specs.Prelude.{ℕ, [], Bool, true, false, ◌&&◌, nat_le}
 use Rattle.packet_framing.specs.declared.mode.Mode.{Mode}
 use Rattle.packet_framing.specs.declared.mode.Mode.TheVariants.{Line, Stream}
 use Rattle.port_config.specs.declared.config.Config.{Config}

@@ -1,5 +1,5 @@
 -- How counts of faults rise, one step after another.
-use Rattle.std.proofs.Common.{◌≡◌, ◌≤◌, ◌+◌, ◌-◌, ◌^◌, ℕ, min, List, [], ◌∷◌, ◌++◌, zero-add, sym, ap, ◌∙◌, arith}
+use Rattle.std.proofs.Common.{◌≡◌, ◌≤◌, ◌+◌, ◌-◌, ◌^◌, ℕ, List, [], ◌∷◌, ◌++◌, zero-add, sym, ap, ◌∙◌, arith}
 use Rattle.port_model.specs.port_signal.declared.outside.Outside.{Outside}
 use Rattle.port_model.specs.port_signal.declared.outside.Outside.TheVariants.{Failed}
 use Rattle.port_model.specs.declared.row.Row.{Row}

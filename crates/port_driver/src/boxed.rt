@@ -1,5 +1,4 @@
 //! A boxed driver is a driver: what a run is handed are boxes.
-ghost use Rattle.std.specs.Prelude.{◌≡◌};
 
 use crate::{Config, Driver, DriverCtx, Life, ReplyTo, StartRefusal};
 use port_model::{IoVec, NoMemory, Piece, Reason};

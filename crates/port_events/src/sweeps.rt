@@ -1,5 +1,5 @@
 //! What is done to each event that is held, by rising number.
-ghost use Rattle.std.specs.Prelude.{◌≡◌, [], OnOk};
+ghost use Rattle.std.specs.Prelude.{[], OnOk};
 ghost use Rattle.port_history.specs.Events.{arm, give_up, read_no_more};
 ghost use Rattle.port_events.specs.Table.{KeepsEnd};
 ghost use Rattle.port_events.specs.Asks.{arm_asks, drop_asks};

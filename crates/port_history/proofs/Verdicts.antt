@@ -1,11 +1,11 @@
 -- That the verdict on a history and its laws say the same.
-use Rattle.std.proofs.Common.{arith, ◌≡◌, ℕ, ◌+◌, List, [], ◌∷◌, length, Bool, true, false, Option, Some, None, refl}
+use Rattle.std.proofs.Common.{◌≡◌, ℕ, ◌+◌, List, [], ◌∷◌, length, Bool, true, false, Option, Some, None, refl}
 use Rattle.driver_model.specs.port_model.declared.row.Row.{Row}
 use Rattle.port_history.specs.Opening.{Opening}
 use Rattle.port_history.specs.Marks.{none_due}
 use Rattle.port_history.specs.State.{State, state}
 use Rattle.port_history.specs.Laws.{keeps_end}
-use Rattle.port_history.specs.Lawful.{KeepsLaws, Lawful, IsFinished, least, kept_laws, law_broken, Broken, broken_at, first_broken, broken, end_law, end_broken, verdict, VerdictIsWhole, VerdictIsRight}
+use Rattle.port_history.specs.Lawful.{KeepsLaws, Lawful, least, kept_laws, law_broken, Broken, broken_at, first_broken, broken, end_law, end_broken, VerdictIsWhole, VerdictIsRight}
 
 abbrev All-true : List Bool → Type 0
 All-true [] = Unit {0}

@@ -1,5 +1,5 @@
 -- What a report counts in the rows of a port and in the mail of a process.
-use Rattle.std.specs.Prelude.{ℕ, ◌==◌, List, [], ◌∷◌, ◌++◌, length, Bool, true, false, Option, Some, None, if◌then◌else◌}
+use Rattle.std.specs.Prelude.{ℕ, ◌==◌, List, [], ◌∷◌, ◌++◌, length, Bool, true, false, Option, if◌then◌else◌}
 use Rattle.std.specs.List.{count_by, sum_by, flat_map, range_with_len}
 use Rattle.std.specs.Option.{option_map}
 use Rattle.async_jobs.specs.io_vector.declared.flag.Flag.{Flag}

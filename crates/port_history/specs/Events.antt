@@ -2,7 +2,6 @@
 -- selected in a direction as the last selection says, and armed there from then on until its Ready row; an event that is given up while it
 -- is armed waits for the poller to drop it.
 use Rattle.std.specs.Prelude.{ℕ, ◌==◌, List, [], ◌∷◌, ◌++◌, Bool, true, false, ◌&&◌, ◌||◌, not, nat_lt, if◌then◌else◌, map, filter}
-use Rattle.std.specs.List.{list_any}
 use Rattle.driver_model.specs.port_model.declared.event.Dir.{Dir}
 use Rattle.driver_model.specs.port_model.declared.event.Dir.TheVariants.{Read, Write}
 use Rattle.driver_model.specs.port_model.declared.signal.Signal.{Signal}

@@ -1,5 +1,5 @@
 -- The jobs of a port: which were submitted, and which were told done.
-use Rattle.std.specs.Prelude.{ℕ, ◌==◌, List, [], ◌∷◌, ◌++◌, Bool, true, false, ◌&&◌, ◌||◌, not, nat_lt, if◌then◌else◌, reverse, sum}
+use Rattle.std.specs.Prelude.{ℕ, ◌==◌, List, [], ◌∷◌, Bool, ◌&&◌, ◌||◌, not, nat_lt}
 use Rattle.std.specs.List.{list_any, list_all}
 use Rattle.driver_model.specs.port_model.declared.signal.Signal.{Signal}
 use Rattle.driver_model.specs.port_model.declared.signal.Signal.TheVariants.{AsyncDone}

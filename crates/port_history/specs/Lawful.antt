@@ -1,5 +1,5 @@
 -- Whether a history keeps the laws, and where it doesn't, the first row that breaks one and the least law that it breaks.
-use Rattle.std.specs.Prelude.{◌≡◌, ℕ, ◌+◌, List, [], ◌∷◌, length, Bool, true, false, Option, Some, None, if◌then◌else◌}
+use Rattle.std.specs.Prelude.{◌≡◌, ℕ, ◌+◌, List, [], ◌∷◌, length, Bool, true, false, Option, Some, None}
 use Rattle.driver_model.specs.port_model.declared.row.Row.{Row}
 use Rattle.port_history.specs.Opening.{Opening}
 use Rattle.port_history.specs.Marks.{none_due}

@@ -1,7 +1,7 @@
 -- The laws of a history, each as a test on the state before a row and that row. A law is broken at the first row where it can't hold any
 -- more; where the test has nothing to say of a row, it holds.
-use Rattle.std.specs.Prelude.{ℕ, ◌==◌, List, [], ◌∷◌, ◌++◌, Bool, true, false, ◌&&◌, ◌||◌, not, nat_le, if◌then◌else◌, Option, Some, None, is_some}
-use Rattle.std.specs.List.{list_all, list_any, count_by}
+use Rattle.std.specs.Prelude.{ℕ, ◌==◌, List, [], ◌∷◌, Bool, true, false, ◌&&◌, ◌||◌, not, nat_le, if◌then◌else◌}
+use Rattle.std.specs.List.{list_all, count_by}
 use Rattle.driver_model.specs.port_signal.declared.outside.Outside.{Outside}
 use Rattle.driver_model.specs.port_model.declared.event.Dir.{Dir}
 use Rattle.driver_model.specs.port_model.declared.signal.Sender.{Sender}

@@ -1,5 +1,5 @@
 -- The mail that a port's rows send, in their order: of a row the data of its effects, its answer, what its closing tells, and `closed`.
-use Rattle.std.specs.Prelude.{ℕ, ◌==◌, List, [], ◌∷◌, ◌++◌, Bool, true, false, ◌&&◌, not, if◌then◌else◌, Option, Some, None, is_some, map, filter, codes}
+use Rattle.std.specs.Prelude.{ℕ, ◌==◌, List, [], ◌∷◌, ◌++◌, Bool, true, ◌&&◌, not, if◌then◌else◌, Option, Some, None, map, filter, codes}
 use Rattle.std.specs.List.{flat_map}
 use Rattle.driver_model.specs.port_signal.declared.monitor.Monitor.{Monitor as MonitorEntry}
 use Rattle.driver_model.specs.port_signal.declared.answer.Answer.{Answer}
@@ -17,8 +17,8 @@ use Rattle.driver_model.specs.port_model.declared.row.Row.TheVariants.{Handled, 
 use Rattle.driver_model.specs.port_model.declared.mail.Mail.{Mail}
 use Rattle.driver_model.specs.port_model.declared.mail.Mail.TheVariants.{Message, Eof, Status, Closed, Connected, Exit, Down, Reply, Resume}
 use Rattle.port_history.specs.Opening.{Opening, Taken, taken_of}
-use Rattle.port_history.specs.Ties.{Ties, may_own, monitor_of, tied}
-use Rattle.port_history.specs.State.{State, state, after, is_open, closing_reason, stops, closer_after}
+use Rattle.port_history.specs.Ties.{Ties, may_own, tied}
+use Rattle.port_history.specs.State.{State, state, is_open, closing_reason, stops, closer_after}
 
 -- a mail, and the process that it is for
 pub record Sent : Type 0 where

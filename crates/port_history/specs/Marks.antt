@@ -1,5 +1,5 @@
 -- The marks of a history: changes of the port's state that its STAT word shows.
-use Rattle.std.specs.Prelude.{ℕ, List, [], ◌∷◌, ◌++◌, Bool, true, false, Option, Some, None}
+use Rattle.std.specs.Prelude.{ℕ, List, [], ◌∷◌, Bool, true, false, Option, Some, None}
 use Rattle.driver_model.specs.port_signal.declared.mark.MarkKind.{MarkKind}
 use Rattle.driver_model.specs.port_signal.declared.mark.MarkKind.TheVariants.{Busy, Free, Closed}
 use Rattle.driver_model.specs.port_model.declared.effect.Effect.{Effect}

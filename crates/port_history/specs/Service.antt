@@ -1,5 +1,5 @@
 -- The calls that a driver gets for a task: that of its signal, and where the port closes `flush` and `stop`.
-use Rattle.std.specs.Prelude.{ℕ, List, [], ◌∷◌, ◌++◌, Bool, true, false, ◌&&◌, ◌||◌, not, if◌then◌else◌, Option, Some, None, is_some}
+use Rattle.std.specs.Prelude.{ℕ, List, [], ◌∷◌, ◌++◌, Bool, true, false, ◌||◌, if◌then◌else◌, Option, Some, None}
 use Rattle.std.specs.List.{concat}
 use Rattle.driver_model.specs.port_signal.Links.{has}
 use Rattle.driver_model.specs.port_signal.Reasons.{is_kill}

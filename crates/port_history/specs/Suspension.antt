@@ -1,5 +1,5 @@
 -- Who is suspended: the tasks that have a Listed row and no Resumed row yet, in the order of their Listed rows.
-use Rattle.std.specs.Prelude.{ℕ, ◌==◌, ◌/◌, ◌%◌, ◌^◌, List, [], ◌∷◌, Bool, true, false, ◌&&◌, ◌||◌, not, filter}
+use Rattle.std.specs.Prelude.{ℕ, ◌==◌, ◌/◌, ◌%◌, ◌^◌, List, [], ◌∷◌, Bool, false, ◌&&◌, not, filter}
 use Rattle.std.specs.List.{list_any}
 use Rattle.driver_model.specs.port_model.declared.signal.Sender.{Sender}
 use Rattle.port_history.specs.Opening.{same_sender}

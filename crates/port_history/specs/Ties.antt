@@ -1,5 +1,5 @@
 -- The owner of a port, the processes that are linked to it or have ended, its monitors, and why a signal closes it.
-use Rattle.std.specs.Prelude.{ℕ, ◌==◌, List, [], ◌∷◌, ◌++◌, Bool, ◌&&◌, ◌||◌, not, nat_lt, if◌then◌else◌, Option, Some, None, codes}
+use Rattle.std.specs.Prelude.{ℕ, ◌==◌, List, [], ◌∷◌, Bool, ◌&&◌, not, nat_lt, if◌then◌else◌, Option, Some, None, codes}
 use Rattle.driver_model.specs.port_signal.declared.monitor.Monitor.{Monitor as MonitorEntry}
 use Rattle.driver_model.specs.port_signal.Links.{has, with_process, without_process, with_monitor, without_monitor, without_watcher, exit_closes, end_closes}
 use Rattle.driver_model.specs.port_model.declared.signal.Sender.{Sender}

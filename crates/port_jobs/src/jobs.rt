@@ -1,7 +1,7 @@
-ghost use Rattle.std.specs.Prelude.{◌≡◌, ◌++◌, ◌∷◌, [], ◌↔◌, ℕ, true, false, List, OnOk, OnErr};
+ghost use Rattle.std.specs.Prelude.{◌≡◌, ◌∷◌, [], ◌↔◌, ℕ, true, false, List, OnOk, OnErr};
 ghost use Rattle.std.specs.List.{list_all};
 ghost use Rattle.async_jobs.specs.Pool.{Submitted as PoolSubmitted};
-ghost use Rattle.port_history.specs.Jobs.{Submitted, submitted_by, done_by, is_done, is_submitted};
+ghost use Rattle.port_history.specs.Jobs.{Submitted, done_by, is_done, is_submitted};
 ghost use Rattle.port_jobs.specs.Jobs.{Agrees, Submits, SubmitsFront, are_next, is_news};
 
 use crate::numbers::are_next;

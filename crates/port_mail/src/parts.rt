@@ -1,5 +1,4 @@
 //! The parts of a row's mail.
-ghost use Rattle.std.specs.Prelude.{◌≡◌};
 ghost use Rattle.std.specs.List.{flat_map};
 ghost use Rattle.port_links.specs.port_history.Opening.{Opening};
 ghost use Rattle.port_links.specs.port_history.Ties.{Ties};

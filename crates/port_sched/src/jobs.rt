@@ -1,6 +1,5 @@
 // Jobs that run at the same time, each in a thread of its own where one can be made.
 ghost use Rattle.std.specs.Prelude.{All};
-ghost use denote.Param.Send.{IsSync, IsSend};
 ghost use Rattle.port_sched.specs.Jobs.{WentEach};
 
 use crate::meeting::Meeting;

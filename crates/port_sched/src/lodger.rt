@@ -1,5 +1,4 @@
 ghost use Rattle.std.specs.Prelude.{◌≡◌, true, false};
-ghost use Rattle.port_words.specs.over.Over.{OverKnown, HasToFinish};
 ghost use Rattle.port_sched.specs.Lodging.{is_counted, has_finished, Told};
 
 use crate::body::{PortBody, Turn};

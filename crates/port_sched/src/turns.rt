@@ -1,6 +1,5 @@
 // One turn of one port.
-ghost use Rattle.std.specs.Prelude.{◌≡◌, ◌+◌, ◌<◌, ◌≤◌, [], ◌∷◌, length, Some, None, IfSome, IfNone};
-ghost use Rattle.port_words.specs.home.Seats.{HomeKnown};
+ghost use Rattle.std.specs.Prelude.{◌≡◌, ◌<◌, [], ◌∷◌, Some, None, IfSome, IfNone};
 ghost use Rattle.port_sched.specs.Counts.{BeginsAt};
 ghost use Rattle.port_sched.specs.Homes.{HomeStep, turns_of, FoundNotIdle};
 

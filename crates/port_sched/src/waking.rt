@@ -1,5 +1,5 @@
 // What a job beside the schedulers does once it put something for a port.
-ghost use Rattle.std.specs.Prelude.{◌≡◌, ◌<◌, List, length};
+ghost use Rattle.std.specs.Prelude.{◌<◌, List, length};
 ghost use Rattle.port_words.specs.declared.home.homes.Ticket.{Ticket};
 ghost use Rattle.port_sched.specs.Homes.{AreHomes};
 ghost use Rattle.port_sched.specs.Serving.{KeptBy};

@@ -1,5 +1,5 @@
 -- The faults that the calls of a row counted.
-use Rattle.std.proofs.Common.{◌≡◌, ◌≤◌, ◌+◌, ◌-◌, ◌^◌, ℕ, min, List, [], ap, arith}
+use Rattle.std.proofs.Common.{◌≡◌, ◌≤◌, ◌-◌, ◌^◌, ℕ, List, [], ap, arith}
 use Rattle.port_driver.specs.Context.{Context}
 use Rattle.port_driver.specs.Faults.{failures, RisenBy, CountsFailures}
 use Rattle.port_model.specs.port_signal.declared.outside.Outside.{Outside}

@@ -1,5 +1,5 @@
 //! How a row ends the service of a port's driver.
-ghost use Rattle.std.specs.Prelude.{◌≡◌, ◌≤◌, ◌+◌, true, false, length, OnOk, if◌then◌else◌};
+ghost use Rattle.std.specs.Prelude.{◌≡◌, ◌≤◌, false, OnOk, if◌then◌else◌};
 ghost use Rattle.port_driver.specs.driver_model.Calls.{is_empty};
 ghost use Rattle.port_driver.specs.Driven.{Keeps, MayCall};
 ghost use Rattle.port_driver.specs.Faults.{CountsFailures};

@@ -1,4 +1,4 @@
-ghost use Rattle.std.specs.Prelude.{◌≡◌, ◌≢◌, ◌==◌, ◌≤◌, ◌+◌, ◌⊎◌, ℕ, List, [], ◌++◌, true, false, None, length, replicate, if◌then◌else◌, is_some, IfOk, IfErr, OnOk, OnErr};
+ghost use Rattle.std.specs.Prelude.{◌≡◌, ◌≢◌, ◌==◌, ◌≤◌, ◌⊎◌, ℕ, List, [], false, None, length, if◌then◌else◌, IfOk, IfErr, OnOk, OnErr};
 ghost use Rattle.std.specs.List.{concat};
 ghost use Rattle.port_driver.specs.Driven.{Stands};
 ghost use Rattle.port_driver.specs.Faults.{failures, RisenBy};

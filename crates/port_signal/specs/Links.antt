@@ -1,5 +1,5 @@
 -- The processes that are linked to a port, and the monitors of it, as lists in rising order, each once.
-use Rattle.std.specs.Prelude.{◌==◌, ℕ, List, [], ◌∷◌, ◌++◌, Bool, false, not, ◌&&◌, ◌||◌, if◌then◌else◌, nat_lt, filter}
+use Rattle.std.specs.Prelude.{◌==◌, ℕ, List, [], ◌∷◌, Bool, false, not, ◌&&◌, ◌||◌, if◌then◌else◌, nat_lt, filter}
 use Rattle.port_signal.specs.declared.monitor.Monitor.{Monitor}
 use Rattle.port_signal.specs.Reasons.{is_normal}
 

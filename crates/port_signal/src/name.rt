@@ -1,4 +1,4 @@
-ghost use Rattle.std.specs.Prelude.{◌≡◌, ◌<◌, ◌≤◌, ◌↔◌, IsTrue, Some, None, IfOk, IfErr, length, nat_lt, ◌&&◌};
+ghost use Rattle.std.specs.Prelude.{◌≡◌, ◌<◌, ◌≤◌, ◌↔◌, IsTrue, Some, None, IfOk, IfErr, nat_lt, ◌&&◌};
 ghost use Rattle.port_signal.specs.Name.{name_fault, may_stand};
 ghost use Rattle.port_signal.specs.ReasonFault.{place_of};
 

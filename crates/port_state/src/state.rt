@@ -1,7 +1,4 @@
-ghost use Rattle.std.specs.Prelude.{◌≡◌, ◌≤◌, ◌⊎◌, ◌<◌, IfOk, IfErr, OnOk, is_some, not};
-ghost use Rattle.port_links.specs.port_history.State.{State};
-ghost use Rattle.port_links.specs.port_history.Opening.{Opening};
-ghost use Rattle.port_state.specs.View.{IsStateOf};
+ghost use Rattle.std.specs.Prelude.{◌≡◌, ◌<◌, is_some, not};
 
 use crate::{Driver, Reason};
 use port_links::Links;

@@ -1,8 +1,7 @@
 // The steps of one call, on the lane's end and the seat of its port.
-ghost use Rattle.std.specs.Prelude.{◌≡◌, ◌<◌, ◌≤◌, ◌&&◌, ◌||◌, ◌+◌, true, false, length, OnOk, IfOk, OnErr, IfErr, ℕ, Bool, Some};
+ghost use Rattle.std.specs.Prelude.{◌≡◌, ◌<◌, ◌≤◌, ◌&&◌, ◌||◌, true, false, length, OnOk, IfOk, OnErr, IfErr, ℕ, Bool, Some};
 ghost use Rattle.port_words.specs.busy.Known.{TakesBack};
 ghost use Rattle.port_model.specs.Signals.{data_size, is_command};
-ghost use Rattle.port_lanes.specs.port_history.Suspension.{is_queue_busy};
 ghost use Rattle.process_receipts.specs.Asks.{asked, is_forcing, is_stopping};
 ghost use Rattle.process_receipts.specs.Receipts.{IsReceiptOf, MayLook};
 ghost use Rattle.process_end.specs.Steps.{tasks_of, HasPut, HasSent, HasStepped, HasUndone, MayPut};

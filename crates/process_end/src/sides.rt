@@ -1,5 +1,5 @@
 // A process with its ports: what one that may send and a suspended one share.
-ghost use Rattle.std.specs.Prelude.{◌≡◌, ◌<◌, ◌≤◌, ◌^◌, ℕ, true, false, Bool, Some, unwrap_or, [], length, slice_index_or, reverse, OnOk, IfOk, OnErr};
+ghost use Rattle.std.specs.Prelude.{◌≡◌, ◌<◌, ◌≤◌, ◌^◌, ℕ, true, false, Bool, Some, unwrap_or, [], length, slice_index_or, IfOk, OnErr};
 ghost use Rattle.port_words.specs.busy.Known.{SendKnown};
 ghost use Rattle.port_model.specs.declared.signal.Sender.TheVariants.{Process};
 ghost use Rattle.port_model.specs.Signals.{data_size, is_command};

@@ -1,6 +1,6 @@
 -- The end of a process that made its steps.
-use Rattle.std.proofs.Common.{◌≡◌, ℕ, ◌+◌, ◌<◌, ◌≤◌, List, [], ◌∷◌, ◌++◌, length, Bool, true, false, cond, ◌&&◌, zero, suc, None, refl, sym, ap, ◌∙◌, subst, append_assoc, arith, zero-add, ⊎_elim}
-use Rattle.std.specs.Prelude.{map, reverse}
+use Rattle.std.proofs.Common.{◌≡◌, ℕ, ◌+◌, ◌<◌, ◌≤◌, List, [], ◌∷◌, ◌++◌, length, Bool, true, false, cond, ◌&&◌, zero, suc, refl, sym, ap, ◌∙◌, subst, arith, zero-add, ⊎_elim}
+use Rattle.std.specs.Prelude.{reverse}
 use Rattle.std.specs.List.{AllByRecursion}
 use Rattle.std.proofs.lemmas.Bool.{cases_lt}
 use Rattle.std.proofs.lemmas.List.{append-nil, reverse-append, reverse-reverse}
@@ -11,12 +11,12 @@ use Rattle.process_end.specs.process_receipts.Receipts.{is_put}
 use Rattle.process_end.specs.declared.answers.ProcEnd.{ProcEnd}
 use Rattle.process_end.specs.Views.{ProcView}
 use Rattle.process_end.specs.Calls.{HasAsked}
-use Rattle.process_end.specs.Ended.{gone_ask, gone_asks, HasToldPort, HasToldPorts, HasEnded}
+use Rattle.process_end.specs.Ended.{gone_ask, gone_asks, HasToldPorts, HasEnded}
 use Rattle.process_end.proofs.Adds.{split}
 use Rattle.script_plan.specs.declared.step.Step.{Step}
-use Rattle.process_job.specs.Asks.{calls_of, end_reason, made_asks, made_of}
-use Rattle.process_job.specs.Mails.{Came, mail_from, own_mails, is_closed, noproc_mail, AreReplied}
-use Rattle.process_job.specs.Going.{ProcessState, state, AreSamePorts, HasHeard}
+use Rattle.process_job.specs.Asks.{calls_of, end_reason, made_of}
+use Rattle.process_job.specs.Mails.{own_mails, is_closed, AreReplied}
+use Rattle.process_job.specs.Going.{state, AreSamePorts, HasHeard}
 use Rattle.process_job.specs.Jobs.{IsFreshProcess}
 use Rattle.process_job.specs.Steps.{HasMadeSteps, HasRunToEnd, HasTakenNone}
 use Rattle.process_job.specs.Waits.{AgreesClosed, FoundClosed, ShowsClosed, WaitsAreShown}

@@ -1,14 +1,14 @@
 -- What a process does, one step after another.
-use Rattle.std.proofs.Common.{◌≡◌, ℕ, ◌+◌, ◌<◌, List, [], ◌∷◌, ◌++◌, length, Bool, true, false, cond, ◌&&◌, Option, Some, None, refl, sym, ap, ◌∙◌, subst, append_assoc, arith}
+use Rattle.std.proofs.Common.{◌≡◌, ℕ, ◌+◌, List, [], ◌∷◌, ◌++◌, length, cond, Some, None, refl, sym, ap, ◌∙◌, subst, append_assoc, arith}
 use Rattle.std.specs.Prelude.{map}
 use Rattle.std.proofs.lemmas.List.{append-nil, map-append, length-append}
 use Rattle.port_model.specs.declared.mail.Mail.{Mail}
 use Rattle.process_end.specs.process_receipts.declared.receipt.Receipt.{Receipt}
 use Rattle.process_end.specs.process_receipts.Asks.{Asked}
-use Rattle.process_end.specs.Views.{ProcView, StoppedView}
+use Rattle.process_end.specs.Views.{ProcView}
 use Rattle.process_end.specs.Calls.{HasAsked, HasMade}
 use Rattle.process_end.specs.Looked.{HasLookedAt}
-use Rattle.process_end.specs.Mailbox.{TookMail, FoundNone}
+use Rattle.process_end.specs.Mailbox.{TookMail}
 use Rattle.process_job.specs.Mails.{Came, came_from, mail_from, own_mails, is_closed, noproc_mail, readable, AreReplied}
 use Rattle.process_job.specs.Going.{ProcessState, state, AreSamePorts, HasHeard, Goes, MakesCalls, Waits}
 use Rattle.process_job.proofs.Mailing.{mail_from-append, mails_came, own_came, none_own, own_mails-append, replied_more, replied_append, heard_none, heard_then, heard_own, heard_took}

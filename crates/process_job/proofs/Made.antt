@@ -1,5 +1,5 @@
 -- The calls of a step that were made.
-use Rattle.std.proofs.Common.{◌≡◌, ℕ, ◌-◌, ◌≤◌, List, [], ◌∷◌, ◌++◌, length, Bool, true, false, cond, ◌&&◌, not, Option, Some, None, Result, zero, suc, refl, sym, ap, ◌∙◌, subst, append_assoc, arith, Ok, Err, inl, inr}
+use Rattle.std.proofs.Common.{◌≡◌, ℕ, ◌-◌, ◌≤◌, List, [], ◌∷◌, ◌++◌, length, Bool, true, false, cond, ◌&&◌, not, Some, None, Result, zero, suc, refl, sym, ap, ◌∙◌, subst, append_assoc, arith, Ok, Err, inl, inr}
 use Rattle.std.specs.Prelude.{◌↔◌, IsTrue, map, reverse, take, drop, unwrap_or}
 use Rattle.std.proofs.lemmas.Bool.{false≢true}
 use Rattle.std.proofs.lemmas.List.{append-nil, reverse-append, length-drop}
@@ -9,8 +9,6 @@ use Rattle.process_end.specs.process_receipts.declared.how.How.TheVariants.{Plai
 use Rattle.process_end.specs.process_receipts.declared.receipt.Receipt.{Receipt}
 use Rattle.process_end.specs.process_receipts.Asks.{Asked, asked}
 use Rattle.process_end.specs.process_receipts.Receipts.{is_put}
-use Rattle.port_model.specs.declared.signal.Signal.{Signal}
-use Rattle.port_model.specs.Signals.{data_size}
 use Rattle.process_end.specs.declared.answers.Commanded.{Commanded}
 use Rattle.process_end.specs.declared.answers.Commanded.TheVariants as commanded
 use Rattle.process_end.specs.declared.answers.SendRefusal.{SendRefusal}
@@ -21,8 +19,8 @@ use Rattle.process_end.proofs.Adds.{split}
 use Rattle.process_end.specs.Views.{ProcView}
 use Rattle.process_end.specs.Calls.{HasMade}
 use Rattle.process_job.specs.Asks.{pieces, pieces_up_to, made_of_step, ends_file}
-use Rattle.process_job.specs.Mails.{Came, came_from, noproc_mail, is_replied, is_closed, HasReply, AreReplied}
-use Rattle.process_job.specs.Going.{ProcessState, state, Goes, MakesCalls, Waits}
+use Rattle.process_job.specs.Mails.{Came, came_from, noproc_mail, is_replied, is_closed, HasReply}
+use Rattle.process_job.specs.Going.{ProcessState, state, MakesCalls, Waits}
 use Rattle.process_job.specs.Steps.{AreMadeOf, MakesCallsOf, MakesCommand}
 use Rattle.process_job.proofs.Goings.{goes_made, goes_none, goes_then, makes_then}
 

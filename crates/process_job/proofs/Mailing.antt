@@ -1,12 +1,11 @@
 -- Mail that came, and mail that a process adds, one after another.
-use Rattle.std.proofs.Common.{◌≡◌, ℕ, ◌+◌, List, [], ◌∷◌, ◌++◌, length, Bool, true, false, cond, eqb, ◌&&◌, Option, Some, None, refl, sym, ap, ◌∙◌, subst, append_assoc, arith, suc}
+use Rattle.std.proofs.Common.{◌≡◌, ℕ, ◌+◌, List, [], ◌∷◌, ◌++◌, length, cond, eqb, Option, Some, None, refl, sym, ap, ◌∙◌, append_assoc, arith, suc}
 use Rattle.std.specs.Prelude.{map, filter, not, Contains}
-use Rattle.std.proofs.lemmas.List.{append-nil, map-append, length-append}
+use Rattle.std.proofs.lemmas.List.{append-nil, map-append}
 use Rattle.std.proofs.lemmas.List.Elements.{filter-append, Contains-append_left}
 use Rattle.process_end.specs.task_queue.declared.item.Item.{Item}
 use Rattle.process_end.specs.task_queue.Items.{of}
 use Rattle.port_model.specs.declared.mail.Mail.{Mail}
-use Rattle.port_model.specs.Signals.{is_command}
 use Rattle.process_end.specs.process_receipts.declared.receipt.Receipt.{Receipt}
 use Rattle.process_end.specs.process_receipts.Asks.{Asked}
 use Rattle.process_end.specs.Mailbox.{Mailbox, TookMail}

@@ -1,10 +1,9 @@
 -- The ends and seats of a process after a call or a look.
-use Rattle.std.proofs.Common.{◌≡◌, ◌≢◌, ℕ, ◌<◌, length, List, [], ◌∷◌, ◌++◌, Bool, true, false, ◌||◌, Option, Some, None, refl, sym, ap, ◌∙◌, subst, append_assoc}
+use Rattle.std.proofs.Common.{◌≡◌, ℕ, ◌<◌, length, List, [], ◌∷◌, ◌++◌, true, ◌||◌, Option, Some, None, refl, sym, ap, ◌∙◌, subst}
 use Rattle.std.specs.Prelude.{slice_index_or}
 use Rattle.std.specs.List.{list_any}
-use Rattle.std.proofs.lemmas.List.{append-nil}
 use Rattle.std.proofs.lemmas.List.Folds.{list_any-append}
-use Rattle.port_words.specs.busy.Known.{SendKnown, AddsTo, FindsBusy}
+use Rattle.port_words.specs.busy.Known.{SendKnown}
 use Rattle.port_words.specs.busy.Stat.{tells_closed}
 use Rattle.process_end.specs.process_receipts.declared.receipt.Outcome.{Outcome}
 use Rattle.process_end.specs.process_receipts.declared.receipt.Outcome.TheVariants.{Accepted, Suspended, Dropped, Closed, NotSupported, TooLong, SentOut}

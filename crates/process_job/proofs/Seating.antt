@@ -1,5 +1,5 @@
 -- What a job does with its seats, by one call after another.
-use Rattle.std.proofs.Common.{◌≡◌, ℕ, ◌≤◌, List, [], ◌∷◌, length, Result, Ok, Err, Some, refl, sym, subst, ap, ◌∙◌, true≢false, arith}
+use Rattle.std.proofs.Common.{◌≡◌, ◌≤◌, List, [], length, Result, Ok, Err, Some, refl, sym, subst, ap, ◌∙◌, true≢false, arith}
 use Rattle.port_words.specs.declared.home.homes.Ticket.{Ticket}
 use Rattle.port_words.specs.over.Over.{OverKnown, over_known, finished_view, stopped_view}
 use Rattle.port_sched.specs.declared.body.PortBody.{Ghosts}
@@ -15,8 +15,8 @@ use Rattle.no_memory.specs.declared.NoMemory.{NoMemory}
 use Rattle.process_job.specs.declared.halt.Halt.{Halt}
 use Rattle.process_job.specs.declared.halt.Halt.TheVariants as halt
 use Rattle.process_job.specs.declared.seats.ProcessSeats.{ProcessSeats}
-use Rattle.std.specs.Prelude.{IsErrAnd, IsErr}
-use Rattle.process_job.specs.Seats.{HasPorts, HasFinished, SeatsGo, SeatsAfter, SeatsHalted, HaltsWith, SawStop}
+use Rattle.std.specs.Prelude.{IsErrAnd}
+use Rattle.process_job.specs.Seats.{HasPorts, HasFinished, SeatsGo, SeatsAfter, SeatsHalted, SawStop}
 use Rattle.process_job.specs.declared.job.ProcessWork.{ProcessWork}
 use Rattle.process_job.specs.declared.job.EndedProcess.{EndedProcess}
 use Rattle.process_job.specs.declared.job.ProcessEnd.{ProcessEnd}

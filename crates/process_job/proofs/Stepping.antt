@@ -1,12 +1,11 @@
 -- The steps of a process, one after another.
-use Rattle.std.proofs.Common.{◌≡◌, ◌⊎◌, ℕ, ◌+◌, ◌<◌, ◌≤◌, List, [], ◌∷◌, ◌++◌, length, Bool, true, false, cond, Result, Ok, Err, refl, sym, ap, ◌∙◌, subst, append_assoc, arith, inl, inr, nat_lt}
+use Rattle.std.proofs.Common.{◌≡◌, ℕ, ◌+◌, ◌<◌, ◌≤◌, List, [], ◌∷◌, ◌++◌, length, Bool, true, false, cond, Result, Ok, Err, refl, sym, ap, ◌∙◌, subst, append_assoc, arith, inl, inr, nat_lt}
 use Rattle.std.specs.Prelude.{map, reverse, drop, filter, IfOk, codes}
 use Rattle.std.proofs.lemmas.List.{append-nil, length-append, length-reverse, reverse-append}
 use Rattle.std.proofs.lemmas.List.Elements.{filter-append}
 use Rattle.std.proofs.lemmas.List.Sums.{sum_by-append}
 use Rattle.std.proofs.lemmas.Bool.Decides.{nat_tests}
 use Rattle.std.proofs.Math.Seq.{drop-append_seam}
-use Rattle.process_end.specs.port_lanes.Parcels.{names_below}
 use Rattle.port_model.specs.declared.mail.Mail.{Mail}
 use Rattle.port_words.specs.busy.Known.{SendKnown}
 use Rattle.process_end.specs.process_receipts.declared.receipt.Receipt.{Receipt}
@@ -16,14 +15,13 @@ use Rattle.script_plan.specs.declared.step.Act.{Act}
 use Rattle.script_plan.specs.declared.step.Act.TheVariants.{Command, File, Send, Control, Call, Close, Connect, SendClose, SendConnect, Link, Unlink, Monitor, Demonitor, Exit, Expect, Bytes, Die}
 use Rattle.script_plan.specs.Monitors.{is_die}
 use Rattle.script_plan.specs.Plan.{IsWithin}
-use Rattle.process_end.specs.Commanded.{signal_of}
 use Rattle.process_job.specs.declared.action.StepAction.{StepAction}
 use Rattle.process_job.specs.declared.action.StepAction.TheVariants as action
 use Rattle.process_job.specs.Asks.{is_file, asks_of, calls_of, end_reason, reason_of, files_after, made_of, made_of_step, next_content}
 use Rattle.process_job.specs.Mails.{Came, messages_of, bytes_of, is_data_of, size_from}
 use Rattle.process_job.specs.Waits.{HasWaited, WaitIsShown, WaitsAreShown}
 use Rattle.process_job.specs.Actions.{action_of, asks_by, ActionWithin, EndedWait}
-use Rattle.process_job.specs.Going.{ProcessState, Goes, MakesCalls}
+use Rattle.process_job.specs.Going.{ProcessState, Goes}
 use Rattle.process_job.specs.Steps.{AreMadeOf, HasComeTo, HasMadeSteps, IsLater, MakesCallsOf}
 use Rattle.process_job.proofs.Goings.{goes_none, makes_then}
 use Rattle.process_job.proofs.Shut.{stays_closed}

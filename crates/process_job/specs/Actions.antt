@@ -1,5 +1,5 @@
 -- What a step comes to.
-use Rattle.std.specs.Prelude.{◌≡◌, ◌⊎◌, ℕ, ◌<◌, ◌≤◌, Bool, true, false, List, [], ◌∷◌, map, Result, Ok, Err}
+use Rattle.std.specs.Prelude.{◌≡◌, ◌⊎◌, ℕ, ◌<◌, ◌≤◌, true, List, [], ◌∷◌, map, Result, Ok, Err}
 use Rattle.process_end.specs.process_receipts.declared.how.How.{How}
 use Rattle.process_end.specs.process_receipts.declared.how.How.TheVariants as how
 use Rattle.process_end.specs.process_receipts.Asks.{Asked, asked}

@@ -1,7 +1,6 @@
 -- The calls that a process makes by its steps, and which of them were made.
 use Rattle.std.specs.Prelude.{ℕ, ◌+◌, List, [], ◌∷◌, ◌++◌, Bool, true, false, length, take, drop, map, reverse, codes, if◌then◌else◌}
 use Rattle.std.proofs.Common.{zero, suc}
-use Rattle.port_model.specs.declared.signal.Signal.{Signal}
 use Rattle.port_model.specs.declared.signal.Signal.TheVariants as signal
 use Rattle.process_end.specs.process_receipts.declared.how.How.{How}
 use Rattle.process_end.specs.process_receipts.declared.how.How.TheVariants as how

@@ -1,5 +1,5 @@
 -- What a process does from one moment to a later one.
-use Rattle.std.specs.Prelude.{◌≡◌, ℕ, ◌<◌, List, [], ◌++◌, length, map, true, Option, Some, None, slice_index_or}
+use Rattle.std.specs.Prelude.{◌≡◌, ℕ, List, [], ◌++◌, length, map, true, Some, None, slice_index_or}
 use Rattle.process_end.specs.task_queue.Items.{of}
 use Rattle.std.specs.List.{AllByRecursion}
 use Rattle.port_model.specs.declared.mail.Mail.{Mail}

@@ -1,5 +1,5 @@
 -- What a wait leaves.
-use Rattle.std.specs.Prelude.{◌≡◌, List, [], ◌∷◌, Result, Ok, Err}
+use Rattle.std.specs.Prelude.{List, [], ◌∷◌, Result, Ok, Err}
 use Rattle.port_model.specs.declared.mail.Mail.{Mail}
 use Rattle.port_words.specs.over.Over.{OverKnown}
 use Rattle.port_sched.specs.Running.{Looked}

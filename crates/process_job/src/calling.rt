@@ -1,7 +1,6 @@
 // The calls of a process: each is made, its port is woken where something was put, and what has to be waited for is.
 ghost use Rattle.std.specs.Prelude.{◌≡◌, ◌≢◌, if◌then◌else◌, not, false, ℕ, ◌<◌, ◌≤◌, [], ◌∷◌, ◌++◌, length, take, drop, true, Option, option_to_list, OnOk, IfOk, slice_index_or};
 ghost use Rattle.process_end.specs.port_lanes.Parcels.{names_below};
-ghost use Rattle.port_sched.specs.Homes.{AreHomes};
 ghost use Rattle.process_end.specs.process_receipts.declared.receipt.Receipt.{Receipt as TheReceipt};
 ghost use Rattle.process_end.specs.process_receipts.Asks.{asked};
 ghost use Rattle.process_end.specs.process_receipts.Receipts.{is_put};

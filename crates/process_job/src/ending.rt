@@ -1,5 +1,5 @@
 // The end of a process.
-ghost use Rattle.std.specs.Prelude.{◌≡◌, ◌<◌, length, IfOk};
+ghost use Rattle.std.specs.Prelude.{◌<◌, IfOk};
 ghost use Rattle.port_sched.specs.Homes.{AreHomes};
 ghost use Rattle.port_words.specs.over.Over.{HasToFinish};
 ghost use Rattle.process_end.specs.Ended.{HasEnded};

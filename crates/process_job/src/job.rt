@@ -1,4 +1,4 @@
-ghost use Rattle.std.specs.Prelude.{◌≡◌, ℕ, ◌≤◌, [], length, Some, None, IsSome, IfSome, IfOk, List};
+ghost use Rattle.std.specs.Prelude.{◌≡◌, ℕ, [], length, Some, None, IsSome, IfSome, List};
 ghost use Rattle.port_words.specs.declared.home.homes.Ticket.{Ticket};
 ghost use Rattle.port_words.specs.over.Over.{HasNotStopped};
 ghost use Rattle.port_sched.specs.Waking.{Woke};

@@ -1,5 +1,5 @@
 // The mail of a process.
-ghost use Rattle.std.specs.Prelude.{◌≡◌, ◌≤◌, ◌<◌, [], ◌∷◌, ◌++◌, ℕ, List, length, IsTrue, OnOk, IfOk};
+ghost use Rattle.std.specs.Prelude.{◌≡◌, ◌<◌, [], ◌∷◌, ◌++◌, List, IsTrue, OnOk, IfOk};
 ghost use Rattle.port_model.specs.declared.mail.Mail.{Mail as TheMail};
 ghost use Rattle.process_job.specs.Counts.{AreCounted, HasData};
 

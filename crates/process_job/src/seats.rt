@@ -1,5 +1,5 @@
 // What a process has beside its ports' lanes and words.
-ghost use Rattle.std.specs.Prelude.{◌≡◌, ◌<◌, length, IsTrue};
+ghost use Rattle.std.specs.Prelude.{◌<◌, length, IsTrue};
 ghost use Rattle.port_sched.specs.Homes.{AreHomes};
 ghost use Rattle.port_sched.specs.Running.{Looked};
 ghost use Rattle.process_job.specs.Seats.{SawStop, SeatsAfter};

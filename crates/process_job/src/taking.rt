@@ -1,5 +1,5 @@
 // How a process takes its mail.
-ghost use Rattle.std.specs.Prelude.{◌≡◌, ◌++◌, ◌∷◌, [], ℕ, Some, List, OnOk, IfOk, false};
+ghost use Rattle.std.specs.Prelude.{◌≡◌, ◌++◌, ◌∷◌, [], ℕ, Some, OnOk, IfOk};
 ghost use Rattle.process_end.specs.Mailbox.{FoundNone};
 ghost use Rattle.process_job.specs.Mails.{HasReply, readable};
 ghost use Rattle.process_job.specs.Going.{state, Waits};

@@ -1,5 +1,5 @@
 -- What a sender's seat tells of its adds: those that it didn't take back, and which of them the queue has left behind.
-use Rattle.std.specs.Prelude.{◌≡◌, ◌⊎◌, ℕ, ◌*◌, ◌%◌, ◌<◌, ◌≤◌, ◌==◌, List, map, filter, length, Bool, true, false, ◌&&◌, ◌||◌, not, nat_lt, sum_by, All, Contains}
+use Rattle.std.specs.Prelude.{◌≡◌, ℕ, ◌*◌, ◌%◌, ◌<◌, ◌≤◌, ◌==◌, List, filter, length, Bool, true, false, ◌&&◌, ◌||◌, not, nat_lt, sum_by, All, Contains}
 use Rattle.std.specs.List.{list_any}
 use Rattle.port_words.specs.sums.Counts.{one_if}
 use Rattle.port_words.specs.declared.busy.view.AddHow.{AddHow}

@@ -1,5 +1,5 @@
 //! The armed entries of a poller, in rising order by event, port and direction.
-ghost use Rattle.std.specs.Prelude.{◌≡◌, ◌<◌, ◌≤◌, ℕ, Bool, ◌||◌, ◌&&◌, ◌++◌, ◌∷◌, [], not, filter, vec_len, vec_capacity, unwrap_or};
+ghost use Rattle.std.specs.Prelude.{◌≡◌, ◌<◌, ◌||◌, ◌&&◌, ◌++◌, ◌∷◌, [], not, filter, vec_len, vec_capacity, unwrap_or};
 ghost use Rattle.std.specs.List.Sorted.{IsStrictlySortedBy};
 ghost use Rattle.ready_select.specs.declared.armed.Armed.{Armed as Entry};
 ghost use Rattle.ready_select.specs.Order.{armed_cmp};

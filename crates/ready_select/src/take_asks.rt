@@ -1,4 +1,4 @@
-ghost use Rattle.std.specs.Prelude.{◌≡◌, List};
+ghost use Rattle.std.specs.Prelude.{List};
 ghost use Rattle.std.specs.List.Sorted.{IsStrictlySortedBy};
 ghost use Rattle.task_queue.specs.declared.item.Item.{Item as TheItem};
 ghost use Rattle.ready_select.specs.declared.ask.PollAsk.{PollAsk as Ask};

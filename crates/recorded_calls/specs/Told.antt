@@ -1,7 +1,6 @@
 -- What a driver does in a call whose answers are told to it.
 use Rattle.std.specs.Prelude.{◌≡◌, ℕ, List, ◌++◌, Bool, true, None}
 use Rattle.std.specs.List.{concat}
-use Rattle.driver_model.specs.port_signal.declared.outside.Outside.{Outside}
 use Rattle.driver_model.specs.port_model.declared.effect.Effect.{Effect}
 use Rattle.driver_model.specs.Calls as driver
 use Rattle.driver_model.specs.Calls.{DriverCall, call_of, Kind, Own}

@@ -1,5 +1,5 @@
 -- What stays the same of a port.
-use Rattle.std.proofs.Common.{◌≡◌, ◌≤◌, ◌^◌, ◌-◌, min, ℕ, Bool, true, false, List, [], ◌∷◌, ◌++◌, ◌+◌, length, length-append, Some, None, refl, sym, ap, ◌∙◌, subst, arith}
+use Rattle.std.proofs.Common.{◌≡◌, ◌^◌, ◌-◌, ℕ, Bool, true, false, List, [], ◌∷◌, ◌++◌, ◌+◌, length, length-append, Some, None, refl, sym, ap, ◌∙◌, subst, arith}
 use Rattle.std.specs.Prelude.{Result, Ok, Err, OnOk, not, if◌then◌else◌}
 use Rattle.std.proofs.lemmas.List.{append-nil, append_assoc}
 use Rattle.port_driver.specs.driver_model.Calls.{Kind}

@@ -1,6 +1,5 @@
 //! A task that comes to its row.
 ghost use Rattle.std.specs.Prelude.{◌≡◌, ◌<◌, ◌≤◌, ◌∷◌, ◌++◌, [], ℕ, List, OnOk, IfSome};
-ghost use Rattle.port_model.specs.Tasks.{TaskView};
 ghost use Rattle.port_model.specs.declared.row.Row.TheVariants.{Handled, Late};
 ghost use Rattle.port_lanes.specs.port_history.Mail.{handled_mail, row_mail};
 ghost use Rattle.port_lanes.specs.port_history.Opening.{taken_of};

@@ -1,4 +1,4 @@
-ghost use Rattle.std.specs.Prelude.{◌≡◌, ℕ, List, [], ◌∷◌, ◌++◌, length};
+ghost use Rattle.std.specs.Prelude.{◌≡◌, List, [], length};
 ghost use Rattle.port_words.specs.declared.home.homes.Ticket.{Ticket};
 ghost use Rattle.port_model.specs.declared.signal.Sender.TheVariants.{Poller};
 ghost use Rattle.ready_select.specs.declared.ask.PollAsk.{PollAsk as Ask};

@@ -1,5 +1,5 @@
 // A task for a port: it is put into the port's lane, and the port is woken.
-ghost use Rattle.std.specs.Prelude.{◌≡◌, ◌≢◌, ◌<◌, ℕ, true, false, [], ◌∷◌, ◌++◌, length, slice_index_or, OnOk, OnErr};
+ghost use Rattle.std.specs.Prelude.{◌≡◌, ◌<◌, ℕ, true, false, [], ◌∷◌, length, slice_index_or, OnOk, OnErr};
 ghost use Rattle.port_model.specs.declared.signal.Sender.{Sender};
 ghost use Rattle.port_model.specs.Signals.{is_command};
 ghost use Rattle.port_lanes.specs.port_history.Laws.{may_send};

@@ -1,5 +1,5 @@
 // Rows that become columns.
-ghost use Rattle.std.specs.Prelude.{◌≡◌, ◌+◌, ◌-◌, ◌<◌, ℕ, List, [], length, map, take, slice_set, slice_index_or, IfOk};
+ghost use Rattle.std.specs.Prelude.{◌≡◌, ◌+◌, ◌-◌, ◌<◌, [], length, map, take, slice_set, slice_index_or, IfOk};
 ghost use Rattle.run_lanes.specs.Rows.{AreColumns, AreRows, TakesColumn};
 
 use no_memory::NoMemory;

@@ -1,5 +1,5 @@
 // The lanes of ports, whose keys have the ports' words.
-ghost use Rattle.std.specs.Prelude.{◌≡◌, ◌+◌, ◌<◌, ◌≤◌, ◌^◌, length, map, IfOk};
+ghost use Rattle.std.specs.Prelude.{◌+◌, ◌<◌, ◌≤◌, ◌^◌, map, IfOk};
 ghost use Rattle.run_lanes.specs.Ends.{AreEndColumns};
 ghost use Rattle.run_lanes.specs.Keyed.{ends_in, ArePortLanes};
 

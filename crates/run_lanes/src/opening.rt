@@ -1,5 +1,5 @@
 // The lanes and words of a run.
-ghost use Rattle.std.specs.Prelude.{◌≡◌, ◌+◌, ◌-◌, ◌<◌, ◌≤◌, ℕ, Bool, List, ◌∷◌, [], ◌++◌, length, map, take, drop, All, IfOk, slice_index_or};
+ghost use Rattle.std.specs.Prelude.{◌≡◌, ◌+◌, ◌-◌, ◌<◌, ◌≤◌, ℕ, ◌∷◌, [], ◌++◌, length, All, IfOk, slice_index_or};
 ghost use Rattle.port_words.specs.declared.busy.view.QueueLimits.{QueueLimits as Limits};
 ghost use Rattle.port_words.specs.busy.Known.{InRange};
 ghost use Rattle.run_lanes.specs.declared.parts.PortLanes.{PortLanes as Port};

@@ -1,5 +1,5 @@
 // The ends of lanes that are given back.
-ghost use Rattle.std.specs.Prelude.{◌≡◌, ◌+◌, ◌<◌, ℕ, [], ◌∷◌, length, All, slice_index_or, slice_set};
+ghost use Rattle.std.specs.Prelude.{◌≡◌, ◌+◌, ◌<◌, [], ◌∷◌, length, All, slice_index_or, slice_set};
 ghost use Rattle.task_queue.specs.Ends.{Taking};
 ghost use Rattle.run_lanes.specs.Ends.{taken_in, AreOfLanes, Emptied, TakesEachIn};
 

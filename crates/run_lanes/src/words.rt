@@ -1,5 +1,5 @@
 // The words of ports: of each the port's seat, and a seat for each process.
-ghost use Rattle.std.specs.Prelude.{◌≡◌, ◌<◌, ◌≤◌, ◌∷◌, [], ◌++◌, List, length, map, All, IfOk, OnOk};
+ghost use Rattle.std.specs.Prelude.{◌<◌, ◌≤◌, ◌∷◌, [], ◌++◌, List, length, map, All, IfOk, OnOk};
 ghost use Rattle.port_words.specs.declared.busy.view.QueueLimits.{QueueLimits as Limits};
 ghost use Rattle.port_words.specs.busy.Known.{InRange};
 ghost use Rattle.run_lanes.specs.Words.{AreTables, AreWords};

@@ -1,9 +1,7 @@
 //! How the ports of a run are opened.
-ghost use Rattle.std.specs.Prelude.{◌≡◌, ◌<◌, ◌≤◌, ℕ, true, length, map, All, IfOk, IfErr};
+ghost use Rattle.std.specs.Prelude.{◌≡◌, ◌<◌, ℕ, length, map, All, IfOk, IfErr};
 ghost use Rattle.driver_hosts.specs.Back.{AllCameBack};
-ghost use Rattle.driver_hosts.specs.Finding.{Lacks};
 ghost use Rattle.driver_hosts.specs.Hosts.{IsUnused};
-ghost use Rattle.port_config.specs.Config.{is_config};
 ghost use Rattle.run_opening.specs.Opened.{AreDeclared, HaveLanes, HaveOpened, limits_of, soft_at, soft_of};
 ghost use Rattle.run_opening.specs.Faults.{AreNotOpened, IsFaultOf, IsRefusalOf};
 

@@ -1,5 +1,5 @@
 //! Where each port takes its tasks from, and where it puts what it sends and marks.
-ghost use Rattle.std.specs.Prelude.{◌≡◌, List, map, IfOk, All};
+ghost use Rattle.std.specs.Prelude.{◌≡◌, map, IfOk};
 ghost use Rattle.run_opening.specs.Opened.{limits_of, room_of};
 
 use driver_hosts::{PortEnds, PortOutlets, PortRoom};

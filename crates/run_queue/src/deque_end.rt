@@ -1,7 +1,7 @@
 // The ends of one deque that one seat has.
-ghost use Rattle.std.specs.Prelude.{◌≡◌, ◌+◌, ◌<◌, ◌≤◌, List, [], ◌∷◌, ◌++◌, length, vec_len, vec_capacity, Some, None, IsSome, IfSome, IfNone, IfErr, IfOk, OnOk, MatchOption, ⊤, All, map};
+ghost use Rattle.std.specs.Prelude.{◌≡◌, ◌+◌, ◌<◌, ◌≤◌, List, [], ◌∷◌, length, vec_capacity, Some, None, IsSome, IfSome, IfNone, IfErr, IfOk, OnOk, MatchOption, ⊤, All, map};
 ghost use Rattle.crossbeam_deque.specs.Handles.{view, IsPassOf, stealer_deque, worker_deque, worker_view, stealer_flavor, worker_flavor};
-ghost use Rattle.run_queue.specs.Account.{after_put, after_take, parts_of, put_weight, taken_weight, WasEmpty};
+ghost use Rattle.run_queue.specs.Account.{after_put, after_take, WasEmpty};
 ghost use Rattle.port_words.specs.declared.home.homes.Ticket.{Ticket};
 ghost use Rattle.run_queue.specs.Ends.{IsOwnerOf, IsGuestOf, owner_view, guest_view, IsFreshOwner, parts_left};
 ghost use Rattle.run_queue.specs.Seats.{counted, stolen_of, deque_known, put_own, took_own, stole, OwnerSawEmpty, GuestSawEmpty, the_own, joined_deque, guest_end, with_own, HasAll, IsRest, hands_of, IsSameAccount, KeepsShape};

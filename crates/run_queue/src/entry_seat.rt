@@ -1,7 +1,7 @@
-ghost use Rattle.std.specs.Prelude.{◌≡◌, ◌+◌, ◌<◌, List, [], ◌∷◌, Some, None, IfOk, IfSome, IfNone, IfErr, OnOk, OnErr};
+ghost use Rattle.std.specs.Prelude.{◌≡◌, ◌<◌, List, [], ◌∷◌, Some, None, IfOk, IfSome, IfNone, IfErr, OnOk, OnErr};
 ghost use Rattle.std.specs.Arc.{arc_value};
 ghost use Rattle.crossbeam_deque.specs.Injected.{IsInjectorPassOf, injector_view};
-ghost use Rattle.run_queue.specs.Account.{all_parts, first_hand, after_put, after_take, other_parts, one_part, WasEmpty, IsLeft};
+ghost use Rattle.run_queue.specs.Account.{all_parts, first_hand, after_take, other_parts, one_part, WasEmpty, IsLeft};
 ghost use Rattle.port_words.specs.declared.home.homes.Ticket.{Ticket};
 ghost use Rattle.run_queue.specs.Seats.{EntryKnown, entry_known, put_entry, took_entry, joined_entry, EntrySawEmpty};
 

@@ -1,5 +1,5 @@
 // How the seats of the queues are made.
-ghost use Rattle.std.specs.Prelude.{◌≡◌, ◌+◌, ◌-◌, ◌<◌, ◌∷◌, ◌≤◌, List, [], vec_len, length, map, replicate, Some, slice_get, IfOk, OnOk, IsSome, All};
+ghost use Rattle.std.specs.Prelude.{◌≡◌, ◌+◌, ◌-◌, ◌<◌, ◌≤◌, List, [], vec_len, length, map, replicate, Some, slice_get, IfOk, OnOk, All};
 ghost use Rattle.crossbeam_deque.specs.Handles.{worker_deque, worker_flavor, worker_view};
 ghost use Rattle.run_queue.specs.Account.{all_parts, first_hand, hand};
 ghost use Rattle.run_queue.specs.Ends.{IsFreshOwner, AreGiven, owner_ids};

@@ -1,4 +1,4 @@
-ghost use Rattle.std.specs.Prelude.{◌≡◌, ◌≢◌, ◌+◌, ◌<◌, ◌≤◌, List, [], ◌∷◌, length, vec_len, slice_get, Some, IsSome, IfSome, IfNone, IfErr, OnOk, All};
+ghost use Rattle.std.specs.Prelude.{◌≡◌, ◌+◌, ◌<◌, List, [], ◌∷◌, length, slice_get, Some, IfSome, IfNone, IfErr, OnOk, All};
 ghost use Rattle.port_words.specs.declared.home.homes.Ticket.{Ticket};
 ghost use Rattle.run_queue.specs.Seats.{RunKnown, run_known, put_own, took_own, put_by_owner, OwnerSawEmpty, OthersSawEmpty, Stole, Took, EachSawEmpty, AreOfOneQueue, joined_seat, joined_deques, joined_entry, changed_at, DequeKnown, OwnsItsDeque, IsDequeEnd, HasGuest, SawEmptyAt, GuestSawEmpty, stole, joined_deque, CanJoin, CanJoinEach, KeepsEnds, TookOwn, OwnSawEmpty, EntrySawEmpty, took_entry, HasEvery, HasAll, IsLeftOf, AreLeftOf, counted, stolen_by};
 

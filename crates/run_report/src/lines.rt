@@ -1,6 +1,5 @@
 //! The lines of the commands that run nothing.
-ghost use Rattle.std.specs.Prelude.{◌≡◌, IfOk, length};
-ghost use Rattle.std.specs.List.{sum_by};
+ghost use Rattle.std.specs.Prelude.{◌≡◌, IfOk};
 ghost use Rattle.run_report.specs.Lines.{check_text_of, replay_text_of, rows_of};
 
 use crate::counts::checked_sum;

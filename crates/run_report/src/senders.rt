@@ -1,5 +1,5 @@
 //! How many commands each process put, as the rows of the ports tell.
-ghost use Rattle.std.specs.Prelude.{◌≡◌, ◌==◌, ◌&&◌, OnOk, if◌then◌else◌};
+ghost use Rattle.std.specs.Prelude.{◌==◌, ◌&&◌, OnOk, if◌then◌else◌};
 ghost use Rattle.port_model.specs.Signals.{is_command};
 ghost use Rattle.port_history.specs.Opening.{is_process};
 ghost use Rattle.run_report.specs.Processes.{HasMore, is_command_of};

@@ -1,5 +1,5 @@
 //! A seated run, from its beginning to its end.
-ghost use Rattle.std.specs.Prelude.{◌≡◌, ◌+◌, ℕ, List};
+ghost use Rattle.std.specs.Prelude.{◌+◌, ℕ, List};
 ghost use Rattle.run_seats.specs.declared.plans.ProcessPlan.{ProcessPlan as Plan};
 ghost use Rattle.run_seats.specs.declared.seating.OtherLanes.{OtherLanes as Lanes};
 ghost use Rattle.run_seats.specs.Ran.{HasRunSeated, KeepBodies};

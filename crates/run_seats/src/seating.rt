@@ -1,5 +1,5 @@
 //! A run is seated: each job and each scheduler gets what it needs, before the run.
-ghost use Rattle.std.specs.Prelude.{◌≡◌, ◌<◌, ◌≤◌, ◌+◌, ◌++◌, ◌∷◌, ℕ, [], length, All, IfOk, IfErr};
+ghost use Rattle.std.specs.Prelude.{◌≡◌, ◌<◌, ◌≤◌, ◌+◌, ℕ, [], length, All, IfOk, IfErr};
 ghost use Rattle.atomic_table.specs.Seated.{TableId};
 ghost use Rattle.run_jobs.specs.Finishing.{CanTellEnd};
 ghost use Rattle.run_jobs.specs.Rounds.{CanPoll};

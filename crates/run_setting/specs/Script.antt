@@ -1,5 +1,5 @@
 -- What a run can be made of.
-use Rattle.std.specs.Prelude.{ℕ, ◌<◌, ◌≤◌, All, length}
+use Rattle.std.specs.Prelude.{◌<◌, ◌≤◌, All, length}
 use Rattle.run_end.specs.process_job.Jobs.{AreWithin}
 use Rattle.run_end.specs.run_lanes.declared.size.LaneSize.{LaneSize}
 use Rattle.run_opening.specs.Opened.{AreDeclared}

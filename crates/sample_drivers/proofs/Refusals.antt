@@ -1,7 +1,7 @@
 -- The drivers that refuse to start have no effect and keep nothing.
 use Rattle.std.proofs.Common.{arith, refl}
 use Rattle.std.specs.Prelude.{None}
-use Rattle.driver_model.specs.Calls.{Nothing, Refuse1, Refuse2, Refuse3}
+use Rattle.driver_model.specs.Calls.{Nothing}
 use Rattle.port_driver.specs.Driven.{Ended}
 use Rattle.sample_drivers.specs.declared.refuse.Refused.{Refused}
 use Rattle.sample_drivers.specs.declared.refuse.Refused.TheVariants.{General, Errno, Badarg}

@@ -1,7 +1,6 @@
-ghost use Rattle.std.specs.Prelude.{◌≡◌, ◌+◌, ◌<◌, ◌++◌, ◌∷◌, None, length, IfOk, OnOk, if◌then◌else◌};
-ghost use Rattle.std.specs.List.{concat};
+ghost use Rattle.std.specs.Prelude.{◌≡◌, ◌+◌, ◌<◌, None, length, IfOk, OnOk, if◌then◌else◌};
 ghost use Rattle.driver_model.specs.Calls.{Digest as DigestKind, Submitted};
-ghost use Rattle.driver_model.specs.Digest.{command_effects, is_job};
+ghost use Rattle.driver_model.specs.Digest.{is_job};
 ghost use Rattle.port_driver.specs.Driven.{KeepsRoom};
 ghost use Rattle.sample_drivers.specs.Digests.{Commands};
 

@@ -1,9 +1,7 @@
-ghost use Rattle.std.specs.Prelude.{◌≡◌, ◌==◌, ◌+◌, ◌<◌, ◌≤◌, ◌∷◌, ◌++◌, [], drop, take, length, Option, Some, None, IfOk, IfSome, IfNone, OnOk, true, false, if◌then◌else◌};
-ghost use Rattle.port_model.specs.declared.effect.Effect.TheVariants.{Reply, ReplyBadarg};
+ghost use Rattle.std.specs.Prelude.{◌≡◌, ◌<◌, ◌≤◌, [], take, length, Option, Some, None, IfOk, IfSome, IfNone, false};
 ghost use Rattle.driver_model.specs.Calls.{Store as StoreKind, Nothing};
-ghost use Rattle.driver_model.specs.Store.{number, may_take, may_put};
+ghost use Rattle.driver_model.specs.Store.{number};
 ghost use Rattle.port_driver.specs.Driven.{KeepsRoom};
-ghost use Rattle.port_driver.specs.Replies.{reply_effect};
 ghost use Rattle.sample_drivers.specs.Stores.{Answers};
 
 use driver_queue::EnqFault;

@@ -1,6 +1,6 @@
-ghost use Rattle.std.specs.Prelude.{◌≡◌, ◌==◌, ◌+◌, ◌^◌, ◌<◌, ◌≤◌, ◌++◌, ◌∷◌, [], None, length, IfOk, IfSome, if◌then◌else◌, OnOk};
+ghost use Rattle.std.specs.Prelude.{◌≡◌, ◌==◌, ◌+◌, ◌^◌, ◌<◌, ◌++◌, [], None, length, IfOk};
 ghost use Rattle.std.specs.Int.{w64, to_be_bytes};
-ghost use Rattle.port_model.specs.declared.effect.Effect.TheVariants.{Watch, Reply, ReplyBadarg};
+ghost use Rattle.port_model.specs.declared.effect.Effect.TheVariants.{Watch, Reply};
 ghost use Rattle.driver_model.specs.Calls.{Tally as TallyKind, Counted};
 ghost use Rattle.driver_model.specs.Tally.{tally_term};
 ghost use Rattle.port_driver.specs.Context.{did};

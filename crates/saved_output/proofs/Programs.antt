@@ -7,7 +7,6 @@ use Rattle.driver_model.specs.Drivers.{holds}
 use Rattle.driver_model.specs.Programs.{TellsOfProgram, ToldProgram, Tells}
 use Rattle.driver_model.specs.Spawn.{program as kept}
 use Rattle.port_driver.specs.declared.life.Life.{Life}
-use Rattle.echoed_commands.specs.script_run.run_opening.driver_hosts.declared.hosted.Hosted.{Hosted}
 use Rattle.echoed_commands.specs.script_run.Ran.{history_of, opening_of}
 use Rattle.unframed_output.specs.Laws.{frames_asked}
 use Rattle.unframed_output.proofs.Ended.{end-is-told}

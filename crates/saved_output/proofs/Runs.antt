@@ -1,5 +1,5 @@
 -- The saved output of a program in a run of a script.
-use Rattle.std.proofs.Common.{◌≡◌, ◌<◌, ℕ, List, [], ◌∷◌, length, map, get_or, Bool, true, false, ◌&&◌, eqb, Option, Some, None, refl, sym, ◌∙◌, ap, subst, arith, codes}
+use Rattle.std.proofs.Common.{◌≡◌, ◌<◌, ℕ, List, [], ◌∷◌, length, map, get_or, true, false, ◌&&◌, eqb, Option, Some, None, refl, sym, ◌∙◌, ap, subst, arith, codes}
 use Rattle.std.specs.Prelude.{slice_index_or}
 use Rattle.std.specs.List.{AllByRecursion}
 use Rattle.std.proofs.lemmas.Bool.{and_parts}
@@ -18,14 +18,12 @@ use Rattle.echoed_commands.specs.script_run.run_opening.port_body.LanePort.{rows
 use Rattle.echoed_commands.specs.run_setting.run_end.process_job.Mails.{Came, is_source, mail_from, readable}
 use Rattle.echoed_commands.specs.script_run.run_opening.driver_hosts.declared.hosted.Hosted.{Hosted}
 use Rattle.echoed_commands.specs.run_setting.run_end.Merge.{IsFromPort}
-use Rattle.echoed_commands.specs.run_setting.run_end.Shown.{Calls}
 use Rattle.echoed_commands.specs.run_setting.run_seats.declared.plans.Program.{Program}
 use Rattle.script_plan.specs.declared.decl.PortDecl.{PortDecl}
 use Rattle.script_plan.specs.declared.step.Step.{Step}
 use Rattle.echoed_commands.specs.script_run.declared.running.PortLeft.{PortLeft}
 use Rattle.echoed_commands.specs.script_run.declared.running.ProcessLeft.{ProcessLeft}
 use Rattle.echoed_commands.specs.script_run.Ran.{IsFrom, PairHolds, PortHolds, calls_of, history_of, opening_of}
-use Rattle.unframed_output.specs.Output.{saved_output}
 use Rattle.unframed_output.specs.Laws.{IsOfProgram, KeepsOwner}
 use Rattle.unframed_output.proofs.Mails.{output-is-saved}
 use Rattle.unframed_output.proofs.Others.{mails-other}

@@ -1,5 +1,4 @@
 ghost use Rattle.std.specs.Prelude.{◌≡◌, ◌<◌, length};
-ghost use Rattle.port_words.specs.over.Over.{HasNotStopped};
 ghost use Rattle.port_sched.specs.Homes.{AreHomes};
 ghost use Rattle.sched_load.specs.Putting.{CanPut, HasPut};
 

@@ -1,5 +1,5 @@
 // A run under a load.
-ghost use Rattle.std.specs.Prelude.{◌≡◌, ◌+◌, ◌<◌, ◌≤◌, length, map, sum_by, All, IfOk};
+ghost use Rattle.std.specs.Prelude.{◌≡◌, ◌+◌, ◌<◌, ◌≤◌, map, sum_by, All, IfOk};
 ghost use Rattle.run_queue.specs.Seats.{counted, stolen_by};
 ghost use Rattle.port_sched.specs.Closing.{IsWhole};
 ghost use Rattle.port_sched.specs.Jobs.{WentEach};

@@ -1,4 +1,3 @@
-ghost use Rattle.std.specs.Prelude.{◌≡◌, None, IfSome};
 ghost use Rattle.port_words.specs.over.Over.{HasNotStopped};
 ghost use Rattle.sched_tests.specs.Seats.{IsSeatOfTwo};
 

@@ -1,4 +1,4 @@
-ghost use Rattle.std.specs.Prelude.{◌≡◌, ◌++◌, ℕ, ◌<◌, length, IfOk, count_by};
+ghost use Rattle.std.specs.Prelude.{◌≡◌, ◌<◌, IfOk};
 ghost use Rattle.std.specs.List.{flat_map};
 ghost use Rattle.script_plan.specs.Plan.{IsPlan};
 ghost use Rattle.script_load.specs.Load.{load_plan, steps_of, values as all_values, processes as all_processes};

@@ -1,6 +1,6 @@
 //! The numbers of which the commands are made.
 
-ghost use Rattle.std.specs.Prelude.{◌≡◌, ◌+◌, ◌<◌, IfOk, replicate, count_by, ◌==◌};
+ghost use Rattle.std.specs.Prelude.{◌≡◌, ◌+◌, ◌<◌, IfOk, ◌==◌};
 ghost use Rattle.script_load.specs.Load.{next, values, port_of, bytes_of, command_count};
 
 use no_memory::NoMemory;

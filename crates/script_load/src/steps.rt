@@ -1,6 +1,6 @@
 //! The steps of each process.
 
-ghost use Rattle.std.specs.Prelude.{◌≡◌, ◌+◌, ◌*◌, ◌<◌, ◌≤◌, ◌++◌, length, min, take, drop, OnOk};
+ghost use Rattle.std.specs.Prelude.{◌≡◌, ◌+◌, ◌*◌, ◌<◌, ◌++◌, length, min, OnOk};
 ghost use Rattle.script_load.specs.Load.{commands, waits, steps_of};
 
 use crate::numbers::{bytes_of, command_count, port_of};

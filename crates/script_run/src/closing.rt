@@ -1,13 +1,10 @@
 //! The end of a run that nobody stopped: its lanes are closed, its mail is taken, and what it leaves is put together.
-ghost use Rattle.std.specs.Prelude.{◌≡◌, ◌≢◌, ◌<◌, List, length, map, All, AllPairs, Some, IfOk, IfErr};
-ghost use Rattle.closed_lanes.specs.Closed.{AreClosedIn};
+ghost use Rattle.std.specs.Prelude.{◌≡◌, ◌≢◌, ◌<◌, List, length, map, All, AllPairs, IfOk};
 ghost use Rattle.closed_lanes.specs.closed_ports.Closed.{HaveComeBack};
-ghost use Rattle.driver_model.specs.Calls.{Kind, Own};
 ghost use Rattle.port_body.specs.Body.{BodyName, name_of};
 ghost use Rattle.run_end.specs.Ran.{RanProcess};
 ghost use Rattle.run_seats.specs.declared.plans.ProcessPlan.{ProcessPlan as Plan};
-ghost use Rattle.run_setting.specs.Setting.{Setting, IsSetting, AreNamedIn};
-ghost use Rattle.run_setting.specs.Jobs.{HaveRunIn};
+ghost use Rattle.run_setting.specs.Setting.{Setting};
 ghost use Rattle.script_run.specs.Left.{AreJobParts, CanGather, HasEndedIn, HaveJobParts, IsGathered, IsLeft};
 ghost use Rattle.script_run.specs.Parted.{ran_processes};
 

@@ -8,7 +8,7 @@ use Rattle.std.proofs.lemmas.Option.{cond_some, option_and_then_some}
 use Rattle.std.proofs.lemmas.List.{length-take-le}
 use Rattle.std.proofs.lemmas.List.Sums.{prefix_len-le-length}
 use Rattle.port_terms.specs.declared.values.TheConstants.{MAX_ITEMS}
-use Rattle.script_text.specs.Tokens.{gap, is_digit, is_name, is_name_byte, value_of, IsDigits, SpellsNumber, SpellsWhole}
+use Rattle.script_text.specs.Tokens.{is_digit, is_name, is_name_byte, value_of, IsDigits, SpellsNumber, SpellsWhole}
 use Rattle.script_text.specs.Tokens as T
 use Rattle.script_text.specs.Texts.{hex_digit, SpellsByte, SpellsBytes, SpellsText}
 use Rattle.script_text.specs.Texts as X

@@ -1,6 +1,6 @@
 //! IOLISTs: bytes and TEXTs in brackets.
 
-ghost use Rattle.std.specs.Prelude.{◌≡◌, ◌≤◌, ℕ, List, Some, length, IfOk};
+ghost use Rattle.std.specs.Prelude.{◌≤◌, ℕ, List, Some, length, IfOk};
 ghost use Rattle.port_terms.specs.IoView.{io_tree, io_trees};
 ghost use Rattle.port_terms.specs.declared.values.TheConstants.{MAX_ITEMS};
 ghost use Rattle.std.specs.Cow.{cow_slice_items};

@@ -1,6 +1,6 @@
 //! The smallest parts of a line: bytes, gaps, numbers and names.
 
-ghost use Rattle.std.specs.Prelude.{◌≡◌, ◌<◌, ◌^◌, ◌≤◌, ◌-◌, ℕ, List, Some, true, false, length, drop, take, map, option_map, slice_index, IfSome, IsSomeAnd};
+ghost use Rattle.std.specs.Prelude.{◌≡◌, ◌<◌, ◌^◌, ◌≤◌, ◌-◌, ℕ, List, Some, true, false, length, option_map, slice_index, IfSome, IsSomeAnd};
 ghost use Rattle.std.specs.List.{list_all, take_while, prefix_len};
 ghost use Rattle.std.specs.Option.{SomeIff};
 ghost use Rattle.script_text.specs.Tokens.{is_digit, is_letter, is_name_byte, is_name, value_of, SpellsNumber};

@@ -1,5 +1,5 @@
 //! A task that the port handles or finds late.
-ghost use Rattle.std.specs.Prelude.{◌≡◌, ◌≤◌, [], ℕ, true, is_some, IfOk, OnOk};
+ghost use Rattle.std.specs.Prelude.{◌≡◌, ◌≤◌, [], ℕ, is_some, IfOk, OnOk};
 ghost use Rattle.port_driver.specs.Faults.{failures, RisenBy};
 ghost use Rattle.port_events.specs.port_history.Opening.{Opening, taken_of};
 ghost use Rattle.port_events.specs.port_history.State.{State, after};

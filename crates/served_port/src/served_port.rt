@@ -1,4 +1,4 @@
-ghost use Rattle.std.specs.Prelude.{◌≡◌, ◌&&◌, List, not, is_some};
+ghost use Rattle.std.specs.Prelude.{◌≡◌, ◌&&◌, not, is_some};
 ghost use Rattle.std.specs.List.{list_all};
 ghost use Rattle.port_driver.specs.driver_model.Drivers.{read_event_of, write_event_of};
 ghost use Rattle.port_events.specs.port_history.Opening.{Opening};

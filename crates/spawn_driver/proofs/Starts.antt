@@ -12,7 +12,7 @@ use Rattle.port_model.specs.declared.effect.Effect.{Effect}
 use Rattle.port_model.specs.declared.effect.Effect.TheVariants.{Select}
 use Rattle.outside.specs.Children.{ChildView, Starts}
 use Rattle.outside.specs.Causes as outside
-use Rattle.driver_model.specs.Calls.{Start, DriverCall, call_of, Nothing, Program, Running, Spawn}
+use Rattle.driver_model.specs.Calls.{Start, DriverCall, call_of, Program, Running, Spawn}
 use Rattle.driver_model.specs.Spawn.{program, is_refused}
 use Rattle.driver_model.specs.Programs.{Tells, TellsOfProgram}
 use Rattle.port_driver.specs.Context.{Context}

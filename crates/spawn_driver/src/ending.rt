@@ -1,5 +1,5 @@
 //! The end of a program's output.
-ghost use Rattle.std.specs.Prelude.{◌≡◌, ◌≤◌, ◌<◌, ◌++◌, ◌||◌, ◌∷◌, [], true, length, codes, if◌then◌else◌, IfOk, OnOk};
+ghost use Rattle.std.specs.Prelude.{◌≡◌, ◌≤◌, ◌<◌, ◌||◌, ◌∷◌, [], true, length, codes, if◌then◌else◌, IfOk, OnOk};
 ghost use Rattle.port_signal.specs.declared.outside.Outside.TheVariants as answers;
 ghost use Rattle.port_model.specs.declared.effect.Effect.TheVariants.{Eof, Fail};
 ghost use Rattle.driver_model.specs.Spawn.{has_failed};

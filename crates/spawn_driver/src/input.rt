@@ -1,5 +1,5 @@
 //! What is read of a program's output.
-ghost use Rattle.std.specs.Prelude.{◌≡◌, ◌≤◌, ◌+◌, ◌++◌, ◌∷◌, [], length, OnOk};
+ghost use Rattle.std.specs.Prelude.{◌≡◌, ◌≤◌, ◌+◌, ◌∷◌, [], length, OnOk};
 ghost use Rattle.packet_framing.specs.Messages.{IsServed};
 ghost use Rattle.port_signal.specs.declared.outside.Outside.TheVariants.{Got};
 ghost use Rattle.spawn_driver.specs.Recorded.{Adds, with_answers};

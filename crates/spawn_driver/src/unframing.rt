@@ -1,7 +1,6 @@
 //! The messages in the bytes that a program gives.
 ghost use Rattle.std.specs.Prelude.{◌≡◌, ◌≤◌, ◌+◌, ◌<◌, length, map, IfOk, OnOk};
 ghost use Rattle.driver_model.specs.Spawn.{sent};
-ghost use Rattle.packet_framing.specs.Messages.{last_message};
 ghost use Rattle.spawn_driver.specs.Recorded.{Adds, with_effects};
 ghost use Rattle.spawn_driver.specs.Steps.{Finds, effects_in, SendsLast};
 

@@ -1,6 +1,5 @@
 //! The channel that the ends of a lane share, and how a lane is made.
 ghost use Rattle.std.specs.Prelude.{◌≡◌, [], Some, IfOk};
-ghost use Rattle.std.specs.Arc.{arc_value};
 ghost use Rattle.crossbeam_queue.specs.SegTies.{IsSegPassOf};
 ghost use Rattle.task_queue.specs.Lane.{sender_hand, taker_hand};
 

@@ -1,4 +1,4 @@
-ghost use Rattle.std.specs.Prelude.{◌≡◌, ◌<◌, ◌≤◌, ◌↔◌, false, [], ◌∷◌, ◌++◌, length, IsTrue, IsOk, IsSome, IfOk, IfSome, IfNone, OnOk, OnErr};
+ghost use Rattle.std.specs.Prelude.{◌≡◌, ◌<◌, ◌≤◌, ◌↔◌, false, [], ◌∷◌, ◌++◌, length, IsTrue, IsOk, IsSome, IfOk, IfSome, IfNone, OnOk};
 ghost use Rattle.waiting_parcels.specs.Waiting.{has_sender, GoesFirst, NoneGoes};
 
 use crate::arrival::Arrival;

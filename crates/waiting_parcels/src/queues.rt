@@ -1,7 +1,7 @@
 ghost use Rattle.std.specs.Prelude.{◌≡◌, ◌==◌, ◌<◌, ◌&&◌, not, [], length, vec_len, slice_index, option_to_list, All, OnErr, OnOk, IfOk, IfErr};
 ghost use Rattle.port_lanes.specs.port_history.Laws.{waits_where_busy};
 ghost use Rattle.waiting_parcels.specs.Waiting.{has_sender};
-ghost use Rattle.waiting_parcels.specs.Queues.{lists, queue_of, arrivals, goes_at, earlier_of, IsChoice, IsTaken, IsQueued};
+ghost use Rattle.waiting_parcels.specs.Queues.{lists, queue_of, goes_at, earlier_of, IsChoice, IsTaken, IsQueued};
 
 use crate::NoMemory;
 use crate::arrival::{Arrival, Head};

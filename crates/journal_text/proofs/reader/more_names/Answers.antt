@@ -1,8 +1,7 @@
-use Rattle.std.proofs.Common.{◌≡◌, ◌<◌, ◌++◌, ◌∷◌, [], length, sym, ap, ◌∙◌, arith}
+use Rattle.std.proofs.Common.{◌<◌, length, sym, ◌∙◌, arith}
 use Rattle.std.proofs.lemmas.Bool.{eqb-true, eqb-false}
 use Rattle.std.proofs.lemmas.List.{length_push, nil_from_length}
 use Rattle.journal_text.specs.declared.reader.TheConstants.{MAX_NAMES}
-use Rattle.journal_text.specs.ReadingBooks.{names_at}
 use Rattle.journal_text.proofs.NameSteps.{names_end, names_next, names_stop, names_past}
 use Rattle.journal_text.proofs.reader.more_names.Goals as goal
 

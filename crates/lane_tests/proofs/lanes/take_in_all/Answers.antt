@@ -1,4 +1,4 @@
-use Rattle.std.proofs.Common.{◌≡◌, ℕ, ◌<◌, Option, Some, None, IsSomeAnd, Contains, [], ◌∷◌, ◌++◌, length, get_or, ap, ◌∙◌, sym, subst, ⊎_elim, arith, length-append}
+use Rattle.std.proofs.Common.{◌≡◌, ◌<◌, Option, Some, None, IsSomeAnd, Contains, [], ◌∷◌, ◌++◌, length, get_or, ap, ◌∙◌, sym, subst, ⊎_elim, arith, length-append}
 use Rattle.std.proofs.lemmas.Bool.{cases_eq}
 use Rattle.std.proofs.Math.ListN.{get_or-append}
 use Rattle.std.proofs.Math.Seq.{get_or-append_seam}

@@ -7,9 +7,8 @@ use mir.MapTy.{inst_fn}
 use base.Fml.{Fml}
 use contract.Running.{tables}
 use types.Kit.{‵, raw, ◌⊛◌, ◌$◌, ◌∵◌, !, qed, move, keep, split, join, fjoin, use0, suffices, done}
-use types.Run.{of_opd, no_more, and_then, returns, enter}
+use types.Run.{of_opd, returns, enter}
 use types.ByLocal.{alloc_all, pass_all, free_all, look_at, get, sets}
-use types.Part.{agg}
 use denote.RattleType.{RattleType, owns}
 use denote.Exit.{yes, no}
 use denote.Builtin.{RefOf}

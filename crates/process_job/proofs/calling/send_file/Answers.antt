@@ -1,4 +1,4 @@
-use Rattle.std.proofs.Common.{◌≡◌, ◌<◌, [], ◌∷◌, List, map, take, drop, refl, sym, ap, ◌∙◌, subst, true, false, arith, ℕ, ◌≤◌}
+use Rattle.std.proofs.Common.{◌<◌, [], ◌∷◌, List, map, take, drop, sym, ap, ◌∙◌, subst, true, false, ℕ}
 use Rattle.process_end.specs.process_receipts.Asks.{Asked, asked}
 use Rattle.process_end.specs.Commanded.{command_of}
 use Rattle.process_job.specs.declared.action.CommandForm.{CommandForm}

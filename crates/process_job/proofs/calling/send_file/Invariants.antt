@@ -1,4 +1,4 @@
-use Rattle.std.proofs.Common.{◌≡◌, ◌<◌, ◌≤◌, [], length, map}
+use Rattle.std.proofs.Common.{◌<◌, [], length, map}
 use Rattle.process_job.specs.Asks.{pieces}
 use Rattle.process_job.specs.Actions.{ask_by, file_asks}
 use Rattle.process_job.specs.Going.{state}

@@ -1,4 +1,4 @@
-use Rattle.std.proofs.Common.{[], ◌∙◌, sym, arith, refl}
+use Rattle.std.proofs.Common.{[], ◌∙◌, sym, arith}
 use Rattle.std.specs.Prelude.{option_to_list}
 use Rattle.process_job.specs.declared.halt.Halt.TheVariants as halt
 use Rattle.process_job.specs.Actions.{ask_of}

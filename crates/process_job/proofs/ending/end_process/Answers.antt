@@ -1,5 +1,4 @@
-use Rattle.std.proofs.Common.{[], ◌∙◌, sym, ap, subst, arith}
-use Rattle.port_words.specs.over.Over.{HasToFinish, OverKnown, over_known, finished_view}
+use Rattle.std.proofs.Common.{[], arith}
 use Rattle.process_job.proofs.Seating.{seats_none}
 use Rattle.process_job.proofs.ending.end_process.Goals as goal
 

@@ -1,4 +1,4 @@
-use Rattle.std.proofs.Common.{◌≡◌, [], length}
+use Rattle.std.proofs.Common.{[]}
 use Rattle.process_job.specs.Seats.{SeatsGo}
 use Rattle.process_job.proofs.ending.wake_told.Given as goal
 

@@ -1,9 +1,7 @@
-use Rattle.std.proofs.Common.{◌≡◌, List, [], length, refl, sym, subst, arith}
+use Rattle.std.proofs.Common.{◌≡◌, List, [], length, sym, subst, arith}
 use Rattle.port_model.specs.declared.mail.Mail.{Mail}
-use Rattle.port_words.specs.over.Over.{OverKnown, HasToFinish}
 use Rattle.process_job.specs.declared.halt.Halt.TheVariants as halt
 use Rattle.process_job.specs.Going.{state}
-use Rattle.process_job.specs.Jobs.{AreWithin}
 use Rattle.process_job.specs.Steps.{HasMadeSteps, HasRunToEnd, HasTakenNone}
 use Rattle.process_job.proofs.Endings.{run_to_end}
 use Rattle.process_job.proofs.Seating.{finished_then, halted_then, no_memory, ran_halt, seats_none, woken_then}

@@ -1,10 +1,10 @@
-use Rattle.std.proofs.Common.{◌≡◌, ◌<◌, ℕ, List, [], ◌∷◌, length, Result, Ok, Err, refl, sym, ap, ◌∙◌, subst, arith}
+use Rattle.std.proofs.Common.{◌≡◌, ℕ, List, [], ◌∷◌, length, Ok, Err, refl, sym, ◌∙◌, subst, arith}
 use Rattle.std.specs.List.{All}
 use Rattle.std.proofs.lemmas.List.Elements.{All-head, All-tail}
 use Rattle.script_plan.specs.declared.step.Step.{Step}
 use Rattle.script_plan.specs.Plan.{IsWithin}
 use Rattle.process_job.specs.Asks.{asks_of, next_content, files_after}
-use Rattle.process_job.specs.Actions.{action_of, asks_by}
+use Rattle.process_job.specs.Actions.{action_of}
 use Rattle.process_job.specs.Going.{ProcessState, state}
 use Rattle.process_job.specs.Jobs.{AreWithin}
 use Rattle.process_job.specs.Steps.{HasComeTo, MakesCallsOf}

@@ -1,4 +1,4 @@
-use Rattle.std.proofs.Common.{◌≡◌, false, map, sym, subst}
+use Rattle.std.proofs.Common.{false, map, sym, subst}
 use Rattle.port_history.specs.Events.{told_of, selected_by, deselected, stopped_by, arm, read_no_more}
 use Rattle.history_tables.specs.EventsKept.{Holds}
 use Rattle.history_tables.proofs.events.EventTable.note_handled.Goals as goal

@@ -1,4 +1,4 @@
-use Rattle.std.proofs.Common.{◌≡◌, sym, ap, ◌∙◌}
+use Rattle.std.proofs.Common.{sym, ap, ◌∙◌}
 use Rattle.history_tables.proofs.JobSteps.{latest-says, is_latest, at-most}
 use Rattle.history_tables.proofs.jobs.JobTable.is_latest.Goals as goal
 

@@ -1,4 +1,4 @@
-use Rattle.std.proofs.Common.{◌≡◌, sym, ap, ◌∙◌, arith}
+use Rattle.std.proofs.Common.{sym, ap, ◌∙◌, arith}
 use Rattle.std.specs.List.{list_all}
 use Rattle.port_history.specs.Jobs.{Submitted, each_of, is_next_of_key}
 use Rattle.history_tables.specs.declared.jobs.KeptJob.{KeptJob}

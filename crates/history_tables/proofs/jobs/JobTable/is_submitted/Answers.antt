@@ -1,4 +1,4 @@
-use Rattle.std.proofs.Common.{◌≡◌, length, sym, ap, ◌∙◌, arith}
+use Rattle.std.proofs.Common.{length, sym, ap, ◌∙◌, arith}
 use Rattle.port_history.specs.Jobs.{is_submitted}
 use Rattle.history_tables.proofs.JobSteps.{submitted-of, below-len}
 use Rattle.history_tables.proofs.jobs.JobTable.is_submitted.Goals as goal

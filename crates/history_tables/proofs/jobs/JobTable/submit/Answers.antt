@@ -1,7 +1,7 @@
 use Rattle.std.proofs.Common.{◌≡◌, [], ◌∷◌, ◌+◌, ◌++◌, drop, length, true, refl, sym, ap, ◌∙◌, subst, append_assoc, append-nil, length-append}
 use Rattle.std.proofs.lemmas.List.{drop_all, drop_more}
 use Rattle.std.proofs.lemmas.Bool.{and_parts}
-use Rattle.port_history.specs.Jobs.{Submitted, submitted_by}
+use Rattle.port_history.specs.Jobs.{submitted_by}
 use Rattle.history_tables.specs.JobsKept.{Keeps, are_next}
 use Rattle.history_tables.proofs.JobSteps.{submitted-cons, next-cons}
 use Rattle.history_tables.proofs.jobs.JobTable.submit.Goals as goal

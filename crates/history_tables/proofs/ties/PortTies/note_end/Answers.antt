@@ -1,5 +1,4 @@
 use Rattle.history_tables.proofs.Sets.{inserted, removed}
-use Rattle.port_history.specs.Ties.{Ties}
 use Rattle.history_tables.proofs.ties.PortTies.note_end.Goals as goal
 
 pub returns : goal.returns

@@ -1,6 +1,6 @@
-use Rattle.std.proofs.Common.{◌≡◌, ◌<◌, length, arith}
+use Rattle.std.proofs.Common.{◌<◌, length, arith}
 use Rattle.std.proofs.lemmas.Grind.{common_steps}
-use Rattle.outside.proofs.Programs.{has-next, ready-more, ended-more, ended-status, stands-begin, nothing-left, ready-nothing, ended-nothing}
+use Rattle.outside.proofs.Programs.{has-next}
 use Rattle.outside.proofs.mem_child.MemChild.has_next.Goals as goal
 
 pub returns-in-Some : goal.returns-in-Some

@@ -1,4 +1,4 @@
-use Rattle.std.proofs.Common.{◌≡◌, ◌-◌, ◌≤◌, ◌++◌, ◌∙◌, sym, subst, length, slice_range, IfOk, List, ℕ, arith, length-append}
+use Rattle.std.proofs.Common.{◌≡◌, ◌-◌, ◌++◌, sym, subst, length, slice_range, IfOk, arith}
 use Rattle.packet_framing.proofs.Lists.{range-past}
 use Rattle.packet_framing.proofs.joined.Joined.piece.Goals as goal
 
