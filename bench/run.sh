@@ -12,7 +12,8 @@
 #     vector_skip queue_deq queue_pushq                             vectors and driver queues of so many segments
 #     unframe_packets unframe_lines unframe_stream                  so many bytes are unframed, in large chunks; with `_bytewise` behind
 #                                                                   the name byte by byte
-#     script_read                                                   a script of so many bytes is read
+#     script_read commands_read                                     a script of so many bytes is read, one of all kinds of steps, or one of
+#                                                                   commands of 33 bytes
 #     body_echo body_waits body_freed                               the body of a port on one thread; the second row has eight times as
 #                                                                   many parts as the first
 #     schedulers schedulers_idle                                    schedulers under a load, and with nothing to do for N milliseconds
@@ -131,7 +132,7 @@ program_cat) built program_bench "${2:-8388608}" && time_cat "${2:-8388608}" ;;
 body_echo | body_waits | body_freed | schedulers | schedulers_idle) built port_bench "$@" ;;
 all) built bench all && built port_bench all && built program_bench 8388608 && time_cat 8388608 && time_program 2000 && time_replay 2000 &&
     "$here/bench/beside_erlang.py" "$program" ;;
-terms_encode | terms_decode | vector_skip | queue_deq | queue_pushq | script_read) built bench "$@" ;;
+terms_encode | terms_decode | vector_skip | queue_deq | queue_pushq | script_read | commands_read) built bench "$@" ;;
 unframe_packets | unframe_lines | unframe_stream | unframe_packets_bytewise | unframe_lines_bytewise | unframe_stream_bytewise) built bench "$@" ;;
 *)
     echo "bench/run.sh: no work has the name $1" >&2

@@ -6,8 +6,17 @@ use std::alloc::Global;
 use std::rt::Clock;
 use std::time::{Duration, Instant};
 
-/// How many processes a script has, and how many ports.
+/// How many processes a script of all kinds of steps has, and how many ports.
 const NAMED: u32 = 32;
+
+/// How many processes a script of commands has.
+const SENDERS: u32 = 8;
+
+/// How many ports a script of commands has.
+const RECEIVERS: u32 = 4;
+
+/// The 33 bytes of a command.
+const DATA: &str = "abcdefghijklmnopqrstuvwxyz0123456";
 
 /// The steps of a process at a port, each as the words before and behind the port.
 const STEPS: [(&str, &str); 14] = [
@@ -28,7 +37,7 @@ const STEPS: [(&str, &str); 14] = [
 ];
 
 /// A script of about so many bytes: declarations, rounds of steps, and the end of each process.
-fn script_text(alloc: Global, size: usize) -> Result<String> {
+pub(crate) fn script_text(alloc: Global, size: usize) -> Result<String> {
     let mut text = String::new(alloc);
     declare(&mut text)?;
     for round in 0..u32::MAX {
@@ -64,9 +73,28 @@ fn write_round(text: &mut String, round: u32) -> Result<()> {
     Ok(())
 }
 
-/// The shortest time of some rounds to read a script of about so many bytes.
-pub(crate) fn read_time<R: Clock + AllocGlobal>(rt: &R, bytes: u32) -> Result<Duration> {
-    let text = Piece::of_vec(script_text(rt.alloc(), bytes as usize)?.into_bytes())?;
+/// A script of about so many bytes: declarations and commands, in which the processes and the ports take turns.
+pub(crate) fn commands_text(alloc: Global, size: usize) -> Result<String> {
+    let mut text = String::new(alloc);
+    for process in 0..SENDERS {
+        writeln!(text, "process p{process}")?;
+    }
+    for port in 0..RECEIVERS {
+        writeln!(text, "port q{port} p{port} echo")?;
+    }
+    for number in 0..u32::MAX {
+        if text.len() >= size {
+            break;
+        }
+        let (process, port) = (number % SENDERS, number % RECEIVERS);
+        writeln!(text, "p{process} command q{port} \"{DATA}\"")?;
+    }
+    Ok(text)
+}
+
+/// The shortest time of some rounds to read a script.
+pub(crate) fn read_time<R: Clock + AllocGlobal>(rt: &R, text: String) -> Result<Duration> {
+    let text = Piece::of_vec(text.into_bytes())?;
     let mut best = Duration::MAX;
     for _ in 0..ROUNDS {
         let start = Instant::now(rt)?;

@@ -1,7 +1,7 @@
 //! The works that are timed.
 use crate::framing::feed_time;
 use crate::queues::{deq_time, pushq_time};
-use crate::scripts::read_time;
+use crate::scripts::{commands_text, read_time, script_text};
 use crate::terms::{decode_time, encode_time};
 use crate::vectors::skip_time;
 use anyhow::Result;
@@ -30,11 +30,12 @@ pub(crate) enum Work {
     LinesBytewise,
     Stream,
     StreamBytewise,
-    /// A script of about so many bytes is read.
+    /// A script of about so many bytes is read: one of all kinds of steps, or one of commands of 33 bytes.
     Script,
+    Commands,
 }
 
-pub(crate) const WORKS: [Work; 12] = [
+pub(crate) const WORKS: [Work; 13] = [
     Work::Encode,
     Work::Decode,
     Work::Skip,
@@ -47,6 +48,7 @@ pub(crate) const WORKS: [Work; 12] = [
     Work::Stream,
     Work::StreamBytewise,
     Work::Script,
+    Work::Commands,
 ];
 
 impl Work {
@@ -64,6 +66,7 @@ impl Work {
             Work::Stream => "unframe_stream",
             Work::StreamBytewise => "unframe_stream_bytewise",
             Work::Script => "script_read",
+            Work::Commands => "commands_read",
         }
     }
 
@@ -75,6 +78,7 @@ impl Work {
             Work::Packets | Work::Lines | Work::Stream => 4_194_304,
             Work::PacketsBytewise | Work::LinesBytewise | Work::StreamBytewise => 1_048_576,
             Work::Script => 250_000,
+            Work::Commands => 800_000,
         }
     }
 }
@@ -93,6 +97,7 @@ pub(crate) fn time_of<R: Clock + AllocGlobal>(rt: &R, work: Work, parts: u32) ->
         Work::LinesBytewise => feed_time(rt, Mode::Line(262_143), parts, true),
         Work::Stream => feed_time(rt, Mode::Stream, parts, false),
         Work::StreamBytewise => feed_time(rt, Mode::Stream, parts, true),
-        Work::Script => read_time(rt, parts),
+        Work::Script => read_time(rt, script_text(rt.alloc(), parts as usize)?),
+        Work::Commands => read_time(rt, commands_text(rt.alloc(), parts as usize)?),
     }
 }

@@ -14,7 +14,7 @@ use Rattle.run_lanes.specs.Opened.{CanBegin, CanOpen, HasCounts, HasLaneEnds, Ha
 use Rattle.body_tests.specs.Beside.{CanServeEach, AreOfWorkers, CanServe, IsDealtToOne, IsOfPoller, IsOfWorker, LastIs, is_worker}
 
 abbrev size : LaneSize
-size = record { processes = 3; workers = 2 }
+size = record { processes = 3; workers = 2; rows = 0 }
 
 -- the end of this number in the lane of the one port
 record IsEnd (number : ℕ) (lane : LaneEnd) : Type 0 where

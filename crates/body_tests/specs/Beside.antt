@@ -51,7 +51,7 @@ AreOfWorkers all = (worker : ℕ) (d : WorkerLanes) → worker < length all → 
 
 -- the last of these ports can be opened among three processes and two workers
 abbrev pub LastCanOpen : List PortLanes → Type 0
-LastCanOpen ports = (d : PortLanes) → CanOpen (record { processes = 3; workers = 2 }) (slice_index_or ports (length ports - 1) d)
+LastCanOpen ports = (d : PortLanes) → CanOpen (record { processes = 3; workers = 2; rows = 0 }) (slice_index_or ports (length ports - 1) d)
 
 -- the lanes of one port, three processes and two workers
 pub record IsDealtToOne (run : RunLanes) : Type 0 where

@@ -18,6 +18,7 @@ use std::test::Fail;
 const SIZE: LaneSize = LaneSize {
     processes: 3,
     workers: 2,
+    rows: 0,
 };
 
 /// The lanes of one port with these limits.
@@ -32,7 +33,7 @@ fn opened(alloc: Global, limits: QueueLimits) -> Result<RunLanes, Fail>
 /// The one port.
 fn port(mut ports: Vec<PortLanes>) -> Result<PortLanes, Fail>
     requires { LastCanOpen ports.items }
-    ensures { IfOk result (λ port. CanOpen (record { processes = 3; workers = 2 }) port) }
+    ensures { IfOk result (λ port. CanOpen (record { processes = 3; workers = 2; rows = 0 }) port) }
 {
     match ports.pop() {
         Some(port) => Ok(port),
@@ -125,7 +126,7 @@ pub(crate) fn deal(
     writes: u32,
 ) -> Result<(PortLanes, OthersBeside), Fail>
     requires { InRange limits.on limits.low limits.high }
-    ensures { IfOk result (λ dealt. CanOpen (record { processes = 3; workers = 2 }) dealt.0) }
+    ensures { IfOk result (λ dealt. CanOpen (record { processes = 3; workers = 2; rows = 0 }) dealt.0) }
 {
     let RunLanes {
         ports,

@@ -28,6 +28,7 @@ const PLACE: PortPlace = PortPlace {
     number: 0,
     owner: 0,
     processes: 3,
+    rows: 0,
 };
 
 /// The limits of the message queue.
@@ -153,7 +154,7 @@ fn config(alloc: Global, options: PlayOptions) -> Result<Config, Fail> {
 
 /// What a port with this driver is opened with.
 fn body_parts<D: Driver>(driver: D, config: Config, lanes: PortLanes) -> BodyParts<D>
-    requires { CanOpen (record { processes = 3; workers = 2 }) lanes }
+    requires { CanOpen (record { processes = 3; workers = 2; rows = 0 }) lanes }
     ensures driver { result.port.driver ≡ driver }
     ensures unused { AreUnused result.port.outlets }
     ensures fits { FitsPlace (record { number = 0; owner = 0; processes = 3 }) result.workers result.port.outlets result.lane }

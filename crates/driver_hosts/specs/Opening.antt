@@ -14,7 +14,7 @@ use Rattle.driver_hosts.specs.declared.opening.Unopened.TheVariants.{Refused, No
 
 -- the port of this number, of its owner, among the processes of its room
 abbrev pub place_of : ℕ → PortDecl → PortRoom → PortPlace
-place_of number port room = record { number = number; owner = port.owner; processes = room.processes }
+place_of number port room = record { number = number; owner = port.owner; processes = room.processes; rows = room.rows }
 
 -- the port may be opened in this room: its owner is one of the processes, nothing was sent, marked or taken, and the key of the lane has the port's words and the
 -- numbers of processes and workers

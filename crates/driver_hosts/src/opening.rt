@@ -44,6 +44,7 @@ fn open_port<D: Driver, R: Wait>(
         number,
         owner: port.owner,
         processes: room.processes,
+        rows: room.rows,
     };
     let parts = BodyParts {
         port: PortParts {

@@ -28,6 +28,7 @@ use std::time::Duration;
 const SIZE: LaneSize = LaneSize {
     processes: 9,
     workers: 1,
+    rows: 0,
 };
 
 /// The options of a port whose message queue has limits or none.
@@ -129,6 +130,7 @@ fn opened<D: Driver, R: Wait>(rt: &R, alloc: Global, parts: BodyParts<D>) -> Res
         number: 0,
         owner: 0,
         processes: 9,
+        rows: 0,
     };
     match Body::open(rt, alloc, place, parts) {
         Ok(body) => Ok(body),

@@ -54,7 +54,7 @@ fn serve_port<D: Driver, R: Wait>(
     lanes: PortLanes,
 ) -> Result<Rows>
     requires fresh { D.stage driver ≡ Life.Fresh }
-    requires unused { CanOpen (record { processes = 1; workers = 1 }) lanes }
+    requires unused { CanOpen (record { processes = 1; workers = 1; rows = 0 }) lanes }
 {
     let mut body = open_port(rt, alloc, driver, lanes)?;
     serve(rt, &mut body)?;

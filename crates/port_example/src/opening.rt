@@ -15,11 +15,12 @@ use std::sync::Wait;
 /// Makes the lanes and words of one process, one port and one worker, and answers what the first two have of them. There must be a worker; it gets no job here.
 pub(crate) fn make_lanes(alloc: Global) -> Result<(ProcessLanes, PortLanes)>
     ensures process { IfOk result (λ made. CanBegin 1 0 made.0) }
-    ensures port { IfOk result (λ made. CanOpen (record { processes = 1; workers = 1 }) made.1) }
+    ensures port { IfOk result (λ made. CanOpen (record { processes = 1; workers = 1; rows = 0 }) made.1) }
 {
     let size = LaneSize {
         processes: 1,
         workers: 1,
+        rows: 0,
     };
     let limits = QueueLimits {
         on: true,
@@ -57,12 +58,13 @@ pub(crate) fn open_port<D: Driver, R: Wait>(
     lanes: PortLanes,
 ) -> Result<Body<D>>
     requires fresh { D.stage driver ≡ Life.Fresh }
-    requires unused { CanOpen (record { processes = 1; workers = 1 }) lanes }
+    requires unused { CanOpen (record { processes = 1; workers = 1; rows = 0 }) lanes }
 {
     let place = PortPlace {
         number: 0,
         owner: 0,
         processes: 1,
+        rows: 0,
     };
     let outlets = PortOutlets {
         mailboxes: lanes.mailboxes,

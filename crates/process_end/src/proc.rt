@@ -55,6 +55,13 @@ impl Proc {
         }
     }
 
+    /// Makes room for the receipts of so many calls. Nothing else changes, and where memory is wanting nothing at all.
+    pub fn reserve(&mut self, calls: usize) -> Result<(), NoMemory>
+        ensures { self.new ≡ self.old }
+    {
+        self.sides.reserve(calls)
+    }
+
     /// The place of the process in the order of declaration, from 0.
     pub fn number(&self) -> u32
         ensures { result ≡ self.now.number }

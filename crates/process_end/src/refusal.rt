@@ -7,7 +7,7 @@ use port_model::Signal;
 use process_receipts::{How, Outcome, Receipt};
 
 /// The most calls that a process makes.
-const MOST_CALLS: u64 = 131_072;
+pub(crate) const MOST_CALLS: u64 = 131_072;
 
 /// The most bytes of data of one signal.
 const MOST_BYTES: u64 = 262_143;

@@ -15,7 +15,7 @@ ghost use Rattle.process_end.specs.Ports.{AllFree, AreParts, HasStopped};
 ghost use Rattle.process_end.specs.Mailbox.{HasTaken};
 
 use crate::answers::ProcParts;
-use crate::refusal::{refusal, refused_receipt};
+use crate::refusal::{MOST_CALLS, refusal, refused_receipt};
 use crate::sending::{CallPlace, send};
 use no_memory::NoMemory;
 use port_lanes::Parcel;
@@ -123,6 +123,14 @@ fn take_mail<R: Wait>(rt: &R, mailbox: &mut TakeEnd<Mail>) -> Option<Mail>
 }
 
 impl Sides {
+    /// Makes room for the receipts of so many calls, of which a process makes at most 131,072.
+    pub(crate) fn reserve(&mut self, calls: usize) -> Result<(), NoMemory>
+        ensures { self.new ≡ self.old }
+    {
+        self.receipts.reserve(calls.min(MOST_CALLS as usize))?;
+        Ok(())
+    }
+
     pub(crate) fn number(&self) -> u32
         ensures { result ≡ self.now.number }
     {

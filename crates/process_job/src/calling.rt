@@ -26,6 +26,15 @@ use process_end::{Ask, Commanded, Proc, SendRefusal};
 use std::alloc::Global;
 use std::sync::Wait;
 
+/// Makes room for the receipts of so many calls, and for a mail of each. Where memory is wanting for that, the lists grow as calls are made.
+pub(crate) fn make_room(proc: &mut Proc, log: &mut MailLog, calls: usize)
+    ensures proc { proc.new ≡ proc.old }
+    ensures log { log.new ≡ log.old }
+{
+    let _ = proc.reserve(calls);
+    let _ = log.reserve(calls);
+}
+
 /// Data as a vector: one segment, or none where there are no bytes.
 pub(crate) fn payload_of(alloc: Global, bytes: Piece) -> IoVec
     ensures { result ≡ vector_of bytes }
@@ -123,6 +132,7 @@ pub(crate) fn send_file<B: PortBody, R: Wait>(
         mut content,
     } = file;
     let mut sender = proc;
+    make_room(&mut sender, log, content.len() / size as usize);
     'pieces: while !content.is_empty() {
         let bytes = next_piece(&mut content, size)?;
         let after = send_command(rt, seats, log, sender, form, payload_of(alloc, bytes))?;

@@ -6,6 +6,7 @@ ghost use Rattle.process_end.specs.Ports.{AreParts};
 ghost use Rattle.process_end.specs.Views.{proc_view};
 ghost use Rattle.process_job.specs.Jobs.{AreAmong, AreWithin, CanMakeSteps, CanRun, CanRunSeats, EndsAs, EndsHalted, IsWorkOf, RanWork};
 
+use crate::calling::make_room;
 use crate::ending::end_process;
 use crate::halt::Halt;
 use crate::log::MailLog;
@@ -74,11 +75,12 @@ fn run_process<B: PortBody, R: Wait>(
 {
     let ProcessWork {
         alloc,
-        proc,
+        mut proc,
         steps,
         files,
     } = work;
     let mut log = MailLog::new(alloc, seats.ports.homes.len())?;
+    make_room(&mut proc, &mut log, steps.len());
     let program = StepsToMake { steps, files };
     let (proc, reason) = make_steps(rt, alloc, seats, &mut log, proc, program)?;
     let proc = end_process(rt, seats, proc, reason)?;

@@ -8,6 +8,9 @@ use port_model::Mail;
 use std::alloc::Global;
 use std::marker::Model;
 
+/// For how many mails room is made before they come, at most: a process makes so many calls at most.
+const MOST_ROOM: usize = 131_072;
+
 /// How many data messages came from a port, and how many bytes they have together.
 #[derive(Clone, Copy)]
 pub(crate) struct DataCount {
@@ -81,6 +84,14 @@ impl MailLog {
             mails: Vec::new(alloc),
             counts: no_data(alloc, ports)?,
         })
+    }
+
+    /// Makes room for so many mails.
+    pub(crate) fn reserve(&mut self, mails: usize) -> Result<(), NoMemory>
+        ensures { self.new ≡ self.old }
+    {
+        self.mails.reserve(mails.min(MOST_ROOM))?;
+        Ok(())
     }
 
     pub(crate) fn add(&mut self, mail: Mail) -> Result<(), NoMemory>

@@ -1,5 +1,7 @@
 //! How a port comes to its first row, and how it comes to its end.
-ghost use Rattle.std.specs.Prelude.{◌≡◌, ◌≢◌, ◌≤◌, ◌<◌, ◌⊎◌, None, IfOk, IfErr, OnOk};
+ghost use Rattle.std.specs.Prelude.{◌≡◌, ◌≢◌, ◌≤◌, ◌<◌, ◌⊎◌, [], None, IfOk, IfErr, OnOk};
+ghost use Rattle.port_suspension.specs.Listed.{AgreesListed};
+ghost use Rattle.suspend_list.specs.Entries.{suspended};
 ghost use Rattle.port_driver.specs.driver_model.Drivers.{refusal_of};
 ghost use Rattle.port_driver.specs.driver_model.Programs.{TellsOfProgram};
 ghost use Rattle.port_driver.specs.Starting.{Refuses};
@@ -10,12 +12,23 @@ ghost use Rattle.recorded_port.specs.Taking.{IsSameRecorded};
 
 use crate::fixed::Fixed;
 use crate::parts::{PortEnd, PortOutlets, PortParts};
-use crate::{Driver, Journal, RecordedPort, ServedPort, Suspension};
+use crate::{Driver, Journal, NoMemory, RecordedPort, Row, ServedPort, Suspension};
 use port_driver::{Life, StartRefusal};
 use port_model::Rows;
 use served_port::PortPlace;
 use std::alloc::Global;
 use std::sync::Wait;
+
+/// An empty list of the processes that the port of this place suspends, and an empty list of its rows with their room.
+fn empty_lists(alloc: Global, place: PortPlace) -> Result<(Suspension, Vec<Row>), NoMemory>
+    ensures list { IfOk result (λ r. r.0 ≡ suspended [] place.processes) }
+    ensures agrees { IfOk result (λ r. AgreesListed r.0 []) }
+    ensures rows { IfOk result (λ r. r.1.items ≡ []) }
+{
+    let suspension = Suspension::new(alloc, place.processes)?;
+    let rows = Vec::with_capacity(alloc, place.rows)?;
+    Ok((suspension, rows))
+}
 
 impl<D: Driver> RecordedPort<D> {
     /// Opens the port of this place: its driver is started, and its first owner is linked. Where the driver refuses, or memory is wanting, all parts come
@@ -49,7 +62,7 @@ impl<D: Driver> RecordedPort<D> {
             seat,
             ends,
         } = outlets;
-        let Ok(suspension) = Suspension::new(alloc, place.processes) else {
+        let Ok((suspension, rows)) = empty_lists(alloc, place) else {
             let outlets = PortOutlets::new(mailboxes, seat, ends);
             let parts = PortParts::new(driver, config, outlets);
             return Err((parts, StartRefusal::NoMemory));
@@ -74,7 +87,7 @@ impl<D: Driver> RecordedPort<D> {
             mailboxes,
             seat,
             suspension,
-            rows: Vec::new(alloc),
+            rows,
         })
     }
 

@@ -40,6 +40,7 @@ room_of size port = record {
   outlets = record { mailboxes = port.mailboxes; seat = port.seat; ends = record { asks = port.asks; pool = port.pool } };
   processes = size.processes;
   workers = size.workers;
+  rows = size.rows;
 }
 
 -- these are the lanes and words of a run of this size, whose ports have these limits, before anything was sent

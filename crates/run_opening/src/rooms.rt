@@ -51,6 +51,7 @@ fn room_of(size: LaneSize, port: PortLanes) -> PortRoom
         },
         processes: size.processes,
         workers: size.workers,
+        rows: size.rows,
     }
 }
 

@@ -1,7 +1,7 @@
-//! The digest of the data that came to a process.
+//! The data that came to a process: how many messages, and the digest of their bytes.
 ghost use Rattle.std.specs.Prelude.{◌≡◌, ◌==◌, ◌++◌, ℕ, List, [], IfOk, OnOk, if◌then◌else◌};
 ghost use Rattle.sha2.specs.Sha256.{sha256};
-ghost use Rattle.port_history.specs.Counts.{saved_data, saved_mail};
+ghost use Rattle.port_history.specs.Counts.{data_messages, is_data, saved_data, saved_mail};
 ghost use Rattle.run_report.specs.Data.{AddsEach, Holds, mail_bytes};
 
 use no_memory::NoMemory;
@@ -9,6 +9,14 @@ use port_model::{Flag, Mail};
 use sha2::{Digest, Sha256};
 use std::alloc::Global;
 use std::marker::Model;
+
+/// What came to a process as data.
+#[derive(Clone, Copy, Debug)]
+pub(crate) struct DataSummary {
+    pub messages: usize,
+    /// The SHA-256 of what saves of the data would write, for the first port, then for the second, and so on.
+    pub digest: [u8; 32],
+}
 
 /// The mail with data of one port, in the order in which it came. It is seen as the bytes that a save of it would write.
 #[derive(Drop)]
@@ -63,32 +71,51 @@ fn hash_mail<D: Digest>(hasher: &mut D, mail: &Mail)
     }
 }
 
-/// The digest of what saves of a process's data would write, for the first port, then for the second, and so on. The mail is gone
-/// through once, whatever the number of ports, and each byte is hashed where it lies.
-pub(crate) fn data_digest(alloc: Global, ports: u32, mails: &[Mail]) -> Result<[u8; 32], NoMemory>
-    ensures { IfOk result (λ digest. digest ≡ sha256 (saved_data ports mails.now)) }
+/// What came to a process as data from so many ports. The mail is gone through once, whatever the number of ports, and each byte is
+/// hashed where it lies.
+pub(crate) fn data_summary(
+    alloc: Global,
+    ports: u32,
+    mails: &[Mail],
+) -> Result<DataSummary, NoMemory>
+    ensures messages { IfOk result (λ r. r.messages ≡ data_messages mails.now) }
+    ensures digest { IfOk result (λ r. r.digest ≡ sha256 (saved_data ports mails.now)) }
 {
-    let lists = data_by_port(alloc, ports, mails)?;
+    let (lists, messages) = data_by_port(alloc, ports, mails)?;
     let mut hasher = Sha256::new();
     for port in &lists {
         port.hash(&mut hasher);
     }
-    Ok(hasher.finalize())
+    Ok(DataSummary {
+        messages,
+        digest: hasher.finalize(),
+    })
 }
 
-/// The mail with data of each port.
+/// The mail with data of each port, and how many messages with data there are.
 fn data_by_port<'a>(
     alloc: Global,
     ports: u32,
     mails: &'a [Mail],
-) -> Result<Vec<PortData<'a>>, NoMemory>
-    ensures { IfOk result (λ lists. Holds ports mails.now lists.items) }
+) -> Result<(Vec<PortData<'a>>, usize), NoMemory>
+    ensures lists { IfOk result (λ r. Holds ports mails.now r.0.items) }
+    ensures messages { IfOk result (λ r. r.1 ≡ data_messages mails.now) }
 {
     let mut lists = without_data(alloc, ports)?;
+    let mut messages = 0;
     for mail in mails {
         add_mail(&mut lists, mail)?;
+        if is_data(mail) {
+            messages += 1;
+        }
     }
-    Ok(lists)
+    Ok((lists, messages))
+}
+
+fn is_data(mail: &Mail) -> bool
+    ensures { result ≡ is_data mail.now }
+{
+    matches!(mail, Mail::Message { .. })
 }
 
 /// No data of each port.

@@ -7,8 +7,8 @@ ghost use Rattle.run_report.specs.Report.{port_line, process_line, text_of};
 
 use crate::counting::count_ports;
 use crate::counts::PortCounts;
-use crate::data::data_digest;
-use crate::receipts::{data_messages, dropped_receipts, suspended_receipts};
+use crate::data::{DataSummary, data_summary};
+use crate::receipts::{dropped_receipts, suspended_receipts};
 use crate::report::{ProcessRecord, Report};
 use journal_text::PortReport;
 use no_memory::NoMemory;
@@ -17,8 +17,8 @@ use std::alloc::Global;
 /// The text of a report: a line for the whole, a line for each port and a line for each process, each ended with byte 10.
 ///
 /// The digest of a process's line is the SHA-256 of FIPS 180-4, in lowercase hex, of what saves of its data would write, port by
-/// port. The rows of each port are gone through once, beside a table of its ties; the mail of each process is gone through twice. No
-/// data is copied. A sum above 2^64 - 1 is answered as want of memory.
+/// port. The rows of each port are gone through once, beside a table of its ties, and the mail of each process once. No data is
+/// copied. A sum above 2^64 - 1 is answered as want of memory.
 pub fn report_text(alloc: Global, report: &Report) -> Result<Vec<u8>, NoMemory>
     requires { All (HasEnded (length report.now.processes)) report.now.ports }
     ensures { IfOk result (λ text. text.items ≡ text_of report.now) }
@@ -112,16 +112,14 @@ fn write_process(
     ensures { OnOk result ((reports : List PortValue) (place : ℕ) → ports ≡ length reports → commands ≡ commands_of place reports → string_bytes text.new ≡ string_bytes text.old ++ process_line reports place process.now) }
 {
     let receipts = process.receipts.as_slice();
-    let mails = process.mails.as_slice();
     let name = process.name.as_str();
     let dropped = dropped_receipts(receipts);
     let suspended = suspended_receipts(receipts);
-    let data = data_messages(mails);
-    let digest = data_digest(alloc, ports, mails)?;
+    let DataSummary { messages, digest } = data_summary(alloc, ports, process.mails.as_slice())?;
     let sha256 = hex::encode(alloc, digest.as_slice())?;
     writeln!(
         text,
-        "process {name} commands={commands} dropped={dropped} suspended={suspended} data={data} sha256={sha256}"
+        "process {name} commands={commands} dropped={dropped} suspended={suspended} data={messages} sha256={sha256}"
     )?;
     Ok(())
 }

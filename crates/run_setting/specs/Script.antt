@@ -5,9 +5,9 @@ use Rattle.run_end.specs.run_lanes.declared.size.LaneSize.{LaneSize}
 use Rattle.run_opening.specs.Opened.{AreDeclared}
 use Rattle.run_setting.specs.declared.RunScript.{RunScript}
 
--- how many processes and workers it has
+-- how many processes and workers it has, and for how many rows its ports get room
 abbrev pub size_of : RunScript → LaneSize
-size_of script = record { processes = length script.programs.items; workers = script.workers }
+size_of script = record { processes = length script.programs.items; workers = script.workers; rows = script.rows }
 
 -- the ports, the processes, the workers and the schedulers are within their limits, each port's owner is one of the processes, its options lie in their ranges, and the steps name ports and processes that are there
 pub record IsRunnable (script : RunScript) : Type 0 where

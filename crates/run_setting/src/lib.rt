@@ -13,4 +13,6 @@ pub struct RunScript {
     pub workers: u32,
     /// 1 to 16.
     pub schedulers: u32,
+    /// For how many rows each port gets room before the run. Where a port has more its list grows.
+    pub rows: usize,
 }

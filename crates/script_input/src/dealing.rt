@@ -13,6 +13,9 @@ use std::alloc::Global;
 use std::collections::VecDeque;
 use std::vec::IntoIter;
 
+/// For how many rows the ports get room before a run, at most.
+const MOST_ROWS: usize = 1_048_576;
+
 /// So many processes that do nothing.
 fn idle_programs(alloc: Global, processes: usize) -> Result<Vec<Program>, NoMemory>
     ensures { IfOk result (λ programs. AreProgramsOf processes [] [] programs.items) }
@@ -50,6 +53,21 @@ fn add_step(program: &mut Program, step: Step, content: Option<Piece>) -> Result
     }
     program.steps.push_back(step)?;
     Ok(())
+}
+
+/// How many rows the ports are expected to have together, for which they get room: one for each step, and one for each piece of a file.
+pub(crate) fn rows_of(steps: &[Step], contents: &[Piece]) -> usize {
+    let mut rows = steps.len();
+    let mut contents = contents.iter();
+    for step in steps {
+        if let Act::File { size, .. } = &step.act
+            && let Some(content) = contents.next()
+        {
+            let pieces = content.len().checked_div(*size as usize);
+            rows = rows.saturating_add(pieces.unwrap_or(0));
+        }
+    }
+    rows.min(MOST_ROWS)
 }
 
 /// The programs of so many processes, by the steps of all and the contents of the files that they send, each in the order of the script.

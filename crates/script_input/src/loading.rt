@@ -4,7 +4,7 @@ ghost use Rattle.program_io.specs.Files.{files_view, NothingWritten};
 ghost use Rattle.script_input.specs.Contents.{FilesEnd};
 ghost use Rattle.script_input.specs.Input.{IsInputOf};
 
-use crate::dealing::deal_steps;
+use crate::dealing::{deal_steps, rows_of};
 use crate::naming::names_of;
 use crate::reading::read_contents;
 use crate::{RunInput, RunScript, RunWrites};
@@ -42,6 +42,7 @@ pub fn load_programs<F: Files>(
         journal,
         steps,
     } = script.into_parts();
+    let rows = rows_of(steps.as_slice(), contents.as_slice()) / ports.len().max(1);
     let programs = deal_steps(alloc, processes.len(), steps, contents)?;
     Ok(RunInput {
         script: RunScript {
@@ -49,6 +50,7 @@ pub fn load_programs<F: Files>(
             programs,
             workers,
             schedulers,
+            rows,
         },
         names,
         writes: RunWrites { saves, journal },

@@ -33,7 +33,7 @@ pub struct Unseated<S> {
     pub poll: Option<S>,
 }
 
-// How many processes and workers the run of a script has.
+// How many processes and workers the run of a script has, and for how many rows its ports get room.
 fn size_of(script: &RunScript) -> LaneSize
     requires { IsRunnable script.now }
     ensures { result ≡ size_of script.now }
@@ -41,6 +41,7 @@ fn size_of(script: &RunScript) -> LaneSize
     LaneSize {
         processes: script.programs.len() as u32,
         workers: script.workers,
+        rows: script.rows,
     }
 }
 

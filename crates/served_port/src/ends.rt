@@ -9,10 +9,12 @@ pub struct PortEnds {
     pub pool: Pool,
 }
 
-/// The number of a port, from 0, the process that opens it and is its first owner, and how many processes there are.
+/// The number of a port, from 0, the process that opens it and is its first owner, how many processes there are, and for how many rows the port gets room at once.
 #[derive(Clone, Copy)]
 pub struct PortPlace {
     pub number: u32,
     pub owner: u32,
     pub processes: u32,
+    /// The list of rows grows where there are more.
+    pub rows: usize,
 }

@@ -45,6 +45,7 @@ impl<D: Driver> ServedPort<D> {
             number,
             owner,
             processes,
+            ..
         } = place;
         let (state, effects) = match PortState::open(
             alloc, number, driver, config, owner, processes,

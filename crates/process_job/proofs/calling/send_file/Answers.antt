@@ -13,9 +13,9 @@ use Rattle.process_job.proofs.calling.send_file.Goals as goal
 pub pieces-init : goal.pieces-init
 pieces-init g c = record {
   seats = seats_none c.args.seats.now c.requires.ports.homes;
-  ports = c.requires.ports;
-  inside = c.requires.port;
-  sent = sent_none (file_asks c.args.file) (state c.args.proc c.args.log.now);
+  ports = rw c.make_room.ensures.proc c.requires.ports;
+  inside = rw c.make_room.ensures.proc c.requires.port;
+  sent = rw (c.make_room.ensures.proc, c.make_room.ensures.log) (sent_none (file_asks c.args.file) (state c.args.proc c.args.log.now));
 }
 
 pub returns-in_err-after-clause-seats : goal.returns-in_err-after-clause-seats

@@ -1,5 +1,6 @@
-use Rattle.std.proofs.Common.{◌≡◌, List, [], length, sym, subst, arith}
+use Rattle.std.proofs.Common.{◌≡◌, List, [], length, sym, subst, ◌∙◌, arith}
 use Rattle.port_model.specs.declared.mail.Mail.{Mail}
+use Rattle.process_end.specs.Views.{ProcView}
 use Rattle.process_job.specs.declared.halt.Halt.TheVariants as halt
 use Rattle.process_job.specs.Going.{state}
 use Rattle.process_job.specs.Steps.{HasMadeSteps, HasRunToEnd, HasTakenNone}
@@ -26,10 +27,14 @@ returns g c =
     let go = c.in_ok-proc.ensures.seats in
     let e = c.in_ok-proc-2.ensures in
     let log : List Mail = c.make_steps.new.log in
+    let none : c.make_room.new.log ≡ [] = c.make_room.ensures.log ∙ c.in_ok-log.ensures in
     let made : HasMadeSteps work.steps.items work.files.items (state work.proc []) (state c.in_ok-proc.proc log) c.in_ok-proc.reason =
-    subst (λ (l : List Mail). HasMadeSteps work.steps.items work.files.items (state work.proc l) (state c.in_ok-proc.proc log) c.in_ok-proc.reason) c.in_ok-log.ensures c.in_ok-proc.ensures.made in
+    subst (λ (p : ProcView). HasMadeSteps work.steps.items work.files.items (state p []) (state c.in_ok-proc.proc log) c.in_ok-proc.reason) c.make_room.ensures.proc
+    (subst (λ (l : List Mail). HasMadeSteps work.steps.items work.files.items (state c.make_room.new.proc l) (state c.in_ok-proc.proc log) c.in_ok-proc.reason) none
+    c.in_ok-proc.ensures.made) in
     let silent : length work.proc.lanes ≡ 0 → HasTakenNone work.proc.mailbox [] c.in_ok-proc.proc.mailbox log =
-    subst (λ (l : List Mail). length work.proc.lanes ≡ 0 → HasTakenNone work.proc.mailbox l c.in_ok-proc.proc.mailbox log) c.in_ok-log.ensures c.in_ok-proc.ensures.silent in
+    subst (λ (p : ProcView). length p.lanes ≡ 0 → HasTakenNone p.mailbox [] c.in_ok-proc.proc.mailbox log) c.make_room.ensures.proc
+    (subst (λ (l : List Mail). length c.make_room.new.proc.lanes ≡ 0 → HasTakenNone c.make_room.new.proc.mailbox l c.in_ok-proc.proc.mailbox log) none c.in_ok-proc.ensures.silent) in
     let run : HasRunToEnd work.steps.items work.files.items work.proc c.in_ok-proc-2.proc log =
     run_to_end work.steps.items work.files.items work.proc c.in_ok-proc.proc c.in_ok-proc.reason c.in_ok-proc-2.proc log c.requires.work.fresh made silent e.ended in (
       subst (HasRunToEnd work.steps.items work.files.items work.proc c.in_ok-proc-2.proc) (sym c.into_mails.ensures) run,

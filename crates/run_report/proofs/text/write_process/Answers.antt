@@ -11,11 +11,11 @@ returns c = λ reports place many puts.
       puts,
       c.dropped_receipts-dropped.ensures,
       c.suspended_receipts-suspended.ensures,
-      c.data_messages-data.ensures,
+      c.in_ok-messages.ensures.messages,
       c.in_ok-sha256.ensures,
-      c.as_slice.ensures,
-      c.in_ok-digest.ensures,
+      c.as_slice-2.ensures,
+      c.in_ok-messages.ensures.digest,
       many,
       c.as_slice-receipts.ensures,
     )
-    (simp c.as_slice-mails.ensures)))
+    (simp c.as_slice.ensures)))

@@ -23,7 +23,7 @@ returns-clause-settled g c =
       opening = record { kind_is = refl; config_is = refl; owner_is = refl; read_is = c.program_events-read.ensures.read; write_is = c.program_events-read.ensures.write };
     } in
     let start = c.in-Ok-open.ensures.opened port is in
-    opened _ port c.args.parts.outlets (same-opening port _ _ start.at.state.processes start.at.state.kind) c.new-2.ensures.items start
+    opened _ port c.args.parts.outlets (same-opening port _ _ start.at.state.processes start.at.state.kind) c.in-Ok.ensures.rows start
     (ap (λ x. x.places) c.in-Ok.ensures.list) c.in-Ok.ensures.agrees refl refl c.requires.unused
     (events-at-start port _ _ _ start.at.state.stands c.program_events-read.ensures.read c.program_events-read.ensures.write)
 
@@ -53,7 +53,7 @@ returns-clause-opened g c =
       owner = refl;
       read = c.program_events-read.ensures.read;
       write = c.program_events-read.ensures.write;
-      rows = c.new-2.ensures.items;
+      rows = c.in-Ok.ensures.rows;
       ends = refl;
       seat = refl;
       asks = start.end;
