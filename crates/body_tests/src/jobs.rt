@@ -5,6 +5,20 @@ use process_end::How;
 use sample_drivers::Digest;
 use std::test::Fail;
 
+/// What becomes of the acts at a port that is closed before its last job is done.
+const LATE_JOB: &str = "p0 accepted 0\n\
+    p0 accepted 1\n\
+    p0 accepted 2\n\
+    idle\n\
+    idle\n\
+    p0 put 3\n\
+    idle\n\
+    finished\n\
+    p0 data 6261\n\
+    p0 data 00000000000001fe\n\
+    p0 reply 3 true\n\
+    p0 exit normal\n";
+
 #[test]
 fn a_job_that_is_done_behind_the_close_is_late(rt: HostRuntime) -> Result<(), Fail> {
     let acts = [
@@ -32,20 +46,7 @@ fn a_job_that_is_done_behind_the_close_is_late(rt: HostRuntime) -> Result<(), Fa
              m closed\n\
              l w0 0 done 2 6463\n",
         ),
-        Wanted::Acts(
-            "p0 accepted 0\n\
-             p0 accepted 1\n\
-             p0 accepted 2\n\
-             idle\n\
-             idle\n\
-             p0 put 3\n\
-             idle\n\
-             finished\n\
-             p0 data 6261\n\
-             p0 data 00000000000001fe\n\
-             p0 reply 3 true\n\
-             p0 exit normal\n",
-        ),
+        Wanted::Acts(LATE_JOB),
     ];
     shows(
         &rt,

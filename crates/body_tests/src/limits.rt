@@ -7,6 +7,15 @@ use sample_drivers::Echo;
 use std::alloc::Global;
 use std::test::Fail;
 
+/// The receipts of the calls at a port with a small queue.
+const LIMITED_RECEIPTS: &str = "p0 accepted seq 0 stat 0 msgq 4\n\
+    p0 dropped stat 0 msgq 1099511627780\n\
+    p0 accepted seq 1 stat 0\n\
+    p1 accepted seq 0 stat 0 msgq 5\n\
+    p1 accepted seq 1 stat 0\n\
+    p2 suspended seq 0 stat 0 msgq 1099511627784\n\
+    p2 accepted seq 1 stat 0\n";
+
 #[test]
 fn a_queue_is_busy_from_its_high_limit_and_free_below_its_low_one(
     rt: HostRuntime,
@@ -39,15 +48,7 @@ fn a_queue_is_busy_from_its_high_limit_and_free_below_its_low_one(
              r p2 0 2199023255555\n\
              h p2 0 command s 636363 ; ; data plain 636363\n",
         ),
-        Wanted::Receipts(
-            "p0 accepted seq 0 stat 0 msgq 4\n\
-             p0 dropped stat 0 msgq 1099511627780\n\
-             p0 accepted seq 1 stat 0\n\
-             p1 accepted seq 0 stat 0 msgq 5\n\
-             p1 accepted seq 1 stat 0\n\
-             p2 suspended seq 0 stat 0 msgq 1099511627784\n\
-             p2 accepted seq 1 stat 0\n",
-        ),
+        Wanted::Receipts(LIMITED_RECEIPTS),
     ];
     shows(
         &rt,

@@ -114,7 +114,7 @@ const PORTS: [Change; 46] = [
 ];
 
 /// The rows of handled tasks.
-const HANDLED: [Change; 60] = [
+const HANDLED: [Change; 61] = [
     (3, "h", "x"),
     (3, "h", "H"),
     (3, "h", " h"),
@@ -162,6 +162,7 @@ const HANDLED: [Change; 60] = [
     (3, "plain", "line"),
     (3, "plain 78", "plain"),
     (3, "plain 78", "plain 7"),
+    (3, "78, busy", "78,busy"),
     (3, "busy 1", "busy 2"),
     (3, "busy 1", "busy"),
     (3, "w 0\n", "x 0\n"),
@@ -178,7 +179,7 @@ const HANDLED: [Change; 60] = [
 ];
 
 /// The other rows, and the lines that end ports.
-const OTHERS: [Change; 41] = [
+const OTHERS: [Change; 44] = [
     (4, "busy", "open"),
     (4, "busy", "Busy"),
     (4, " busy", ""),
@@ -196,6 +197,8 @@ const OTHERS: [Change; 41] = [
     (7, "4294967295 ", ""),
     (7, "00ff", "00f"),
     (7, "00ff", "00ff ; ;"),
+    (7, "control 4294967295 00ff", "close s"),
+    (7, "control 4294967295 00ff", "connect 2"),
     (8, "e", "e0"),
     (8, "5", "5 r"),
     (8, "5", "-"),
@@ -214,6 +217,7 @@ const OTHERS: [Change; 41] = [
     (14, "end", "end "),
     (14, "end", "end\r"),
     (16, " ; ;", ""),
+    (16, " ; ;", " ;"),
     (16, "close", "timeout 0"),
     (17, "m", "l"),
     (18, "end\n", "end"),

@@ -1,7 +1,7 @@
 use journal_text::{
     Book, JournalFault, PortReport, each_book_has_one_text, print_journal, read_journal,
 };
-use std::alloc::{AllocError, Global};
+use std::alloc::Global;
 use std::test::Fail;
 
 /// The journal of an echo port that handles one command and is closed.
@@ -127,88 +127,4 @@ fn a_cut_text_is_bad_where_it_was_cut(rt: HostRuntime) {
     ] {
         assert!(rt; is_bad_at(rt.alloc(), text, at), "{text:?}");
     }
-}
-
-#[test]
-fn a_bad_head_is_told(rt: HostRuntime) {
-    for (text, at) in [
-        ("journal 2\nprocesses\n", 0),
-        ("journal 01\nprocesses\n", 0),
-        ("journal  1\nprocesses\n", 0),
-        ("journal 1 \nprocesses\n", 0),
-        ("journal 1\r\nprocesses\n", 0),
-        ("journal 1\nprocesses \n", 10),
-        ("journal 1\nprocesses A\n", 10),
-        ("journal 1\nprocesses a  b\n", 10),
-        ("journal 1\nprocesses a1234567890123456\n", 10),
-    ] {
-        assert!(rt; is_bad_at(rt.alloc(), text, at), "{text:?}");
-    }
-}
-
-/// Whether this line is bad where a port's line belongs.
-fn is_bad_port(alloc: Global, line: &str) -> Result<bool, AllocError> {
-    let text = format!(in alloc; "journal 1\nprocesses a\n{line}\nend\n")?;
-    Ok(is_bad_at(alloc, text.as_str(), 22))
-}
-
-#[test]
-fn a_bad_port_is_told(rt: HostRuntime) -> Result<(), Fail> {
-    for line in [
-        "port p 1 echo msgq off",
-        "port p 00 echo msgq off",
-        "port p 0 refuse1 msgq off",
-        "port p 0 echo",
-        "port p 0 echo msgq 2 1",
-        "port p 0 echo msgq 0 1",
-        "port p 0 echo msgq 1 1073741825",
-        "port p 0 echo msgq off run - stream eof status busy 1 1 events 0 0",
-        "port p 0 spawn msgq off",
-        "port p 0 spawn msgq off run - packet 3 eof status busy 1 1 events 0 0",
-        "port p 0 spawn msgq off run - line 0 eof status busy 1 1 events 0 0",
-        "port p 0 spawn msgq off run - stream eof status busy 1 1 events 0 4294967296",
-        "port p 0 spawn msgq off run FF stream eof status busy 1 1 events 0 0",
-    ] {
-        assert!(rt; is_bad_port(rt.alloc(), line)?, "{line:?}");
-    }
-    Ok(())
-}
-
-/// Whether this line is bad where a row's line belongs.
-fn is_bad_row(alloc: Global, line: &str) -> Result<bool, AllocError> {
-    let text = format!(in alloc; "journal 1\nprocesses a\nport p 0 echo msgq off\n{line}\nend\n")?;
-    Ok(is_bad_at(alloc, text.as_str(), 45))
-}
-
-#[test]
-fn a_bad_row_is_told(rt: HostRuntime) -> Result<(), Fail> {
-    for line in [
-        "",
-        "m",
-        "m open",
-        "m busy ",
-        "s p1 0",
-        "s p 0",
-        "s p0 18446744073709551616",
-        "r p0 0 01",
-        "l p0 0 command x -",
-        "l p0 0 command s 6",
-        "l p0 0 command s 6A",
-        "l p0 0 close s",
-        "l p0 0 connect 1",
-        "h p0 0 close",
-        "h p0 0 close ;",
-        "h p0 0 close ; ; ",
-        "h p0 0 close ;  ;",
-        "h p0 0 close ; ; eof,eof",
-        "h p0 0 close ; ; eof, ",
-        "h p0 0 close ; status -0 ;",
-        "h p0 0 close ; status 2147483648 ;",
-        "h p0 0 close ; ; async 0 0 256 -",
-        "h p0 0 close ; ; busy 2",
-        "h p0 0 timeout 0 ; ;",
-    ] {
-        assert!(rt; is_bad_row(rt.alloc(), line)?, "{line:?}");
-    }
-    Ok(())
 }

@@ -1,4 +1,4 @@
-//! The bodies of ports cross threads, where their drivers may.
+//! The seated run of a script, with the bodies of its ports, is run to its end.
 ghost use Rattle.std.specs.Prelude.{◌≡◌, ◌≤◌, ℕ, [], List, length, map, IfOk, IfErr, vec_capacity};
 ghost use Rattle.port_body.specs.Body.{BodyView, name_of};
 ghost use Rattle.run_seats.specs.declared.plans.ProcessPlan.{ProcessPlan as Plan};

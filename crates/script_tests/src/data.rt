@@ -1,6 +1,7 @@
 use port_terms::{IoList, Term, encode, flatten, term_depth};
-use script_text::{PartFault, read_io_list, read_number, read_term, read_text};
+use script_text::{PartFault, read_io_list, read_number, read_term, read_text, read_text_content};
 use std::alloc::{AllocError, Global};
+use std::borrow::CowSlice;
 use std::test::Fail;
 
 /// The NUMBER in front and the length of what stands behind it.
@@ -15,6 +16,19 @@ fn is_text(alloc: Global, text: &[u8], wanted: &[u8], behind: usize) -> bool {
         read_text(alloc, text),
         Ok((content, rest)) if content.as_slice() == wanted && rest.len() == behind
     )
+}
+
+/// The bytes of the TEXT in front, whether they are borrowed or owned, with the number of bytes behind it.
+fn shown_content(alloc: Global, text: &str) -> Result<String, AllocError> {
+    match read_text_content(alloc, text.as_bytes()) {
+        Ok((CowSlice::Borrowed(bytes), rest)) => {
+            format!(in alloc; "borrowed {bytes:?} {}", rest.len())
+        }
+        Ok((CowSlice::Owned(bytes), rest)) => {
+            format!(in alloc; "owned {:?} {}", bytes.as_slice(), rest.len())
+        }
+        Err(fault) => shown_fault(alloc, &fault),
+    }
 }
 
 /// Why no TEXT is read, if none is.
@@ -174,47 +188,68 @@ fn an_io_list_is_read_from_left_to_right(rt: HostRuntime) -> Result<(), Fail> {
 }
 
 #[test]
-fn a_term_is_written_in_its_external_form(rt: HostRuntime) -> Result<(), Fail> {
+fn only_a_text_without_escapes_is_borrowed(rt: HostRuntime) -> Result<(), Fail> {
     let alloc = rt.alloc();
     for (text, wanted) in [
-        (
-            "{1, \"ab\", -5}",
-            "[131, 104, 3, 97, 1, 107, 0, 2, 97, 98, 98, 255, 255, 255, 251] 0",
-        ),
-        ("{}", "[131, 104, 0] 0"),
-        ("[ ] ", "[131, 106] 1"),
-        ("\"\"", "[131, 106] 0"),
-        (
-            "[a,b_1]",
-            "[131, 108, 0, 0, 0, 2, 119, 1, 97, 119, 3, 98, 95, 49, 106] 0",
-        ),
-        (
-            "process",
-            "[131, 119, 7, 112, 114, 111, 99, 101, 115, 115] 0",
-        ),
-        ("<<  \"a\" >>", "[131, 109, 0, 0, 0, 1, 97] 0"),
-        ("-0", "[131, 97, 0] 0"),
-        ("007,", "[131, 97, 7] 1"),
-        (
-            "9223372036854775807",
-            "[131, 110, 8, 0, 255, 255, 255, 255, 255, 255, 255, 127] 0",
-        ),
-        (
-            "-9223372036854775808",
-            "[131, 110, 8, 1, 0, 0, 0, 0, 0, 0, 0, 128] 0",
-        ),
-        ("9223372036854775808", "bad"),
-        ("-9223372036854775809", "bad"),
-        ("- 5", "bad"),
-        ("-", "bad"),
-        ("Abc", "bad"),
-        ("abcdefghijklmnopq", "bad"),
-        ("< <\"a\">>", "bad"),
-        ("<<\"a\"> >", "bad"),
-        ("<<1>>", "bad"),
-        ("{1, 2]", "bad"),
-        ("{1,}", "bad"),
+        ("\"ab\" c", "borrowed [97, 98] 2"),
+        ("\"\"", "borrowed [] 0"),
+        ("\"a\\n\",", "owned [97, 10] 1"),
+        ("\"\\\\\"", "owned [92] 0"),
+        ("ab\"", "bad"),
+        ("\"ab", "bad"),
+        ("\"\\q\"", "bad"),
     ] {
+        let shown = shown_content(alloc, text)?;
+        assert_eq!(rt; shown.as_str(), wanted, "at {text:?}");
+    }
+    Ok(())
+}
+
+/// Texts of TERMs, each with its external form and the number of bytes behind it, or `bad` where it isn't a TERM.
+const TERMS: [(&str, &str); 22] = [
+    (
+        "{1, \"ab\", -5}",
+        "[131, 104, 3, 97, 1, 107, 0, 2, 97, 98, 98, 255, 255, 255, 251] 0",
+    ),
+    ("{}", "[131, 104, 0] 0"),
+    ("[ ] ", "[131, 106] 1"),
+    ("\"\"", "[131, 106] 0"),
+    (
+        "[a,b_1]",
+        "[131, 108, 0, 0, 0, 2, 119, 1, 97, 119, 3, 98, 95, 49, 106] 0",
+    ),
+    (
+        "process",
+        "[131, 119, 7, 112, 114, 111, 99, 101, 115, 115] 0",
+    ),
+    ("<<  \"a\" >>", "[131, 109, 0, 0, 0, 1, 97] 0"),
+    ("-0", "[131, 97, 0] 0"),
+    ("007,", "[131, 97, 7] 1"),
+    (
+        "9223372036854775807",
+        "[131, 110, 8, 0, 255, 255, 255, 255, 255, 255, 255, 127] 0",
+    ),
+    (
+        "-9223372036854775808",
+        "[131, 110, 8, 1, 0, 0, 0, 0, 0, 0, 0, 128] 0",
+    ),
+    ("9223372036854775808", "bad"),
+    ("-9223372036854775809", "bad"),
+    ("- 5", "bad"),
+    ("-", "bad"),
+    ("Abc", "bad"),
+    ("abcdefghijklmnopq", "bad"),
+    ("< <\"a\">>", "bad"),
+    ("<<\"a\"> >", "bad"),
+    ("<<1>>", "bad"),
+    ("{1, 2]", "bad"),
+    ("{1,}", "bad"),
+];
+
+#[test]
+fn a_term_is_written_in_its_external_form(rt: HostRuntime) -> Result<(), Fail> {
+    let alloc = rt.alloc();
+    for (text, wanted) in TERMS {
         let shown = shown_term(alloc, text)?;
         assert_eq!(rt; shown.as_str(), wanted, "at {text:?}");
     }
