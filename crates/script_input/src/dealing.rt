@@ -55,7 +55,7 @@ fn add_step(program: &mut Program, step: Step, content: Option<Piece>) -> Result
     Ok(())
 }
 
-/// How many rows the ports are expected to have together, for which they get room: one for each step, and one for each piece of a file.
+/// For how many rows the ports get room together: one for each step, one for each piece of a file, and an eighth more, since steps are seldom shared evenly.
 pub(crate) fn rows_of(steps: &[Step], contents: &[Piece]) -> usize {
     let mut rows = steps.len();
     let mut contents = contents.iter();
@@ -67,7 +67,7 @@ pub(crate) fn rows_of(steps: &[Step], contents: &[Piece]) -> usize {
             rows = rows.saturating_add(pieces.unwrap_or(0));
         }
     }
-    rows.min(MOST_ROWS)
+    rows.saturating_add(rows / 8).min(MOST_ROWS)
 }
 
 /// The programs of so many processes, by the steps of all and the contents of the files that they send, each in the order of the script.
