@@ -1,4 +1,4 @@
-/* floor NUMBER: what the commands of `gateway load NUMBER` take at least on one thread, with records as large as the project's and lists that double.
+/* floor NUMBER: what the commands of `gateway load NUMBER` take at least on one thread, with records as large as the project's and lists with room for them.
    Each command has its bytes shared, its receipt kept, its parcel put into a lane of blocks and taken out; then an effect is allocated and a row kept, and
    its mail is put into a mailbox, taken out and kept. No driver is called, nothing is looked at, and nobody waits. Prints the microseconds. */
 #include <stdint.h>
@@ -7,18 +7,20 @@
 #include <string.h>
 #include <time.h>
 
-enum { PROCESSES = 8, PORTS = 4, COMMANDS = 2000, TURN = 8, BLOCK = 31, PARCEL = 96, ROW = 160, EFFECT = 64, MAIL = 64, RECEIPT = 64 };
+enum { PROCESSES = 8, PORTS = 4, COMMANDS = 2000, SHARE = PROCESSES * COMMANDS / PORTS * 9 / 8, TURN = 8, BLOCK = 31, PARCEL = 96, ROW = 160, EFFECT = 64, MAIL = 64, RECEIPT = 64 };
 
 struct list { char *items; size_t count, room; };
 struct block { struct block *next; char items[]; };
 struct lane { struct block *first, *last; uint64_t head, tail; };
 struct shared { uint64_t users; uint64_t size; char bytes[]; };
 
+static void reserve(struct list *list, size_t room, size_t size) {
+    if (!(list->items = malloc(room * size))) exit(1);
+    list->room = room;
+}
+
 static void keep(struct list *list, const void *item, size_t size) {
-    if (list->count == list->room) {
-        list->room = list->room ? 2 * list->room : 4;
-        if (!(list->items = realloc(list->items, list->room * size))) exit(1);
-    }
+    if (list->count == list->room) exit(3);
     memcpy(list->items + list->count++ * size, item, size);
 }
 
@@ -64,6 +66,8 @@ int main(int count, char **words) {
             memset(bytes->bytes, 'a' + process, size);
             commands[process][at].bytes = bytes, commands[process][at].port = (x >> 33) % PORTS;
         }
+    for (int process = 0; process < PROCESSES; process++) reserve(&receipts[process], COMMANDS, RECEIPT);
+    for (int port = 0; port < PORTS; port++) reserve(&rows[port], SHARE, ROW), reserve(&mails[port], SHARE, MAIL);
     struct timespec from, to;
     clock_gettime(CLOCK_MONOTONIC, &from);
     for (int at = 0; at < COMMANDS; at += TURN) {
