@@ -27,6 +27,8 @@ has a name, the project's figure, that of Erlang/OTP, and the project's in perce
   wait                 processor time of a run that waits five seconds for a slow program, in microseconds
   read_33, read_1000   how many megabytes of a script `check` reads in a second, of 16,000 commands of 33 bytes and of 1,000 commands of 1,000 bytes: behind the time that
                        an empty script takes
+  read_script          how many megabytes of a script of commands of 33 bytes `read_script` reads in a second, where the script lies in memory: the work `commands_read` of
+                       the program crates/bench, where a gate or bench/run.sh left that built, or where the variable BENCH names it
 """
 import os
 import shutil
@@ -200,6 +202,10 @@ def time_reading(program, runs):
         script = [program, "check", write(f"read{length}.txt", text)]
         took = [run(script)[0] - run(empty)[0] for _ in range(runs)]
         row(f"read_{length}", len(text) / statistics.median(took))
+    timer = os.environ.get("BENCH", f"{HERE}/../crates/bench/out/bench")
+    if os.access(timer, os.X_OK):
+        told = [subprocess.run([timer, "commands_read", "800000"], check=True, capture_output=True, text=True).stdout for _ in range(runs)]
+        row("read_script", 800_000 / statistics.median(int(it.split()[2]) for it in told))
 
 
 def main(program, runs):
