@@ -40,10 +40,10 @@ fn config(alloc: Global, limited: bool) -> Result<Config> {
 
 /// What a port with this driver and these options is opened with.
 fn body_parts<D: Driver>(driver: D, config: Config, lanes: PortLanes) -> BodyParts<D>
-    requires { CanOpen (record { processes = 9; workers = 1 }) lanes }
+    requires { CanOpen (record { processes = 9; workers = 1; rows = 0 }) lanes }
     ensures driver { result.port.driver ≡ driver }
     ensures unused { AreUnused result.port.outlets }
-    ensures fits { FitsPlace (record { number = 0; owner = 0; processes = 9 }) result.workers result.port.outlets result.lane }
+    ensures fits { FitsPlace (record { number = 0; owner = 0; processes = 9; rows = 0 }) result.workers result.port.outlets result.lane }
 {
     let PortLanes {
         lane,
@@ -83,7 +83,7 @@ fn peers(alloc: Global, mut all: Vec<ProcessLanes>) -> Result<VecDeque<Peer>>
 
 /// The lanes of a run with one port whose message queue has limits or none.
 fn run_lanes(alloc: Global, limited: bool) -> Result<RunLanes>
-    ensures ports { IfOk result (λ run. (d : Port) → CanOpen (record { processes = 9; workers = 1 }) (slice_index_or run.ports.items (length run.ports.items - 1) d)) }
+    ensures ports { IfOk result (λ run. (d : Port) → CanOpen (record { processes = 9; workers = 1; rows = 0 }) (slice_index_or run.ports.items (length run.ports.items - 1) d)) }
     ensures few { IfOk result (λ run. length run.processes.items ≤ 32) }
     ensures begin { IfOk result (λ run. (process : ℕ) (d : Process) → process < length run.processes.items → CanBegin 1 process (slice_index_or run.processes.items process d)) }
 {
@@ -97,8 +97,8 @@ fn run_lanes(alloc: Global, limited: bool) -> Result<RunLanes>
 
 /// The one port.
 fn port_lanes(mut ports: Vec<PortLanes>) -> Result<PortLanes>
-    requires { (d : Port) → CanOpen (record { processes = 9; workers = 1 }) (slice_index_or ports.items (length ports.items - 1) d) }
-    ensures { IfOk result (λ lanes. CanOpen (record { processes = 9; workers = 1 }) lanes) }
+    requires { (d : Port) → CanOpen (record { processes = 9; workers = 1; rows = 0 }) (slice_index_or ports.items (length ports.items - 1) d) }
+    ensures { IfOk result (λ lanes. CanOpen (record { processes = 9; workers = 1; rows = 0 }) lanes) }
 {
     match ports.pop() {
         Some(lanes) => Ok(lanes),
@@ -108,7 +108,7 @@ fn port_lanes(mut ports: Vec<PortLanes>) -> Result<PortLanes>
 
 /// The lanes of a port whose message queue has limits or none, and its processes, of which the first is the owner.
 fn open_port(alloc: Global, limited: bool) -> Result<(PortLanes, Crew)>
-    ensures { IfOk result (λ opened. CanOpen (record { processes = 9; workers = 1 }) opened.0) }
+    ensures { IfOk result (λ opened. CanOpen (record { processes = 9; workers = 1; rows = 0 }) opened.0) }
 {
     let RunLanes {
         ports,
@@ -124,7 +124,7 @@ fn open_port(alloc: Global, limited: bool) -> Result<(PortLanes, Crew)>
 fn opened<D: Driver, R: Wait>(rt: &R, alloc: Global, parts: BodyParts<D>) -> Result<Body<D>>
     requires fresh { D.stage parts.port.driver ≡ Life.Fresh }
     requires unused { AreUnused parts.port.outlets }
-    requires fits { FitsPlace (record { number = 0; owner = 0; processes = 9 }) parts.workers parts.port.outlets parts.lane }
+    requires fits { FitsPlace (record { number = 0; owner = 0; processes = 9; rows = 0 }) parts.workers parts.port.outlets parts.lane }
 {
     let place = PortPlace {
         number: 0,
@@ -154,7 +154,7 @@ fn on_body<D: Driver, R: Clock + Wait>(
 ) -> Result<Duration>
     requires fresh { D.stage parts.port.driver ≡ Life.Fresh }
     requires unused { AreUnused parts.port.outlets }
-    requires fits { FitsPlace (record { number = 0; owner = 0; processes = 9 }) parts.workers parts.port.outlets parts.lane }
+    requires fits { FitsPlace (record { number = 0; owner = 0; processes = 9; rows = 0 }) parts.workers parts.port.outlets parts.lane }
 {
     let mut body = opened(rt, alloc, parts)?;
     let time = timed(rt, &mut body, crew, work, commands);

@@ -8,12 +8,12 @@ use io_vector::Piece;
 use no_memory::NoMemory;
 use run_lanes::next_of;
 use run_seats::Program;
-use script_plan::{Act, Step};
+use script_plan::{Act, PortDecl, Step};
 use std::alloc::Global;
 use std::collections::VecDeque;
 use std::vec::IntoIter;
 
-/// For how many rows the ports get room before a run, at most.
+/// For how many rows all ports together get room before a run, at most.
 const MOST_ROWS: usize = 1_048_576;
 
 /// So many processes that do nothing.
@@ -55,8 +55,8 @@ fn add_step(program: &mut Program, step: Step, content: Option<Piece>) -> Result
     Ok(())
 }
 
-/// For how many rows the ports get room together: one for each step, one for each piece of a file, and an eighth more, since steps are seldom shared evenly.
-pub(crate) fn rows_of(steps: &[Step], contents: &[Piece]) -> usize {
+/// For how many rows each port gets room: an even share of one for each step and one for each piece of a file, and an eighth more, since steps are seldom shared evenly.
+pub(crate) fn rows_of(steps: &[Step], contents: &[Piece], ports: &[PortDecl]) -> usize {
     let mut rows = steps.len();
     let mut contents = contents.iter();
     for step in steps {
@@ -67,7 +67,7 @@ pub(crate) fn rows_of(steps: &[Step], contents: &[Piece]) -> usize {
             rows = rows.saturating_add(pieces.unwrap_or(0));
         }
     }
-    rows.saturating_add(rows / 8).min(MOST_ROWS)
+    rows.saturating_add(rows / 8).min(MOST_ROWS) / ports.len().max(1)
 }
 
 /// The programs of so many processes, by the steps of all and the contents of the files that they send, each in the order of the script.

@@ -42,7 +42,7 @@ pub fn load_programs<F: Files>(
         journal,
         steps,
     } = script.into_parts();
-    let rows = rows_of(steps.as_slice(), contents.as_slice()) / ports.len().max(1);
+    let rows = rows_of(steps.as_slice(), contents.as_slice(), ports.as_slice());
     let programs = deal_steps(alloc, processes.len(), steps, contents)?;
     Ok(RunInput {
         script: RunScript {
