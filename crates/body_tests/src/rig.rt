@@ -157,7 +157,7 @@ fn body_parts<D: Driver>(driver: D, config: Config, lanes: PortLanes) -> BodyPar
     requires { CanOpen (record { processes = 3; workers = 2; rows = 0 }) lanes }
     ensures driver { result.port.driver ≡ driver }
     ensures unused { AreUnused result.port.outlets }
-    ensures fits { FitsPlace (record { number = 0; owner = 0; processes = 3 }) result.workers result.port.outlets result.lane }
+    ensures fits { FitsPlace (record { number = 0; owner = 0; processes = 3; rows = 0 }) result.workers result.port.outlets result.lane }
 {
     let PortLanes {
         lane,
@@ -235,7 +235,7 @@ fn rows_of(alloc: Global, port: PortReport) -> Result<String, Fail> {
 fn opened<D: Driver, R: Wait>(rt: &R, alloc: Global, parts: BodyParts<D>) -> Result<Body<D>, Fail>
     requires fresh { D.stage parts.port.driver ≡ Life.Fresh }
     requires unused { AreUnused parts.port.outlets }
-    requires fits { FitsPlace (record { number = 0; owner = 0; processes = 3 }) parts.workers parts.port.outlets parts.lane }
+    requires fits { FitsPlace (record { number = 0; owner = 0; processes = 3; rows = 0 }) parts.workers parts.port.outlets parts.lane }
 {
     match Body::open(rt, alloc, PLACE, parts) {
         Ok(body) => Ok(body),
