@@ -21,14 +21,24 @@ fn is_text(alloc: Global, text: &[u8], wanted: &[u8], behind: usize) -> bool {
 /// The bytes of the TEXT in front, whether they are borrowed or owned, with the number of bytes behind it.
 fn shown_content(alloc: Global, text: &str) -> Result<String, AllocError> {
     match read_text_content(alloc, text.as_bytes()) {
-        Ok((CowSlice::Borrowed(bytes), rest)) => {
-            format!(in alloc; "borrowed {bytes:?} {}", rest.len())
-        }
-        Ok((CowSlice::Owned(bytes), rest)) => {
-            format!(in alloc; "owned {:?} {}", bytes.as_slice(), rest.len())
-        }
+        Ok((content, rest)) => shown_bytes_of(alloc, &content, rest),
         Err(fault) => shown_fault(alloc, &fault),
     }
+}
+
+fn shown_bytes_of(
+    alloc: Global,
+    content: &CowSlice<'_, u8>,
+    rest: &[u8],
+) -> Result<String, AllocError> {
+    match content {
+        CowSlice::Borrowed(bytes) => shown_as(alloc, "borrowed", bytes, rest),
+        CowSlice::Owned(bytes) => shown_as(alloc, "owned", bytes.as_slice(), rest),
+    }
+}
+
+fn shown_as(alloc: Global, how: &str, bytes: &[u8], rest: &[u8]) -> Result<String, AllocError> {
+    format!(in alloc; "{how} {bytes:?} {}", rest.len())
 }
 
 /// Why no TEXT is read, if none is.
