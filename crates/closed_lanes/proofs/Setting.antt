@@ -32,8 +32,8 @@ module _ (s : Setting) (bodies : List BodyView) (processes : List RanProcess) (e
   -- the ends that a process was dealt are those that it began with
   pub process-began : (n : ℕ) (r : RanProcess) (l : ProcessLanes) → n < s.size.processes → (get_or processes n r).old.lanes ≡ (get_or s.lanes.processes.items n l).lanes.items
   process-began n r l below =
-      let programs = run.set.programs_many in
-      let p = some-of s.programs n (omega (arith, programs, below)) in
+      let process_steps = run.set.process_steps_many in
+      let p = some-of s.process_steps n (omega (arith, process_steps, below)) in
       ap (λ v. v.lanes) (run.ran.each n l p r below).old
 
   pub process-lanes : (n : ℕ) (below : n < s.size.processes) → ProcessLanes

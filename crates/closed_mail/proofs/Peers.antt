@@ -20,7 +20,7 @@ use Rattle.run_end.specs.run_lanes.declared.parts.ProcessLanes.{ProcessLanes}
 use Rattle.run_end.specs.run_lanes.Ends.{made_by, new_end}
 use Rattle.run_end.specs.run_lanes.Opened.{HasPort}
 use Rattle.run_setting.specs.run_opening.Opened.{limits_of}
-use Rattle.run_setting.specs.run_seats.declared.plans.Program.{Program}
+use Rattle.run_setting.specs.run_seats.declared.plans.ProcessSteps.{ProcessSteps}
 use Rattle.run_setting.specs.Jobs.{HaveRunIn, IsSetUp}
 use Rattle.run_setting.specs.Setting.{Setting, IsSetting, AreNamedIn, IsNamedIn}
 use Rattle.script_plan.specs.declared.decl.PortDecl.{PortDecl}
@@ -52,8 +52,8 @@ module _ (s : Setting) (names : List BodyName) (ran : List RanProcess) (ports : 
   process_lanes : (n : ℕ) → n < s.size.processes → ProcessLanes
   process_lanes n below = let many = peers.set.lanes_are.counts.processes_many in first_of s.lanes.processes.items n (omega (arith, many, below))
 
-  process_program : (n : ℕ) → n < s.size.processes → Program
-  process_program n below = let many = peers.set.programs_many in first_of s.programs n (omega (arith, many, below))
+  steps_of_process : (n : ℕ) → n < s.size.processes → ProcessSteps
+  steps_of_process n below = let many = peers.set.process_steps_many in first_of s.process_steps n (omega (arith, many, below))
 
   port_lanes : (q : ℕ) → q < length s.ports → PortLanes
   port_lanes q below = let many = ports_many in first_of s.lanes.ports.items q (omega (arith, many, below))
@@ -62,8 +62,8 @@ module _ (s : Setting) (names : List BodyName) (ran : List RanProcess) (ports : 
   port_name q below = let many = peers.named.many in first_of names q (omega (arith, many, below))
 
   set_up : (n : ℕ) (r : RanProcess) (below : n < s.size.processes)
-      → IsSetUp s n (get_or s.lanes.processes.items n (process_lanes n below)) (get_or s.programs n (process_program n below)) (get_or ran n r)
-  set_up n r below = peers.have.each n (process_lanes n below) (process_program n below) r below
+      → IsSetUp s n (get_or s.lanes.processes.items n (process_lanes n below)) (get_or s.process_steps n (steps_of_process n below)) (get_or ran n r)
+  set_up n r below = peers.have.each n (process_lanes n below) (steps_of_process n below) r below
 
   opened : (q : ℕ) (p : PortDecl) (below : q < length s.ports) → IsNamedIn s q (get_or s.ports q p) (get_or s.lanes.ports.items q (port_lanes q below)) (get_or names q (port_name q below))
   opened q p below = peers.named.each q p (port_lanes q below) (port_name q below) below

@@ -19,7 +19,7 @@ use Rattle.process_end.specs.process_receipts.Asks.{Asked, is_gone, task_of}
 use Rattle.process_end.specs.process_receipts.Receipts.{AreReceipts, accepted, is_put}
 use Rattle.process_end.specs.process_receipts.declared.receipt.Receipt.{Receipt}
 use Rattle.run_setting.specs.run_end.Shown.{Calls}
-use Rattle.run_setting.specs.run_seats.declared.plans.Program.{Program}
+use Rattle.run_setting.specs.run_seats.declared.plans.ProcessSteps.{ProcessSteps}
 use Rattle.run_setting.specs.run_end.process_job.script_plan.declared.step.Step.{Step}
 use Rattle.script_run.specs.declared.running.ProcessLeft.{ProcessLeft}
 use Rattle.script_run.specs.Ran.{IsFrom, all_calls, calls_of}
@@ -71,19 +71,19 @@ late-reversed (row ∷ rows) =
     omega (arith, apart, one, first, rest)
 
 -- the calls of a process by its place among all
-pub at-calls : (ports : ℕ) (programs : List Program) (lefts : List ProcessLeft) (k : ℕ) (c : Calls) (p : Program) (l : ProcessLeft) → length lefts ≡ length programs → k < length lefts
-    → get_or (all_calls ports programs lefts) k c ≡ calls_of ports (get_or programs k p) (get_or lefts k l)
+pub at-calls : (ports : ℕ) (process_steps : List ProcessSteps) (lefts : List ProcessLeft) (k : ℕ) (c : Calls) (p : ProcessSteps) (l : ProcessLeft) → length lefts ≡ length process_steps → k < length lefts
+    → get_or (all_calls ports process_steps lefts) k c ≡ calls_of ports (get_or process_steps k p) (get_or lefts k l)
 at-calls ports [] [] k c p l same within = absurd (omega (arith, within))
 at-calls ports [] (y ∷ lefts) k c p l same within = absurd (omega (arith, same))
-at-calls ports (x ∷ programs) [] k c p l same within = absurd (omega (arith, same))
-at-calls ports (x ∷ programs) (y ∷ lefts) zero c p l same within = refl
-at-calls ports (x ∷ programs) (y ∷ lefts) (suc k) c p l same within = at-calls ports programs lefts k c p l (omega (arith, same)) (omega (arith, within))
+at-calls ports (x ∷ process_steps) [] k c p l same within = absurd (omega (arith, same))
+at-calls ports (x ∷ process_steps) (y ∷ lefts) zero c p l same within = refl
+at-calls ports (x ∷ process_steps) (y ∷ lefts) (suc k) c p l same within = at-calls ports process_steps lefts k c p l (omega (arith, same)) (omega (arith, within))
 
-pub many-calls : (ports : ℕ) (programs : List Program) (lefts : List ProcessLeft) → length lefts ≡ length programs → length (all_calls ports programs lefts) ≡ length lefts
+pub many-calls : (ports : ℕ) (process_steps : List ProcessSteps) (lefts : List ProcessLeft) → length lefts ≡ length process_steps → length (all_calls ports process_steps lefts) ≡ length lefts
 many-calls ports [] [] same = refl
 many-calls ports [] (l ∷ lefts) same = absurd (omega (arith, same))
-many-calls ports (p ∷ programs) [] same = absurd (omega (arith, same))
-many-calls ports (p ∷ programs) (l ∷ lefts) same = let less : length lefts ≡ length programs = omega (arith, same) in ap suc (many-calls ports programs lefts less)
+many-calls ports (p ∷ process_steps) [] same = absurd (omega (arith, same))
+many-calls ports (p ∷ process_steps) (l ∷ lefts) same = let less : length lefts ≡ length process_steps = omega (arith, same) in ap suc (many-calls ports process_steps lefts less)
 
 -- the call that tells a port of the end
 gone-ends : (reason : List ℕ) (number count : ℕ) → AllByRecursion (λ (a : Asked). (a.port == number) ≡ true → is_gone a.signal ≡ true) (gone_asks reason 0 count)
@@ -104,26 +104,26 @@ ends-alone number ports steps files oldest newest none =
     (steps-made (λ (a : Asked). (a.port == number) ≡ true → ⊥) steps files oldest none))))
 
 -- an owner's calls for its port, and their receipts: commands, closes behind them, and then its end
-pub record OwnerAsked (number ports : ℕ) (soft : List Bool) (program : Program) (left : ProcessLeft) : Type 0 where
+pub record OwnerAsked (number ports : ℕ) (soft : List Bool) (own_steps : ProcessSteps) (left : ProcessLeft) : Type 0 where
   pub reason : List ℕ
   pub commands : List Asked
   pub closing : List Asked
-  pub made_is : closing ++ commands ≡ made_by program.steps.items program.files.items left.receipts
-  pub asks_are : (calls_of ports program left).asks ≡ gone_asks reason 0 ports ++ (closing ++ commands)
+  pub made_is : closing ++ commands ≡ made_by own_steps.steps.items own_steps.files.items left.receipts
+  pub asks_are : (calls_of ports own_steps left).asks ≡ gone_asks reason 0 ports ++ (closing ++ commands)
   pub own : AllByRecursion (IsOwn number) commands
   pub close : AllByRecursion (IsCloseCall number) closing
-  pub told : AtEnd number soft reason (closing ++ commands) (gone_asks reason 0 ports ++ (closing ++ commands)) (calls_of ports program left).receipts
+  pub told : AtEnd number soft reason (closing ++ commands) (gone_asks reason 0 ports ++ (closing ++ commands)) (calls_of ports own_steps left).receipts
   pub behind : Behind number soft commands (closing ++ commands) told.rest
 
-pub owner-asked : (number ports : ℕ) (soft : List Bool) (program : Program) (left : ProcessLeft) → number < ports → AreReceipts soft (calls_of ports program left).asks (calls_of ports program left).receipts
-    → AllByRecursion (λ (s : Step). sends_to s.act ≡ Some number → (is_plain s.act || closes s.act) ≡ true) program.steps.items → ClosesLast number program.steps.items
-    → OwnerAsked number ports soft program left
-owner-asked number ports soft program left within are sent last =
-    let steps = program.steps.items in
-    let files = program.files.items in
+pub owner-asked : (number ports : ℕ) (soft : List Bool) (own_steps : ProcessSteps) (left : ProcessLeft) → number < ports → AreReceipts soft (calls_of ports own_steps left).asks (calls_of ports own_steps left).receipts
+    → AllByRecursion (λ (s : Step). sends_to s.act ≡ Some number → (is_plain s.act || closes s.act) ≡ true) own_steps.steps.items → ClosesLast number own_steps.steps.items
+    → OwnerAsked number ports soft own_steps left
+owner-asked number ports soft own_steps left within are sent last =
+    let steps = own_steps.steps.items in
+    let files = own_steps.files.items in
     let reason = end_reason steps in
     let made = own-made number steps files left.receipts sent last in
-    let newest : (calls_of ports program left).asks ≡ gone_asks reason 0 ports ++ (made.closing ++ made.commands) =
+    let newest : (calls_of ports own_steps left).asks ≡ gone_asks reason 0 ports ++ (made.closing ++ made.commands) =
     made-newest ports steps files left.receipts ∙ ap (λ asks. gone_asks reason 0 ports ++ asks) (sym made.are) in
     let told = at-end number soft reason (made.closing ++ made.commands) ports (reverse left.receipts) within (subst (λ asks. AreReceipts soft asks (reverse left.receipts)) newest are) in
     record {
@@ -139,24 +139,24 @@ owner-asked number ports soft program left within are sent last =
     }
 
 -- those of the owner's tasks that close its port: its closes, and its end where that was put
-abbrev pub closings_of : (number ports : ℕ) (soft : List Bool) (program : Program) (left : ProcessLeft) → OwnerAsked number ports soft program left → List TaskView
-closings_of number ports soft program left asked = asked.behind.closings ++ cond (is_put asked.told.end.outcome) (task_of (gone_ask asked.reason number) asked.told.end.outcome ∷ []) []
+abbrev pub closings_of : (number ports : ℕ) (soft : List Bool) (own_steps : ProcessSteps) (left : ProcessLeft) → OwnerAsked number ports soft own_steps left → List TaskView
+closings_of number ports soft own_steps left asked = asked.behind.closings ++ cond (is_put asked.told.end.outcome) (task_of (gone_ask asked.reason number) asked.told.end.outcome ∷ []) []
 
 -- the tasks of the owner: its commands, and then these
-pub owner-tasks : (number ports : ℕ) (soft : List Bool) (program : Program) (left : ProcessLeft) (asked : OwnerAsked number ports soft program left)
-    → accepted number (calls_of ports program left).asks (calls_of ports program left).receipts ≡ accepted number asked.commands asked.behind.rest ++ closings_of number ports soft program left asked
-owner-tasks number ports soft program left asked =
+pub owner-tasks : (number ports : ℕ) (soft : List Bool) (own_steps : ProcessSteps) (left : ProcessLeft) (asked : OwnerAsked number ports soft own_steps left)
+    → accepted number (calls_of ports own_steps left).asks (calls_of ports own_steps left).receipts ≡ accepted number asked.commands asked.behind.rest ++ closings_of number ports soft own_steps left asked
+owner-tasks number ports soft own_steps left asked =
     let gone = cond (is_put asked.told.end.outcome) (task_of (gone_ask asked.reason number) asked.told.end.outcome ∷ []) [] in
-    ap (λ asks. accepted number asks (calls_of ports program left).receipts) asked.asks_are ∙ asked.told.tasks ∙ ap (λ tasks. tasks ++ gone) asked.behind.tasks
+    ap (λ asks. accepted number asks (calls_of ports own_steps left).receipts) asked.asks_are ∙ asked.told.tasks ∙ ap (λ tasks. tasks ++ gone) asked.behind.tasks
     ∙ append_assoc (accepted number asked.commands asked.behind.rest) asked.behind.closings gone
 
-pub owner-commands : (number ports : ℕ) (soft : List Bool) (program : Program) (left : ProcessLeft) (asked : OwnerAsked number ports soft program left)
+pub owner-commands : (number ports : ℕ) (soft : List Bool) (own_steps : ProcessSteps) (left : ProcessLeft) (asked : OwnerAsked number ports soft own_steps left)
     → AreCommands (accepted number asked.commands asked.behind.rest)
-owner-commands number ports soft program left asked = tasks-all (λ s. is_plain_command s ≡ true) number asked.commands asked.behind.rest
+owner-commands number ports soft own_steps left asked = tasks-all (λ s. is_plain_command s ≡ true) number asked.commands asked.behind.rest
     (weaker (IsOwn number) (λ (a : Asked). (a.port == number) ≡ true → is_plain_command a.signal ≡ true) asked.commands (λ a own same. (own same).0) asked.own)
 
-pub owner-closings : (number ports : ℕ) (soft : List Bool) (program : Program) (left : ProcessLeft) (asked : OwnerAsked number ports soft program left) → AreClosings (closings_of number ports soft program left asked)
-owner-closings number ports soft program left asked =
+pub owner-closings : (number ports : ℕ) (soft : List Bool) (own_steps : ProcessSteps) (left : ProcessLeft) (asked : OwnerAsked number ports soft own_steps left) → AreClosings (closings_of number ports soft own_steps left asked)
+owner-closings number ports soft own_steps left asked =
     both _ asked.behind.closings (cond (is_put asked.told.end.outcome) (task_of (gone_ask asked.reason number) asked.told.end.outcome ∷ []) []) asked.behind.closings_are (gone (is_put asked.told.end.outcome))
   where
     gone : (b : Bool) → AreClosings (cond b (task_of (gone_ask asked.reason number) asked.told.end.outcome ∷ []) [])
@@ -164,14 +164,14 @@ owner-closings number ports soft program left asked =
     gone false = tt
 
 -- so where no call for the port was refused before the first that closes it, each of its commands was put
-pub owner-put : (number ports : ℕ) (soft : List Bool) (program : Program) (left : ProcessLeft) (asked : OwnerAsked number ports soft program left)
-    → AreReceipts soft (calls_of ports program left).asks (calls_of ports program left).receipts → ArePut number (calls_of ports program left)
-    → ArePutCommands number (calls_of ports program left).asks (calls_of ports program left).receipts
-owner-put number ports soft program left asked are put =
+pub owner-put : (number ports : ℕ) (soft : List Bool) (own_steps : ProcessSteps) (left : ProcessLeft) (asked : OwnerAsked number ports soft own_steps left)
+    → AreReceipts soft (calls_of ports own_steps left).asks (calls_of ports own_steps left).receipts → ArePut number (calls_of ports own_steps left)
+    → ArePutCommands number (calls_of ports own_steps left).asks (calls_of ports own_steps left).receipts
+owner-put number ports soft own_steps left asked are put =
     let gone = gone_asks asked.reason 0 ports in
     let later = gone ++ asked.closing in
-    let receipts = (calls_of ports program left).receipts in
-    let same : (calls_of ports program left).asks ≡ later ++ asked.commands = asked.asks_are ∙ sym (append_assoc gone asked.closing asked.commands) in
+    let receipts = (calls_of ports own_steps left).receipts in
+    let same : (calls_of ports own_steps left).asks ≡ later ++ asked.commands = asked.asks_are ∙ sym (append_assoc gone asked.closing asked.commands) in
     let closing = both (λ (a : Asked). (a.port == number) ≡ true → is_closing a.signal ≡ true) gone asked.closing
     (weaker (λ (a : Asked). (a.port == number) ≡ true → is_gone a.signal ≡ true) (λ (a : Asked). (a.port == number) ≡ true → is_closing a.signal ≡ true) gone
     (λ a ends for. gone-closing a.signal (ends for)) (gone-ends asked.reason number ports))

@@ -29,7 +29,7 @@ use Rattle.process_end.specs.process_receipts.declared.receipt.Outcome.{Outcome}
 use Rattle.run_setting.specs.run_end.Merge.{IsFromPort}
 use Rattle.run_setting.specs.run_end.Shown.{Calls, WordsHold}
 use Rattle.script_run.specs.run_opening.Opened.{limits_of, soft_at}
-use Rattle.run_setting.specs.run_seats.declared.plans.Program.{Program}
+use Rattle.run_setting.specs.run_seats.declared.plans.ProcessSteps.{ProcessSteps}
 use Rattle.run_setting.specs.declared.RunScript.{RunScript}
 use Rattle.run_setting.specs.Script.{IsRunnable}
 use Rattle.run_setting.specs.run_end.process_job.script_plan.declared.decl.PortDecl.{PortDecl}
@@ -56,13 +56,13 @@ use Rattle.echoed_history.proofs.Serving.{serves, unfinished}
 
 -- a port of a run that sends each command back, and that its owner alone sends commands
 module _ {D : Type 0} (kind : D → Kind) (stage : D → Life) (faults : D → ℕ) (own : D → Own) (program : D → Option ToldProgram) (script : RunScript) (old new : List (Hosted D)) (before : List ℕ)
-    (after : Option (List ℕ)) (ran : ScriptRan) (run : HasRun kind stage faults own program script old new before after ran) (number : ℕ) (d : PortDecl) (p : Program) (l : ProcessLeft) (o : PortLeft)
-    (within : number < length script.ports.items) (is : IsEchoPort number (slice_index_or script.ports.items number d) script.programs.items) where
+    (after : Option (List ℕ)) (ran : ScriptRan) (run : HasRun kind stage faults own program script old new before after ran) (number : ℕ) (d : PortDecl) (p : ProcessSteps) (l : ProcessLeft) (o : PortLeft)
+    (within : number < length script.ports.items) (is : IsEchoPort number (slice_index_or script.ports.items number d) script.process_steps.items) where
   abbrev ports : ℕ
   ports = length script.ports.items
 
   abbrev processes : ℕ
-  processes = length script.programs.items
+  processes = length script.process_steps.items
 
   abbrev decl : PortDecl
   decl = slice_index_or script.ports.items number d
@@ -70,8 +70,8 @@ module _ {D : Type 0} (kind : D → Kind) (stage : D → Life) (faults : D → �
   abbrev port : PortLeft
   port = slice_index_or ran.ports.items number o
 
-  abbrev of_process : ℕ → Program
-  of_process s = slice_index_or script.programs.items s p
+  abbrev of_process : ℕ → ProcessSteps
+  of_process s = slice_index_or script.process_steps.items s p
 
   abbrev left : ℕ → ProcessLeft
   left s = slice_index_or ran.processes.items s l
@@ -185,13 +185,13 @@ module _ {D : Type 0} (kind : D → Kind) (stage : D → Life) (faults : D → �
 
   rises : Rises marks 0 (stats_shown number (calls decl.owner).receipts)
   rises =
-      let all = all_calls ports script.programs.items ran.processes.items in
+      let all = all_calls ports script.process_steps.items ran.processes.items in
       let same = run.processes_many in
-      let many = many-calls ports script.programs.items ran.processes.items same in
+      let many = many-calls ports script.process_steps.items ran.processes.items same in
       let there = is-there in
       let below : decl.owner < length ran.processes.items = omega (arith, there, same) in
       let shown = served.words.shown decl.owner (calls decl.owner) (omega (arith, below, many)) in
-      (subst (WordsHold number (limits_of decl.config) marks all) (at-calls ports script.programs.items ran.processes.items decl.owner (calls decl.owner) p l same below) shown).rise
+      (subst (WordsHold number (limits_of decl.config) marks all) (at-calls ports script.process_steps.items ran.processes.items decl.owner (calls decl.owner) p l same below) shown).rise
 
   commands-taken : EachBeforeClose number is_taken asked.commands asked.behind.rest
   commands-taken = all-taken number (soft_at kind old run.places) asked.commands asked.behind.rest asked.behind.made_are asked.own

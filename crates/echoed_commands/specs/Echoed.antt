@@ -12,7 +12,7 @@ use Rattle.process_end.specs.process_receipts.declared.receipt.Outcome.TheVarian
 use Rattle.process_end.specs.process_receipts.declared.receipt.Receipt.{Receipt}
 use Rattle.process_end.specs.process_receipts.Receipts.{accepted, is_put}
 use Rattle.run_setting.specs.run_end.Shown.{Calls}
-use Rattle.run_setting.specs.run_seats.declared.plans.Program.{Program}
+use Rattle.run_setting.specs.run_seats.declared.plans.ProcessSteps.{ProcessSteps}
 use Rattle.run_setting.specs.declared.RunScript.{RunScript}
 use Rattle.run_setting.specs.Script.{IsRunnable}
 use Rattle.run_setting.specs.run_end.process_job.script_plan.declared.decl.PortDecl.{PortDecl}
@@ -50,11 +50,11 @@ pub record IsEchoed (number : ℕ) (calls : Calls) (port : PortLeft) (left : Pro
   pub none_late : late_commands port.journal.rows ≡ 0
 
 -- the calls that a process made in a run
-abbrev pub calls_in : RunScript → ScriptRan → ℕ → Program → ProcessLeft → Calls
-calls_in script ran process p left = calls_of (length script.ports.items) (slice_index_or script.programs.items process p) (slice_index_or ran.processes.items process left)
+abbrev pub calls_in : RunScript → ScriptRan → ℕ → ProcessSteps → ProcessLeft → Calls
+calls_in script ran process p left = calls_of (length script.ports.items) (slice_index_or script.process_steps.items process p) (slice_index_or ran.processes.items process left)
 
 -- so it is with the port of this number and its owner in a run
-abbrev pub EchoesTo : RunScript → ScriptRan → ℕ → ℕ → Program → PortLeft → ProcessLeft → Type 0
+abbrev pub EchoesTo : RunScript → ScriptRan → ℕ → ℕ → ProcessSteps → PortLeft → ProcessLeft → Type 0
 EchoesTo script ran number owner p port left =
     IsEchoed number (calls_in script ran owner p left) (slice_index_or ran.ports.items number port) (slice_index_or ran.processes.items owner left)
 
@@ -63,36 +63,36 @@ abbrev pub ArePut : ℕ → Calls → Type 0
 ArePut number calls = EachBeforeClose number is_put calls.asks calls.receipts
 
 -- then all is saved that its steps send: the data of its `command` steps and the contents of its `file` steps, in their order
-abbrev pub EchoesAllTo : RunScript → ScriptRan → ℕ → ℕ → Program → ProcessLeft → Type 0
+abbrev pub EchoesAllTo : RunScript → ScriptRan → ℕ → ℕ → ProcessSteps → ProcessLeft → Type 0
 EchoesAllTo script ran number owner p left = ArePut number (calls_in script ran owner p left)
     → saved_of number (slice_index_or ran.processes.items owner left).mails.items
-    ≡ all_sent_by number (slice_index_or script.programs.items owner p).steps.items (slice_index_or script.programs.items owner p).files.items
+    ≡ all_sent_by number (slice_index_or script.process_steps.items owner p).steps.items (slice_index_or script.process_steps.items owner p).files.items
 
 -- and none is refused where its owner makes few calls, and short ones
-abbrev pub RefusesNoneOf : RunScript → ScriptRan → ℕ → ℕ → Program → ProcessLeft → Type 0
-RefusesNoneOf script ran number owner p left = IsWithinLimits number (slice_index_or script.programs.items owner p) → ArePut number (calls_in script ran owner p left)
+abbrev pub RefusesNoneOf : RunScript → ScriptRan → ℕ → ℕ → ProcessSteps → ProcessLeft → Type 0
+RefusesNoneOf script ran number owner p left = IsWithinLimits number (slice_index_or script.process_steps.items owner p) → ArePut number (calls_in script ran owner p left)
 
 module _ {D : Type 0} (kind : D → Kind) (stage : D → Life) (faults : D → ℕ) (own : D → Own) (program : D → Option ToldProgram) where
   -- in each run of a script a port that sends each command back does so, in order
   abbrev pub CommandsAreEchoed : Type 0
   CommandsAreEchoed = (script : RunScript) (old new : List (Hosted D)) (before : List ℕ) (after : Option (List ℕ)) (ran : ScriptRan)
       → HasRun kind stage faults own program script old new before after ran
-      → (number : ℕ) (decl : PortDecl) (p : Program) (port : PortLeft) (left : ProcessLeft) → number < length script.ports.items
-      → IsEchoPort number (slice_index_or script.ports.items number decl) script.programs.items
+      → (number : ℕ) (decl : PortDecl) (p : ProcessSteps) (port : PortLeft) (left : ProcessLeft) → number < length script.ports.items
+      → IsEchoPort number (slice_index_or script.ports.items number decl) script.process_steps.items
       → EchoesTo script ran number (slice_index_or script.ports.items number decl).owner p port left
 
   -- it sends all back that the owner's steps send, where each call was put
   abbrev pub AllIsEchoed : Type 0
   AllIsEchoed = (script : RunScript) (old new : List (Hosted D)) (before : List ℕ) (after : Option (List ℕ)) (ran : ScriptRan)
       → HasRun kind stage faults own program script old new before after ran → IsRunnable script
-      → (number : ℕ) (decl : PortDecl) (p : Program) (left : ProcessLeft) → number < length script.ports.items
-      → IsEchoPort number (slice_index_or script.ports.items number decl) script.programs.items
+      → (number : ℕ) (decl : PortDecl) (p : ProcessSteps) (left : ProcessLeft) → number < length script.ports.items
+      → IsEchoPort number (slice_index_or script.ports.items number decl) script.process_steps.items
       → EchoesAllTo script ran number (slice_index_or script.ports.items number decl).owner p left
 
   -- and each call is put, where the owner makes few and short ones
   abbrev pub NoneIsRefused : Type 0
   NoneIsRefused = (script : RunScript) (old new : List (Hosted D)) (before : List ℕ) (after : Option (List ℕ)) (ran : ScriptRan)
       → HasRun kind stage faults own program script old new before after ran → IsRunnable script
-      → (number : ℕ) (decl : PortDecl) (p : Program) (left : ProcessLeft) → number < length script.ports.items
-      → IsEchoPort number (slice_index_or script.ports.items number decl) script.programs.items
+      → (number : ℕ) (decl : PortDecl) (p : ProcessSteps) (left : ProcessLeft) → number < length script.ports.items
+      → IsEchoPort number (slice_index_or script.ports.items number decl) script.process_steps.items
       → RefusesNoneOf script ran number (slice_index_or script.ports.items number decl).owner p left

@@ -3,7 +3,7 @@ use Rattle.std.specs.Prelude.{◌≡◌, ℕ, ◌<◌, ◌≤◌, ◌==◌, List
 use Rattle.std.specs.List.{list_any, sum_by}
 use Rattle.script_run.specs.run_opening.driver_model.Same.{same_bytes}
 use Rattle.run_setting.specs.run_end.process_job.Asks.{calls_of, files_after, next_content}
-use Rattle.run_setting.specs.run_seats.declared.plans.Program.{Program}
+use Rattle.run_setting.specs.run_seats.declared.plans.ProcessSteps.{ProcessSteps}
 use Rattle.run_setting.specs.run_end.process_job.script_plan.declared.decl.PortDecl.{PortDecl}
 use Rattle.run_setting.specs.run_end.process_job.script_plan.declared.step.Step.{Step}
 use Rattle.run_setting.specs.run_end.process_job.script_plan.declared.step.Act.{Act}
@@ -54,11 +54,11 @@ ClosesLast number [] = Unit {0}
 ClosesLast number (step ∷ steps) = (sends_to step.act ≡ Some number → closes step.act ≡ true → OnlyClose number steps) × ClosesLast number steps
 
 -- The driver of the port sends each command back. Of all steps those that send to the port are its owner's: they send commands without options or close it, and those that close it stand last
-pub record IsEchoPort (number : ℕ) (decl : PortDecl) (programs : List Program) : Type 0 where
+pub record IsEchoPort (number : ℕ) (decl : PortDecl) (process_steps : List ProcessSteps) : Type 0 where
   pub driver : sends_back decl.driver ≡ true
-  pub sent : (process : ℕ) (p : Program) → process < length programs
-      → All (λ s. sends_to s.act ≡ Some number → (process ≡ decl.owner) × ((is_plain s.act || closes s.act) ≡ true)) (slice_index_or programs process p).steps.items
-  pub closes_last : (process : ℕ) (p : Program) → process < length programs → ClosesLast number (slice_index_or programs process p).steps.items
+  pub sent : (process : ℕ) (p : ProcessSteps) → process < length process_steps
+      → All (λ s. sends_to s.act ≡ Some number → (process ≡ decl.owner) × ((is_plain s.act || closes s.act) ≡ true)) (slice_index_or process_steps process p).steps.items
+  pub closes_last : (process : ℕ) (p : ProcessSteps) → process < length process_steps → ClosesLast number (slice_index_or process_steps process p).steps.items
 
 -- the bytes that an act sends to a port in commands: those of a file are its content
 abbrev pub sent_by : ℕ → Act → List ℕ → List ℕ
@@ -78,6 +78,6 @@ IsShort number (Command port bytes force nosuspend) = port ≡ number → length
 IsShort number _ = Unit {0}
 
 -- the process makes no more calls than it may, for all ports together, and its commands for this port are short
-pub record IsWithinLimits (number : ℕ) (program : Program) : Type 0 where
-  pub few : sum_by length (calls_of program.steps.items program.files.items) ≤ 131072
-  pub short : All (λ s. IsShort number s.act) program.steps.items
+pub record IsWithinLimits (number : ℕ) (own_steps : ProcessSteps) : Type 0 where
+  pub few : sum_by length (calls_of own_steps.steps.items own_steps.files.items) ≤ 131072
+  pub short : All (λ s. IsShort number s.act) own_steps.steps.items

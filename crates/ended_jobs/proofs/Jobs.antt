@@ -26,13 +26,13 @@ use Rattle.ended_jobs.specs.Ended.{ran_of}
 use Rattle.ended_jobs.proofs.Places.{mapped_at, one_of, same_many}
 
 -- the steps that were dealt were made to the end
-whole : (plan : ProcessPlan) (w : ProcessWork) (end : EndedProcess) (ports : ℕ) → IsWorkOf (proc_of plan) plan.program.steps.items plan.program.files.items w → CanMakeSteps ports w
+whole : (plan : ProcessPlan) (w : ProcessWork) (end : EndedProcess) (ports : ℕ) → IsWorkOf (proc_of plan) plan.own_steps.steps.items plan.own_steps.files.items w → CanMakeSteps ports w
     → HasRunToEnd w.steps.items w.files.items w.proc end.proc end.mails.items → HasRunWhole (ran_of plan end)
 whole plan w end ports dealt can ran = record {
   fresh = subst IsFreshProcess dealt.proc_is can.fresh;
   ran =
-      subst (λ p. HasRunToEnd plan.program.steps.items plan.program.files.items p end.proc end.mails.items) dealt.proc_is
-      (subst (λ f. HasRunToEnd plan.program.steps.items f w.proc end.proc end.mails.items) dealt.files_are
+      subst (λ p. HasRunToEnd plan.own_steps.steps.items plan.own_steps.files.items p end.proc end.mails.items) dealt.proc_is
+      (subst (λ f. HasRunToEnd plan.own_steps.steps.items f w.proc end.proc end.mails.items) dealt.files_are
       (subst (λ s. HasRunToEnd s w.files.items w.proc end.proc end.mails.items) dealt.steps_are ran));
 }
 
@@ -40,7 +40,7 @@ module _ {B : Type 0} {g : Ghosts B} where
   one_whole : (plan : ProcessPlan) (old new : ProcessJob B g) (end : EndedProcess) → IsDealtProcess plan old → CanRun old → HasRun old new → new.end ≡ Some (Ended end) → HasRunWhole (ran_of plan end)
   one_whole plan old new end dealt can ran is = of-work old.work dealt.work can.work ran.ends
     where
-      of-work : (work : Option ProcessWork) → IfSome work (IsWorkOf (proc_of plan) plan.program.steps.items plan.program.files.items) → IsSomeAnd work (CanMakeSteps (length old.seats.ports.homes.items))
+      of-work : (work : Option ProcessWork) → IfSome work (IsWorkOf (proc_of plan) plan.own_steps.steps.items plan.own_steps.files.items) → IsSomeAnd work (CanMakeSteps (length old.seats.ports.homes.items))
           → IfSome work (λ w. EndsAs w ran.kept old.seats.over new.seats.over new.end) → HasRunWhole (ran_of plan end)
       of-work None dealt can ends = absurd can
       of-work (Some w) dealt can ends = whole plan w end (length old.seats.ports.homes.items) dealt can (subst (EndsAs w ran.kept old.seats.over new.seats.over) is ends).0

@@ -22,9 +22,9 @@ use Rattle.run_seats.specs.declared.seating.OtherLanes.{OtherLanes}
 use Rattle.run_seats.specs.Dealt.{proc_of}
 use Rattle.run_setting.specs.Jobs.{HasWorkedLane}
 
--- a process that was to make this program, and what is left of it
+-- a process that was to make these steps, and what is left of it
 abbrev pub ran_of : ProcessPlan → EndedProcess → RanProcess
-ran_of plan end = record { old = proc_of plan; steps = plan.program.steps.items; files = plan.program.files.items; end = end.proc; mails = end.mails.items }
+ran_of plan end = record { old = proc_of plan; steps = plan.own_steps.steps.items; files = plan.own_steps.files.items; end = end.proc; mails = end.mails.items }
 
 -- the one who told of the end told the poller and each worker once
 pub record HasToldAll (ends : FinishEnds) (left : FinishLeft) : Type 0 where
@@ -37,7 +37,7 @@ module _ {S : Type 0} (faults : S → ℕ) (answered : S → List ℕ) where
     pub polls : PollsTo poller.Finished (poller_of faults answered (record { poll = poll; table = []; asks = lanes.asks })) (poller_of faults answered left.watch) lanes.lanes.items left.lanes.items
     pub unfailed : faults left.watch.poll ≡ faults poll
 
-  -- each process made its program to its end, each worker answered all jobs of its lane, the poller told all that it found, and both were told of the end
+  -- each process made its steps to its end, each worker answered all jobs of its lane, the poller told all that it found, and both were told of the end
   pub record HaveEndedFor (plans : List ProcessPlan) (lanes : OtherLanes) (poll : S) (jobs : EndedJobs S) : Type 0 where
     pub processes_many : length jobs.processes.items ≡ length plans
     pub processes : (n : ℕ) (p : ProcessPlan) (e : EndedProcess) → n < length plans → HasRunWhole (ran_of (slice_index_or plans n p) (slice_index_or jobs.processes.items n e))

@@ -10,22 +10,22 @@ use Rattle.load_summary.specs.run_output.script_run.declared.running.ScriptRan.{
 use Rattle.run_report.specs.declared.report.Report.{Report}
 use Rattle.run_report.specs.Report.{summary_of}
 use Rattle.script_input.specs.run_setting.declared.RunScript.{RunScript}
-use Rattle.script_input.specs.run_setting.run_seats.declared.plans.Program.{Program}
+use Rattle.script_input.specs.run_setting.run_seats.declared.plans.ProcessSteps.{ProcessSteps}
 use Rattle.script_input.specs.Words.{Source, FromFile, FromLoad}
 use Rattle.script_plan.specs.declared.decl.PortDecl.{PortDecl}
 
 -- What is saved of this port for its owner is the data of its commands that were put, in the order of the script; where all were, it is all that its steps send; and all are, where it makes few calls and short
 -- ones
 pub record EchoesBack (script : RunScript) (left : ScriptRan) (number owner : ℕ) : Type 0 where
-  pub echoed : (p : Program) (port : PortLeft) (l : ProcessLeft) → EchoesTo script left number owner p port l
-  pub all : (p : Program) (l : ProcessLeft) → EchoesAllTo script left number owner p l
-  pub none_refused : (p : Program) (l : ProcessLeft) → RefusesNoneOf script left number owner p l
+  pub echoed : (p : ProcessSteps) (port : PortLeft) (l : ProcessLeft) → EchoesTo script left number owner p port l
+  pub all : (p : ProcessSteps) (l : ProcessLeft) → EchoesAllTo script left number owner p l
+  pub none_refused : (p : ProcessSteps) (l : ProcessLeft) → RefusesNoneOf script left number owner p l
 
 -- Each port of a driver that sends back, and to which its owner alone sends, commands and behind them closes, does so. What is saved of each port of a program, which no step hands to another process, are the
 -- messages of the bytes that the port took
 pub record AnswersAreFixed (script : RunScript) (left : ScriptRan) : Type 0 where
   pub echoes : (number : ℕ) (decl : PortDecl) → number < length script.ports.items
-      → IsEchoPort number (slice_index_or script.ports.items number decl) script.programs.items
+      → IsEchoPort number (slice_index_or script.ports.items number decl) script.process_steps.items
       → EchoesBack script left number (slice_index_or script.ports.items number decl).owner
   pub programs : (number : ℕ) (decl : PortDecl) (port : PortLeft) (l : ProcessLeft) → ServesProgram script number (slice_index_or script.ports.items number decl)
       → IsSaved number (slice_index_or script.ports.items number decl) (slice_index_or left.ports.items number port)

@@ -11,7 +11,7 @@ use no_memory::NoMemory;
 use outside::Files;
 use run_report::Cause;
 use script_input::{
-    InputFault, RunInput, RunSource, input_cause, load_programs, read_run_script, run_words,
+    InputFault, RunInput, RunSource, input_cause, load_steps, read_run_script, run_words,
 };
 use script_load::load_script;
 use script_plan::{PortDecl, Script};
@@ -92,7 +92,7 @@ pub fn prepare<'a, D: Driver, F: Files>(
         Err(fault) => return Err(input_cause(fault)),
     };
     look_for_drivers(alloc, hosts, script.ports())?;
-    match load_programs(alloc, files, script, asked.schedulers, asked.workers) {
+    match load_steps(alloc, files, script, asked.schedulers, asked.workers) {
         Ok(input) => Ok(Prepared {
             source: asked.source,
             input,

@@ -27,8 +27,8 @@ use Rattle.script_input.specs.run_setting.run_end.process_job.Asks.{calls_of as 
 use Rattle.script_input.specs.run_setting.run_end.process_job.Mails.{mail_from, messages_of, readable}
 use Rattle.script_input.specs.run_setting.run_end.process_job.Waits.{ShowsClosed, WaitsAreShown}
 use Rattle.script_input.specs.run_setting.run_end.Shown.{Calls}
-use Rattle.script_input.specs.run_setting.run_seats.declared.plans.Program.{Program}
-use Rattle.script_input.specs.Programs.{steps_of as steps_by}
+use Rattle.script_input.specs.run_setting.run_seats.declared.plans.ProcessSteps.{ProcessSteps}
+use Rattle.script_input.specs.StepsDealt.{steps_of as steps_by}
 use Rattle.script_plan.specs.declared.decl.PortDecl.{PortDecl}
 use Rattle.script_plan.specs.declared.step.Step.{Step}
 use Rattle.script_load.specs.Load.{commands_to, goes_to, load_plan, port_with, ports}
@@ -48,7 +48,7 @@ use Rattle.load_summary.specs.Law.{HasRunLoad}
 use Rattle.load_summary.proofs.Asking.{IsPlain, accepted-below, asked-below, tasks_sum}
 use Rattle.load_summary.proofs.Receiving.{messages-few}
 use Rattle.load_summary.proofs.Rows.{OfProcesses, TasksAreQuiet, rows-quiet, rows-sum}
-use Rattle.load_summary.proofs.Steps.{owner-waits, plan-ports, plan-processes, program-plain}
+use Rattle.load_summary.proofs.Steps.{owner-waits, plan-ports, plan-processes, own-steps-plain}
 use Rattle.load_summary.proofs.Sums.{IsBelow, below-over, below-then, over-places}
 use Rattle.load_summary.proofs.Telling.{All-reversed, IsCommand, IsMild, calls-mild, calls-parts, commands-quiet, made-commands, mild-quiet, put-are, unput-commands}
 
@@ -86,8 +86,8 @@ module _ {D : Type 0} (kind : D → Kind) (stage : D → Life) (faults : D → �
   pub ports-many : length script.ports.items ≡ 4
   ports-many = ap length (r.run_of.ports ∙ plan-ports number)
 
-  pub programs-many : length script.programs.items ≡ 8
-  programs-many = r.run_of.programs.many ∙ ap length (plan-processes number)
+  pub process-steps-many : length script.process_steps.items ≡ 8
+  process-steps-many = r.run_of.process_steps.many ∙ ap length (plan-processes number)
 
   abbrev pub steps : List Step
   steps = (load_plan number).steps
@@ -96,10 +96,10 @@ module _ {D : Type 0} (kind : D → Kind) (stage : D → Life) (faults : D → �
   abbrev pub decl_at : ℕ → PortDecl
   decl_at k = get_or script.ports.items k (port_with 0)
 
-  abbrev pub program_at : Program → ℕ → Program
-  program_at q s = get_or script.programs.items s q
+  abbrev pub own_steps_at : ProcessSteps → ℕ → ProcessSteps
+  own_steps_at q s = get_or script.process_steps.items s q
 
-  module _ (p : PortLeft) (q : Program) (l : ProcessLeft) where
+  module _ (p : PortLeft) (q : ProcessSteps) (l : ProcessLeft) where
     abbrev pub port_at : ℕ → PortLeft
     port_at k = get_or left.ports.items k p
 
@@ -107,16 +107,16 @@ module _ {D : Type 0} (kind : D → Kind) (stage : D → Life) (faults : D → �
     rows_at k = history_of (port_at k)
 
     abbrev pub open_at : ℕ → Opening
-    open_at k = opening_of k (length script.programs.items) Echo (decl_at k) (port_at k)
+    open_at k = opening_of k (length script.process_steps.items) Echo (decl_at k) (port_at k)
 
     abbrev pub calls_at : ℕ → Calls
-    calls_at s = calls_of (length script.ports.items) (program_at q s) (get_or left.processes.items s l)
+    calls_at s = calls_of (length script.ports.items) (own_steps_at q s) (get_or left.processes.items s l)
 
     -- what a run says of a port, whose driver sends back
     record PortIs (k : ℕ) : Type 0 where
       pub lawful : Lawful (open_at k) (rows_at k)
       pub finished : IsFinished (open_at k) (rows_at k)
-      pub senders : All (IsFrom (length script.programs.items) script.workers) (rows_at k)
+      pub senders : All (IsFrom (length script.process_steps.items) script.workers) (rows_at k)
       pub tasks : (s : ℕ) → s < 8 → rows_from (Process s) (rows_at k) ≡ accepted k (calls_at s).asks (calls_at s).receipts
       pub mail : (s : ℕ) → s < 8 → mail_from (Some k) (r.has_run.came s) ≡ readable (mails (open_at k) s (rows_at k))
 
@@ -137,37 +137,37 @@ module _ {D : Type 0} (kind : D → Kind) (stage : D → Life) (faults : D → �
     port-is k below =
         let served = r.has_run.ports k (port_with 0) p (record { port = None; driver = None }) (let many = ports-many in omega (arith, below, many)) in
         let echo : kind served.driver ≡ Echo = echo-kind (kind served.driver) (served.holds.named ∙ ap (λ (d : PortDecl). d.driver) (decl-is k below)) in
-        let P : Kind → Opening = λ x. opening_of k (length script.programs.items) x (decl_at k) (port_at k) in
-        let within : (s : ℕ) → s < 8 → s < length script.programs.items = λ s less. (let many = programs-many in omega (arith, less, many)) in
+        let P : Kind → Opening = λ x. opening_of k (length script.process_steps.items) x (decl_at k) (port_at k) in
+        let within : (s : ℕ) → s < 8 → s < length script.process_steps.items = λ s less. (let many = process-steps-many in omega (arith, less, many)) in
         record {
           lawful = subst (λ x. Lawful (P x) (rows_at k)) echo served.holds.lawful;
           finished = subst (λ x. IsFinished (P x) (rows_at k)) echo served.holds.finished;
-          senders = All-reversed (IsFrom (length script.programs.items) script.workers) (port_at k).journal.rows served.holds.senders;
+          senders = All-reversed (IsFrom (length script.process_steps.items) script.workers) (port_at k).journal.rows served.holds.senders;
           tasks = λ s less. (served.pairs s q l (within s less)).tasks;
           mail = λ s less. subst (λ x. mail_from (Some k) (r.has_run.came s) ≡ readable (mails (P x) s (rows_at k))) echo (served.pairs s q l (within s less)).mail;
         }
 
-    program-is : (s : ℕ) → s < 8 → (program_at q s).steps.items ≡ steps_by s steps
-    program-is s below = (r.run_of.programs.each s q (let many = ap length (plan-processes number) in omega (arith, below, many))).steps_are
+    own-steps-are : (s : ℕ) → s < 8 → (own_steps_at q s).steps.items ≡ steps_by s steps
+    own-steps-are s below = (r.run_of.process_steps.each s q (let many = ap length (plan-processes number) in omega (arith, below, many))).steps_are
 
-    plain-at : (s : ℕ) → s < 8 → All (λ (x : Step). IsPlain x.act) (program_at q s).steps.items
-    plain-at s below = subst (All (λ (x : Step). IsPlain x.act)) (sym (program-is s below)) (program-plain number s)
+    plain-at : (s : ℕ) → s < 8 → All (λ (x : Step). IsPlain x.act) (own_steps_at q s).steps.items
+    plain-at s below = subst (All (λ (x : Step). IsPlain x.act)) (sym (own-steps-are s below)) (own-steps-plain number s)
 
     -- the commands of a process that have a row are among its steps
     process-below : (k s : ℕ) → PortIs k → s < 8
         → IsBelow (tasks_sum one_command (rows_from (Process s) (rows_at k))) (tasks_sum command_size (rows_from (Process s) (rows_at k))) (commands_to k (steps_by s steps)) (command_bytes k (steps_by s steps))
     process-below k s is below =
         subst (λ ts. IsBelow (tasks_sum one_command ts) (tasks_sum command_size ts) (commands_to k (steps_by s steps)) (command_bytes k (steps_by s steps))) (sym (is.tasks s below))
-        (subst (λ l. IsBelow (tasks_sum one_command (accepted k (calls_at s).asks (calls_at s).receipts)) (tasks_sum command_size (accepted k (calls_at s).asks (calls_at s).receipts)) (commands_to k l) (command_bytes k l)) (program-is s below)
+        (subst (λ l. IsBelow (tasks_sum one_command (accepted k (calls_at s).asks (calls_at s).receipts)) (tasks_sum command_size (accepted k (calls_at s).asks (calls_at s).receipts)) (commands_to k l) (command_bytes k l)) (own-steps-are s below)
         (below-then _ _ _ _ _ _ (accepted-below k (calls_at s).asks (calls_at s).receipts)
-        (asked-below k (length script.ports.items) (program_at q s).steps.items (program_at q s).files.items (get_or left.processes.items s l).receipts (plain-at s below))))
+        (asked-below k (length script.ports.items) (own_steps_at q s).steps.items (own_steps_at q s).files.items (get_or left.processes.items s l).receipts (plain-at s below))))
 
     -- so are those of all processes
     rows-below : (k : ℕ) → PortIs k → IsBelow (task_sum one_command (rows_at k)) (task_sum command_size (rows_at k)) (commands_to k steps) (command_bytes k steps)
     rows-below k is =
-        let n = length script.programs.items in
-        let senders : All (λ (s : Step). s.process < n) steps = subst (λ m. All (λ (s : Step). s.process < m) steps) (ap length (plan-processes number) ∙ sym programs-many) (IsPlan-load number).senders in
-        let within : (s : ℕ) → s < n → s < 8 = λ s less. (let many = programs-many in omega (arith, less, many)) in
+        let n = length script.process_steps.items in
+        let senders : All (λ (s : Step). s.process < n) steps = subst (λ m. All (λ (s : Step). s.process < m) steps) (ap length (plan-processes number) ∙ sym process-steps-many) (IsPlan-load number).senders in
+        let within : (s : ℕ) → s < n → s < 8 = λ s less. (let many = process-steps-many in omega (arith, less, many)) in
         let one = rows-sum one_command one-of-processes n script.workers (open_at k) (rows_at k) is.lawful is.senders in
         let size = rows-sum command_size size-of-processes n script.workers (open_at k) (rows_at k) is.lawful is.senders in
         let most = over-places (λ (s : Step). s.process) (λ (s : Step). cond (goes_to k s.act) 1 0) n steps senders in
@@ -177,14 +177,14 @@ module _ {D : Type 0} (kind : D → Kind) (stage : D → Life) (faults : D → �
         let few = below.few in
         record { few = omega (arith, few, one, most); same = λ e. sym size ∙ below.same (omega (arith, e, one, most)) ∙ all }
 
-    process-is : (s : ℕ) → s < 8 → (soft : List Bool) × ProcessHolds (length script.ports.items) soft (program_at q s) (calls_at s) (get_or left.processes.items s l) (r.has_run.came s)
-    process-is s below = (_, r.has_run.processes s q l (let many = programs-many in omega (arith, below, many)))
+    process-is : (s : ℕ) → s < 8 → (soft : List Bool) × ProcessHolds (length script.ports.items) soft (own_steps_at q s) (calls_at s) (get_or left.processes.items s l) (r.has_run.came s)
+    process-is s below = (_, r.has_run.processes s q l (let many = process-steps-many in omega (arith, below, many)))
 
     -- the owner of a port finds it open at its end: else nothing would close it
     owner-finds-open : (k : ℕ) → k < 4 → PortIs k → ShowsClosed k (calls_at k).receipts → ⊥
     owner-finds-open k below is closed =
         let early : k < 8 = omega (arith, below) in
-        let prog = program_at q k in
+        let prog = own_steps_at q k in
         let newest = (get_or left.processes.items k l).receipts in
         let made = made_of (calls_by prog.steps.items prog.files.items) newest in
         let parts = calls-parts (length script.ports.items) prog.steps.items prog.files.items newest in
@@ -194,17 +194,17 @@ module _ {D : Type 0} (kind : D → Kind) (stage : D → Life) (faults : D → �
         (unput-commands k (process-is k early).0 (end_reason prog.steps.items) (length script.ports.items) (reverse made) (calls_at k).receipts
         (subst (λ asks. AreReceipts (process-is k early).0 asks (calls_at k).receipts) parts (process-is k early).1.receipts) (let many = ports-many in omega (arith, below, many)) closed
         (All-reversed (λ (a : Asked). IsCommand a.signal) made (made-commands prog.steps.items prog.files.items newest (plain-at k early))))) in
-        let quiet : TasksAreQuiet k (length script.programs.items) (rows_at k) = λ s less.
-        let within : s < 8 = (let many = programs-many in omega (arith, less, many)) in
+        let quiet : TasksAreQuiet k (length script.process_steps.items) (rows_at k) = λ s less.
+        let within : s < 8 = (let many = process-steps-many in omega (arith, less, many)) in
         ⊎_elim
         (λ (same : s ≡ k). subst (λ j. All (λ (t : TaskView). IsQuiet k (Process j) t.signal) (rows_from (Process j) (rows_at k))) (sym same)
         (All-weaker (λ (t : TaskView). IsCommand t.signal) (λ (t : TaskView). IsQuiet k (Process k) t.signal) (λ t c. commands-quiet k k t.signal c) (rows_from (Process k) (rows_at k)) own-tasks))
         (λ (apart : s ≡ k → ⊥). subst (All (λ (t : TaskView). IsQuiet k (Process s) t.signal)) (sym (is.tasks s within))
         (All-weaker (λ (t : TaskView). IsMild t.signal) (λ (t : TaskView). IsQuiet k (Process s) t.signal) (λ t c. mild-quiet k s t.signal (ne_eqb s k apart) c) (accepted k (calls_at s).asks (calls_at s).receipts)
-        (put-are IsMild k (calls_at s).asks (calls_at s).receipts (calls-mild (length script.ports.items) (program_at q s).steps.items (program_at q s).files.items (get_or left.processes.items s l).receipts (plain-at s within)))))
+        (put-are IsMild k (calls_at s).asks (calls_at s).receipts (calls-mild (length script.ports.items) (own_steps_at q s).steps.items (own_steps_at q s).files.items (get_or left.processes.items s l).receipts (plain-at s within)))))
         (cases_eq s k) in
         stay-open (open_at k) (rows_at k) refl is.lawful
-        (subst (λ o. AreQuiet o (rows_at k)) (sym (owner-is k below)) (rows-quiet k (length script.programs.items) script.workers (rows_at k) is.senders quiet)) is.finished
+        (subst (λ o. AreQuiet o (rows_at k)) (sym (owner-is k below)) (rows-quiet k (length script.process_steps.items) script.workers (rows_at k) is.senders quiet)) is.finished
 
     -- so it had all messages of the port, and as many commands were handled
     all-handled : (k : ℕ) → k < 4 → PortIs k → commands_to k steps ≤ handled_commands (open_at k) (rows_at k)
@@ -230,8 +230,8 @@ module _ {D : Type 0} (kind : D → Kind) (stage : D → Life) (faults : D → �
         }) in
         omega (arith, had, few))
         (λ (closed : ShowsClosed k (calls_at k).receipts). absurd (owner-finds-open k below is closed))
-        (owner-waits number k mail (get_or left.processes.items k l).receipts (program_at q k).files.items below
-        (subst (λ steps. WaitsAreShown mail (get_or left.processes.items k l).receipts steps (program_at q k).files.items) (program-is k early) holds.waited))
+        (owner-waits number k mail (get_or left.processes.items k l).receipts (own_steps_at q k).files.items below
+        (subst (λ steps. WaitsAreShown mail (get_or left.processes.items k l).receipts steps (own_steps_at q k).files.items) (own-steps-are k early) holds.waited))
 
     pub port-whole : (k : ℕ) → k < 4 → IsWhole (open_at k) (rows_at k) (commands_to k steps) (command_bytes k steps)
     port-whole k below =

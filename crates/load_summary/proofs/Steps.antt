@@ -11,7 +11,7 @@ use Rattle.script_input.specs.run_setting.run_end.process_receipts.declared.rece
 use Rattle.script_input.specs.run_setting.run_end.process_job.Asks.{asks_of, files_after, made_of_step, next_content}
 use Rattle.script_input.specs.run_setting.run_end.process_job.Mails.{bytes_of, messages_of}
 use Rattle.script_input.specs.run_setting.run_end.process_job.Waits.{ShowsClosed, StaysClosed, WaitIsShown, WaitsAreShown, last_receipt, stat_shown}
-use Rattle.script_input.specs.Programs.{steps_of as steps_by}
+use Rattle.script_input.specs.StepsDealt.{steps_of as steps_by}
 use Rattle.script_plan.specs.declared.step.Step.{Step}
 use Rattle.script_plan.specs.declared.step.Act.{Act}
 use Rattle.script_plan.specs.declared.step.Act.TheVariants.{Bytes, Expect}
@@ -59,8 +59,8 @@ plan-steps number = refl
 pub plan-plain : (number : ℕ) → All StepIsPlain (load_plan number).steps
 plan-plain number = subst (All StepIsPlain) (sym (plan-steps number)) (all-plain (values 16000 number) processes)
 
-pub program-plain : (number process : ℕ) → All StepIsPlain (steps_by process (load_plan number).steps)
-program-plain number process = All-filter (λ (s : Step). eqb s.process process) StepIsPlain (load_plan number).steps (plan-plain number)
+pub own-steps-plain : (number process : ℕ) → All StepIsPlain (steps_by process (load_plan number).steps)
+own-steps-plain number process = All-filter (λ (s : Step). eqb s.process process) StepIsPlain (load_plan number).steps (plan-plain number)
 
 -- the mail has so much data of the port, or the port is closed by its last receipt, of which the newest stand first
 abbrev pub WaitShows : List Mail → List Receipt → Act → Type 0
@@ -144,7 +144,7 @@ owner-waits number process mails receipts files below shown =
     let P : Step → Type 0 = λ s. WaitShows mails (reverse receipts) s.act in
     subst (λ n. WaitShows mails (reverse receipts) (Expect process n)) (sym (counts-all number process))
     (wait-there P xs process below (subst (λ l. All P (filter (λ (s : Step). eqb s.process process) l)) (plan-steps number)
-    (each-shows mails receipts [] (reverse receipts) (steps_by process (load_plan number).steps) files (append-nil (reverse receipts)) (program-plain number process) shown)))
+    (each-shows mails receipts [] (reverse receipts) (steps_by process (load_plan number).steps) files (append-nil (reverse receipts)) (own-steps-plain number process) shown)))
 
 -- all commands go to some port
 port-below : (x : ℕ) → port_of x < 4

@@ -27,7 +27,7 @@ use Rattle.run_output.specs.script_run.declared.running.PortLeft.{PortLeft}
 use Rattle.run_output.specs.script_run.Ran.{opening_of}
 use Rattle.load_summary.specs.Law.{SummaryIsOfNumber}
 use Rattle.load_summary.specs.Summary.{all_bytes, command_bytes, first_line, port_line}
-use Rattle.load_summary.proofs.Ports.{owner-is, port-whole, ports-many, programs-many}
+use Rattle.load_summary.proofs.Ports.{owner-is, port-whole, ports-many, process-steps-many}
 use Rattle.load_summary.proofs.Steps.{all-commands, plan-ports, plan-processes}
 
 -- some element of a list that has one
@@ -83,10 +83,10 @@ pub summary-is : {D : Type 0} (kind : D → Kind) (stage : D → Life) (faults :
 summary-is kind stage faults own program number script names left r =
     let steps = (load_plan number).steps in
     let many : length left.ports.items ≡ 4 = r.has_run.ports_many ∙ ports-many kind stage faults own program number script names left r in
-    let programs = programs-many kind stage faults own program number script names left r in
-    let processes_many : length left.processes.items ≡ 8 = r.has_run.processes_many ∙ programs in
+    let process-steps = process-steps-many kind stage faults own program number script names left r in
+    let processes_many : length left.processes.items ≡ 8 = r.has_run.processes_many ∙ process-steps in
     let p = some left.ports.items (omega (arith, many)) in
-    let q = some script.programs.items (omega (arith, programs)) in
+    let q = some script.process_steps.items (omega (arith, process-steps)) in
     let l = some left.processes.items (omega (arith, processes_many)) in
     let at : ℕ → PortLeft = λ k. get_or left.ports.items k p in
     let reported : ℕ → PortReport = λ k. port_report (port_name (port_with k)) (at k) in
@@ -98,7 +98,7 @@ summary-is kind stage faults own program number script names left r =
     length-map (zip names.processes.items left.processes.items) (λ x. process_report x.0 x.1) ∙ length-zip names.processes.items left.processes.items ∙ (λ i. min (named i) (processes_many i)) in
     let count : (k : ℕ) → k < 4 → Counts (commands_to k steps) (command_bytes k steps) (counts_of 8 (reported k)) = λ k below.
     let whole = port-whole kind stage faults own program number script names left r p q l k below in
-    let same = same_counts (reported_opening 8 (reported k)) (opening_of k (length script.programs.items) Echo (get_or script.ports.items k (port_with 0)) (at k)) (reverse (at k).journal.rows) (sym (owner-is kind stage faults own program number script names left r p q l k below)) (sym programs) in
+    let same = same_counts (reported_opening 8 (reported k)) (opening_of k (length script.process_steps.items) Echo (get_or script.ports.items k (port_with 0)) (at k)) (reverse (at k).journal.rows) (sym (owner-is kind stage faults own program number script names left r p q l k below)) (sym programs) in
     record {
       commands_are = same.commands ∙ whole.handled;
       late_are = sym (late-reversed (at k).journal.rows) ∙ whole.late;

@@ -81,8 +81,8 @@ fn run_process<B: PortBody, R: Wait>(
     } = work;
     let mut log = MailLog::new(alloc, seats.ports.homes.len())?;
     make_room(&mut proc, &mut log, steps.len());
-    let program = StepsToMake { steps, files };
-    let (proc, reason) = make_steps(rt, alloc, seats, &mut log, proc, program)?;
+    let own_steps = StepsToMake { steps, files };
+    let (proc, reason) = make_steps(rt, alloc, seats, &mut log, proc, own_steps)?;
     let proc = end_process(rt, seats, proc, reason)?;
     Ok(EndedProcess {
         proc,

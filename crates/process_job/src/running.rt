@@ -67,18 +67,18 @@ pub(crate) fn make_steps<B: PortBody, R: Wait>(
     seats: &mut ProcessSeats<B>,
     log: &mut MailLog,
     proc: Proc,
-    program: StepsToMake,
+    own_steps: StepsToMake,
 ) -> Result<(Proc, Reason), Halt>
     requires ports { HasPorts seats.old proc }
-    requires within { (processes : ℕ) × AreAmong processes proc.lanes × AreWithin processes (length proc.lanes) program.steps.items }
+    requires within { (processes : ℕ) × AreAmong processes proc.lanes × AreWithin processes (length proc.lanes) own_steps.steps.items }
     ensures seats { SeatsAfter result seats.old seats.new }
-    ensures made { IfOk result (λ r. HasMadeSteps program.steps.items program.files.items (state proc log.old) (state r.0 log.new) r.1) }
+    ensures made { IfOk result (λ r. HasMadeSteps own_steps.steps.items own_steps.files.items (state proc log.old) (state r.0 log.new) r.1) }
     ensures silent { IfOk result (λ r. length proc.lanes ≡ 0 → HasTakenNone proc.mailbox log.old r.0.mailbox log.new) }
 {
     let StepsToMake {
         mut steps,
         mut files,
-    } = program;
+    } = own_steps;
     let mut sender = proc;
     'steps: while let Some(step) = steps.pop_front() {
         let content = content_for(&step.act, &mut files);

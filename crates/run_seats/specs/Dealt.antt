@@ -20,7 +20,7 @@ pub record AreReadyWorkers (ports : ℕ) (workers : List WorkerLanes) : Type 0 w
 module _ {B : Type 0} {g : Ghosts B} where
   -- the job is to make the steps of this process, and hasn't run
   pub record IsDealtProcess (plan : ProcessPlan) (job : ProcessJob B g) : Type 0 where
-    pub work : IfSome job.work (IsWorkOf (proc_of plan) plan.program.steps.items plan.program.files.items)
+    pub work : IfSome job.work (IsWorkOf (proc_of plan) plan.own_steps.steps.items plan.own_steps.files.items)
     pub end : job.end ≡ None
 
   pub record AreDealtProcesses (plans : List ProcessPlan) (jobs : List (ProcessJob B g)) : Type 0 where

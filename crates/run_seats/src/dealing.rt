@@ -31,9 +31,9 @@ fn process_job<B: PortBody>(
     ensures dealt { IsDealtProcess plan result }
     ensures can { CanRun result }
 {
-    let ProcessPlan { parts, program } = plan;
+    let ProcessPlan { parts, own_steps } = plan;
     let seats = ProcessSeats { ports, over };
-    ProcessJob::new(alloc, seats, parts, program.steps, program.files)
+    ProcessJob::new(alloc, seats, parts, own_steps.steps, own_steps.files)
 }
 
 /// The jobs of the processes, by their numbers. Each takes the next seats.

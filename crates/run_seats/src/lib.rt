@@ -11,7 +11,7 @@ mod seating;
 
 pub use homing::{HomeRoom, bring_home};
 pub use no_memory::NoMemory;
-pub use plans::{ProcessPlan, Program, process_plans};
+pub use plans::{ProcessPlan, ProcessSteps, process_plans};
 pub use rooms::EndRoom;
 pub use run_lanes::{FinishEnds, PollerLanes, ProcessLanes, WorkerLanes};
 pub use running::{RunLeft, run_seated};

@@ -11,7 +11,7 @@ use std::collections::VecDeque;
 
 /// What a process does: its steps in order, and the contents of the files that its `file` steps send, one for each such step, in their order.
 #[derive(Drop)]
-pub struct Program {
+pub struct ProcessSteps {
     pub steps: VecDeque<Step>,
     pub files: VecDeque<Piece>,
 }
@@ -20,7 +20,7 @@ pub struct Program {
 #[derive(Drop)]
 pub struct ProcessPlan {
     pub parts: ProcParts,
-    pub program: Program,
+    pub own_steps: ProcessSteps,
 }
 
 fn copy_of(alloc: Global, soft: &[bool]) -> Result<Vec<bool>, NoMemory>
@@ -37,10 +37,10 @@ fn plan_of(
     number: usize,
     soft: &[bool],
     lanes: ProcessLanes,
-    program: Program,
+    own_steps: ProcessSteps,
 ) -> Result<ProcessPlan, NoMemory>
     requires { number < 32 }
-    ensures { IfOk result (IsPlanOf soft.now number lanes program) }
+    ensures { IfOk result (IsPlanOf soft.now number lanes own_steps) }
 {
     let soft = copy_of(alloc, soft)?;
     let parts = ProcParts {
@@ -50,7 +50,7 @@ fn plan_of(
         seats: lanes.seats,
         soft,
     };
-    Ok(ProcessPlan { parts, program })
+    Ok(ProcessPlan { parts, own_steps })
 }
 
 /// The processes of a run, by their numbers. `soft` says of each port whether its driver takes forced commands while the port is busy.
@@ -58,20 +58,20 @@ pub fn process_plans(
     alloc: Global,
     soft: &[bool],
     processes: Vec<ProcessLanes>,
-    programs: Vec<Program>,
+    process_steps: Vec<ProcessSteps>,
 ) -> Result<Vec<ProcessPlan>, NoMemory>
-    requires many { length programs.items ≡ length processes.items }
+    requires many { length process_steps.items ≡ length processes.items }
     requires few { length processes.items ≤ 32 }
-    ensures { IfOk result (λ plans. ArePlansOf soft.now processes.items programs.items plans.items) }
+    ensures { IfOk result (λ plans. ArePlansOf soft.now processes.items process_steps.items plans.items) }
 {
     let many = processes.len();
     let mut processes = processes.into_iter();
-    let mut programs = programs.into_iter();
+    let mut process_steps = process_steps.into_iter();
     let mut plans = Vec::new(alloc);
     'processes: for number in 0..many {
         let lanes = next_of(&mut processes);
-        let program = next_of(&mut programs);
-        let plan = plan_of(alloc, number, soft, lanes, program)?;
+        let own_steps = next_of(&mut process_steps);
+        let plan = plan_of(alloc, number, soft, lanes, own_steps)?;
         plans.push(plan)?;
     }
     Ok(plans)

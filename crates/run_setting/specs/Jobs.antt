@@ -10,22 +10,22 @@ use Rattle.run_seats.specs.run_jobs.Telling.{PortTask, Sends}
 use Rattle.run_seats.specs.run_jobs.Working.{WorksTo}
 use Rattle.run_end.specs.run_lanes.declared.parts.ProcessLanes.{ProcessLanes}
 use Rattle.run_end.specs.run_lanes.declared.parts.WorkerLanes.{WorkerLanes}
-use Rattle.run_seats.specs.declared.plans.Program.{Program}
+use Rattle.run_seats.specs.declared.plans.ProcessSteps.{ProcessSteps}
 use Rattle.run_seats.specs.threaded_jobs.declared.parting.WorkerLeft.{WorkerLeft}
 use Rattle.run_setting.specs.Setting.{Setting}
 
--- the process of this number had these lanes and this program to begin with, and had made no call
-pub record IsSetUp (s : Setting) (number : ℕ) (lanes : ProcessLanes) (program : Program) (process : RanProcess) : Type 0 where
+-- the process of this number had these lanes and these steps to begin with, and had made no call
+pub record IsSetUp (s : Setting) (number : ℕ) (lanes : ProcessLanes) (own_steps : ProcessSteps) (process : RanProcess) : Type 0 where
   pub old : process.old ≡ proc_view number lanes.mailbox lanes.lanes.items lanes.seats.items s.soft [] 0 0
-  pub steps : process.steps ≡ program.steps.items
-  pub files : process.files ≡ program.files.items
+  pub steps : process.steps ≡ own_steps.steps.items
+  pub files : process.files ≡ own_steps.files.items
 
--- each process made its program to its end
+-- each process made its steps to its end
 pub record HaveRunIn (s : Setting) (processes : List RanProcess) : Type 0 where
   pub many : length processes ≡ s.size.processes
   pub ran : All HasRunWhole processes
-  pub each : (n : ℕ) (l : ProcessLanes) (p : Program) (r : RanProcess) → n < s.size.processes
-      → IsSetUp s n (slice_index_or s.lanes.processes.items n l) (slice_index_or s.programs n p) (slice_index_or processes n r)
+  pub each : (n : ℕ) (l : ProcessLanes) (p : ProcessSteps) (r : RanProcess) → n < s.size.processes
+      → IsSetUp s n (slice_index_or s.lanes.processes.items n l) (slice_index_or s.process_steps n p) (slice_index_or processes n r)
 
 -- the worker answered all that it took of its lane, up to a `Finish`
 abbrev pub HasWorkedLane : WorkerLanes → WorkerLeft → Type 0

@@ -10,14 +10,14 @@ use Rattle.run_end.specs.run_lanes.declared.size.LaneSize.{LaneSize}
 use Rattle.run_end.specs.run_lanes.declared.parts.PortLanes.{PortLanes}
 use Rattle.run_end.specs.run_lanes.declared.parts.RunLanes.{RunLanes}
 use Rattle.run_opening.specs.Opened.{AreDeclared, AreRunLanes, limits_of, room_of}
-use Rattle.run_seats.specs.declared.plans.Program.{Program}
+use Rattle.run_seats.specs.declared.plans.ProcessSteps.{ProcessSteps}
 
--- how many processes and workers a run has, its ports as they are declared, the program of each process, its lanes and words before anything was sent, and of each port whether its driver takes forced
+-- how many processes and workers a run has, its ports as they are declared, the steps of each process, its lanes and words before anything was sent, and of each port whether its driver takes forced
 -- commands while the port is busy
 pub record Setting : Type 0 where
   pub size : LaneSize
   pub ports : List PortDecl
-  pub programs : List Program
+  pub process_steps : List ProcessSteps
   pub lanes : RunLanes
   pub soft : List Bool
 
@@ -25,11 +25,11 @@ pub record Setting : Type 0 where
 abbrev pub all_limits : List PortDecl → List QueueLimits
 all_limits ports = map (λ (p : PortDecl). limits_of p.config) ports
 
--- the ports are declared within their limits, the lanes are those of a run of this size with these ports, and there is a program for each process
+-- the ports are declared within their limits, the lanes are those of a run of this size with these ports, and there are steps for each process
 pub record IsSetting (s : Setting) : Type 0 where
   pub declared : AreDeclared s.size s.ports
   pub lanes_are : AreRunLanes s.size (all_limits s.ports) s.lanes
-  pub programs_many : length s.programs ≡ s.size.processes
+  pub process_steps_many : length s.process_steps ≡ s.size.processes
   pub soft_many : length s.soft ≡ length s.ports
 
 -- the name of the body of the port of this number, which was opened with its options among these lanes and words

@@ -1,14 +1,14 @@
 //! What a run of a script is set up with, and what its bodies and its jobs leave of that once nobody stopped it: definitions, on which the crates stand that begin and end a run.
 #![tactic(auto)]
 
-use run_seats::Program;
+use run_seats::ProcessSteps;
 use script_plan::PortDecl;
 
-/// What a run is made of: its ports as they are declared, the program of each process, and how many workers and schedulers there are. Ports and processes stand by their numbers, from 0.
+/// What a run is made of: its ports as they are declared, the steps of each process, and how many workers and schedulers there are. Ports and processes stand by their numbers, from 0.
 #[derive(Drop)]
 pub struct RunScript {
     pub ports: Vec<PortDecl>,
-    pub programs: Vec<Program>,
+    pub process_steps: Vec<ProcessSteps>,
     /// 1 to 8.
     pub workers: u32,
     /// 1 to 16.

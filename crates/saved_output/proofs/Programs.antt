@@ -33,7 +33,7 @@ is-told kind config calls own (Some program) spawns keeps some tells = record { 
 module _ {D : Type 0} (kind : D → Kind) (stage : D → Life) (faults : D → ℕ) (own : D → Own) (program : D → Option ToldProgram) where
   pub programs-served-in : ProgramsServedIn kind stage faults own program
   programs-served-in script old new before after ran run number d p h opens =
-      let processes = length script.programs.items in
+      let processes = length script.process_steps.items in
       let decl = slice_index_or script.ports.items number d in
       let port = slice_index_or ran.ports.items number p in
       let mine = run.ports number d p h opens.below in

@@ -18,7 +18,7 @@ use Rattle.echoed_commands.specs.script_run.run_opening.port_body.LanePort.{rows
 use Rattle.echoed_commands.specs.run_setting.run_end.process_job.Mails.{Came, is_source, mail_from, readable}
 use Rattle.echoed_commands.specs.script_run.run_opening.driver_hosts.declared.hosted.Hosted.{Hosted}
 use Rattle.echoed_commands.specs.run_setting.run_end.Merge.{IsFromPort}
-use Rattle.echoed_commands.specs.run_setting.run_seats.declared.plans.Program.{Program}
+use Rattle.echoed_commands.specs.run_setting.run_seats.declared.plans.ProcessSteps.{ProcessSteps}
 use Rattle.script_plan.specs.declared.decl.PortDecl.{PortDecl}
 use Rattle.script_plan.specs.declared.step.Step.{Step}
 use Rattle.echoed_commands.specs.script_run.declared.running.PortLeft.{PortLeft}
@@ -52,12 +52,12 @@ named-spawn Refuse2 e = absurd (let h : 101 ≡ 112 = ap (λ (name : List ℕ). 
 named-spawn Refuse3 e = absurd (let h : 101 ≡ 112 = ap (λ (name : List ℕ). get_or name 1 0) e in omega (arith, h))
 
 -- the tasks of a process that have a row hand the port to nobody
-pair-keeps : (number ports process processes : ℕ) (kind : Kind) (decl : PortDecl) (port : PortLeft) (program : Program) (left : ProcessLeft) (came : List Came)
-    → PairHolds number process processes kind decl port (calls_of ports program left) came → AllByRecursion (λ (s : Step). connects number s.act ≡ false) program.steps.items
+pair-keeps : (number ports process processes : ℕ) (kind : Kind) (decl : PortDecl) (port : PortLeft) (own_steps : ProcessSteps) (left : ProcessLeft) (came : List Came)
+    → PairHolds number process processes kind decl port (calls_of ports own_steps left) came → AllByRecursion (λ (s : Step). connects number s.act ≡ false) own_steps.steps.items
     → AllByRecursion TaskKeeps (rows_from (Process process) (history_of port))
-pair-keeps number ports process processes kind decl port program left came pair keeps =
+pair-keeps number ports process processes kind decl port own_steps left came pair keeps =
     subst (AllByRecursion TaskKeeps) (sym pair.tasks)
-    (accepted-keep number (calls_of ports program left).asks (calls_of ports program left).receipts (asks-keep number ports program.steps.items program.files.items left.receipts keeps))
+    (accepted-keep number (calls_of ports own_steps left).asks (calls_of ports own_steps left).receipts (asks-keep number ports own_steps.steps.items own_steps.files.items left.receipts keeps))
 
 -- the history of the port is one of a program's port, whose opener stays its owner
 pub of-program : (number processes workers : ℕ) (kind : Kind) (decl : PortDecl) (port : PortLeft) → PortHolds number processes workers kind decl port → decl.driver ≡ codes "spawn"
@@ -94,21 +94,21 @@ module _ {D : Type 0} (kind : D → Kind) (stage : D → Life) (faults : D → �
   pub output-is-saved-in : OutputIsSavedIn kind stage faults own program
   output-is-saved-in script old new before after ran run number d p l serves =
       let ports = length script.ports.items in
-      let processes = length script.programs.items in
+      let processes = length script.process_steps.items in
       let decl = slice_index_or script.ports.items number d in
       let owner = decl.owner in
       let host : Hosted D = record { port = None; driver = None } in
-      let step : Program = element script.programs.items (omega (arith, serves.owner)) in
+      let step : ProcessSteps = element script.process_steps.items (omega (arith, serves.owner)) in
       let mine = run.ports number d p host serves.below in
       let k = kind mine.driver in
       let port = slice_index_or ran.ports.items number p in
       let opening = opening_of number processes k decl port in
       let of = of-program number processes script.workers k decl port mine.holds serves.driver (config-served decl.config serves.config) in
       let keeps : KeepsOwner (history_of port) = keeps-owner processes script.workers opening (history_of port) mine.holds.lawful (senders-are number processes script.workers k decl port mine.holds)
-      (λ s within. pair-keeps number ports s processes k decl port (slice_index_or script.programs.items s step) (slice_index_or ran.processes.items s l) (run.came s) (mine.pairs s step l within)
-      (recursion_from_All (λ (t : Step). connects number t.act ≡ false) (slice_index_or script.programs.items s step).steps.items (serves.stays s step within))) in
+      (λ s within. pair-keeps number ports s processes k decl port (slice_index_or script.process_steps.items s step) (slice_index_or ran.processes.items s l) (run.came s) (mine.pairs s step l within)
+      (recursion_from_All (λ (t : Step). connects number t.act ≡ false) (slice_index_or script.process_steps.items s step).steps.items (serves.stays s step within))) in
       let process = run.processes owner step l serves.owner in
-      let calls = calls_of ports (slice_index_or script.programs.items owner step) (slice_index_or ran.processes.items owner l) in
+      let calls = calls_of ports (slice_index_or script.process_steps.items owner step) (slice_index_or ran.processes.items owner l) in
       process-saved number ports (run.came owner) (slice_index_or ran.processes.items owner l).mails.items (mails opening owner (history_of port)) process.mails_are
       (recursion_from_All (λ (c : Came). IsFromPort ports c.from) (run.came owner) process.among)
       (subst (AllByRecursion (IsUnsaved number)) (sym process.own) (own-unsaved number calls.asks calls.receipts))

@@ -9,7 +9,7 @@ use Rattle.echoed_commands.specs.script_run.run_opening.driver_hosts.declared.ho
 use Rattle.script_plan.specs.declared.decl.PortDecl.{PortDecl}
 use Rattle.script_plan.specs.declared.step.Act.{Act}
 use Rattle.script_plan.specs.declared.step.Act.TheVariants.{Connect, SendConnect}
-use Rattle.echoed_commands.specs.run_setting.run_seats.declared.plans.Program.{Program}
+use Rattle.echoed_commands.specs.run_setting.run_seats.declared.plans.ProcessSteps.{ProcessSteps}
 use Rattle.echoed_commands.specs.run_setting.declared.RunScript.{RunScript}
 use Rattle.echoed_commands.specs.script_run.declared.running.PortLeft.{PortLeft}
 use Rattle.echoed_commands.specs.script_run.declared.running.ProcessLeft.{ProcessLeft}
@@ -23,17 +23,17 @@ connects port (Connect other to) = other == port
 connects port (SendConnect other to) = other == port
 connects port _ = false
 
--- no step of these programs hands the port to a process, so that its opener stays its owner
-abbrev pub NeverConnect : ℕ → List Program → Type 0
-NeverConnect port programs = All (λ p. All (λ s. connects port s.act ≡ false) p.steps.items) programs
+-- no step of these processes hands the port to a process, so that its opener stays its owner
+abbrev pub NeverConnect : ℕ → List ProcessSteps → Type 0
+NeverConnect port process_steps = All (λ p. All (λ s. connects port s.act ≡ false) p.steps.items) process_steps
 
 -- the port of this number serves a program, and one of the processes is its owner from its opening on
 pub record ServesProgram (script : RunScript) (number : ℕ) (decl : PortDecl) : Type 0 where
   pub below : number < length script.ports.items
   pub driver : decl.driver ≡ codes "spawn"
   pub config : is_config decl.config ≡ true
-  pub owner : decl.owner < length script.programs.items
-  pub stays : NeverConnect number script.programs.items
+  pub owner : decl.owner < length script.process_steps.items
+  pub stays : NeverConnect number script.process_steps.items
 
 -- what the owner has to save of the port is what is saved of the bytes that the port took, but for a chunk that failed it
 abbrev pub IsSaved : ℕ → PortDecl → PortLeft → ProcessLeft → Type 0

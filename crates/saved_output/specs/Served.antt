@@ -46,7 +46,7 @@ module _ {D : Type 0} where
   -- so it is with each port of a program, whose drivers came back at these places
   abbrev pub ProgramsServed : (D → Kind) → (D → Option ToldProgram) → RunScript → List ℕ → List (Hosted D) → ScriptRan → Type 0
   ProgramsServed kind program script places new ran = (number : ℕ) (d : PortDecl) (p : PortLeft) (h : Hosted D) → OpensProgram script number (slice_index_or script.ports.items number d)
-      → ProgramServed kind program number (length script.programs.items) (slice_index_or script.ports.items number d) (slice_index_or ran.ports.items number p)
+      → ProgramServed kind program number (length script.process_steps.items) (slice_index_or script.ports.items number d) (slice_index_or ran.ports.items number p)
       (slice_index_or new (slice_index places number) h)
 
   -- so it is in every run

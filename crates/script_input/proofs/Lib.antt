@@ -1,3 +1,3 @@
 pub mod Contents
-pub mod Programs
+pub mod StepsDealt
 pub mod Runnable

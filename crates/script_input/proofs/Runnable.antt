@@ -5,16 +5,16 @@ use Rattle.std.proofs.lemmas.List.Elements.{All-filter}
 use Rattle.script_plan.specs.declared.step.Step.{Step}
 use Rattle.script_plan.specs.Plan.{Plan, IsPlan, IsWithin}
 use Rattle.run_seats.specs.process_job.Jobs.{AreWithin}
-use Rattle.run_seats.specs.declared.plans.Program.{Program}
+use Rattle.run_seats.specs.declared.plans.ProcessSteps.{ProcessSteps}
 use Rattle.run_setting.specs.declared.RunScript.{RunScript}
 use Rattle.run_setting.specs.Script.{IsRunnable}
-use Rattle.script_input.specs.Programs.{AreProgramsOf}
+use Rattle.script_input.specs.StepsDealt.{AreStepsOfAll}
 use Rattle.script_input.specs.Input.{IsRunOf}
 
 -- the steps of each process name processes and ports that are there
-programs-within : (plan : Plan) (contents : List (List ℕ)) (programs : List Program) → IsPlan plan → AreProgramsOf (length plan.processes) plan.steps contents programs
-    → All (λ (p : Program). AreWithin (length programs) (length plan.ports) p.steps.items) programs
-programs-within plan contents programs is are = λ k d below.
+all-steps-within : (plan : Plan) (contents : List (List ℕ)) (process_steps : List ProcessSteps) → IsPlan plan → AreStepsOfAll (length plan.processes) plan.steps contents process_steps
+    → All (λ (p : ProcessSteps). AreWithin (length process_steps) (length plan.ports) p.steps.items) process_steps
+all-steps-within plan contents process_steps is are = λ k d below.
     rw (are.each k d (omega (arith, are.many))).steps_are
     (rw are.many (All-filter (λ (s : Step). s.process == k) (λ (s : Step). IsWithin (length plan.processes) (length plan.ports) s.act) plan.steps is.named))
 
@@ -23,13 +23,13 @@ pub runnable : (plan : Plan) (contents : List (List ℕ)) (schedulers workers : 
 runnable plan contents schedulers workers script is run some few some' few' = record {
   declared = record {
     few_ports = rw run.ports is.few_ports;
-    few_processes = rw run.programs.many is.few_processes;
+    few_processes = rw run.process_steps.many is.few_processes;
     some_workers = rw run.workers_are some';
     few_workers = rw run.workers_are few';
-    owners = rw run.ports (rw run.programs.many is.owners);
+    owners = rw run.ports (rw run.process_steps.many is.owners);
     configs = rw run.ports is.configs;
   };
   some_schedulers = rw run.schedulers_are some;
   few_schedulers = rw run.schedulers_are few;
-  within = rw run.ports (programs-within plan contents script.programs.items is run.programs);
+  within = rw run.ports (all-steps-within plan contents script.process_steps.items is run.process_steps);
 }

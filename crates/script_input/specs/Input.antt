@@ -6,12 +6,12 @@ use Rattle.script_input.specs.declared.input.RunInput.{RunInput}
 use Rattle.program_io.specs.Files.{FilesView}
 use Rattle.script_input.specs.Contents.{HaveRead}
 use Rattle.script_input.specs.Names.{AreNamesOf, AreWritesOf}
-use Rattle.script_input.specs.Programs.{AreProgramsOf}
+use Rattle.script_input.specs.StepsDealt.{AreStepsOfAll}
 
 -- the ports of the plan, and for each of its processes what it does, run by so many schedulers and workers
 pub record IsRunOf (plan : Plan) (contents : List (List ℕ)) (schedulers workers : ℕ) (script : RunScript) : Type 0 where
   pub ports : script.ports.items ≡ plan.ports
-  pub programs : AreProgramsOf (length plan.processes) plan.steps contents script.programs.items
+  pub process_steps : AreStepsOfAll (length plan.processes) plan.steps contents script.process_steps.items
   pub schedulers_are : script.schedulers ≡ schedulers
   pub workers_are : script.workers ≡ workers
 

@@ -6,5 +6,5 @@ pub use Rattle.run_setting.specs as run_setting
 pub mod Words
 pub mod Contents
 pub mod Names
-pub mod Programs
+pub mod StepsDealt
 pub mod Input

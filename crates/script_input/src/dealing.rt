@@ -2,12 +2,12 @@ ghost use Rattle.std.specs.Prelude.{◌≡◌, ◌<◌, ◌++◌, [], ◌∷◌,
 ghost use Rattle.std.specs.Vec.Iter.{into_iter_items, into_iter_len};
 ghost use Rattle.std.specs.Option.{option_to_list};
 ghost use Rattle.script_input.specs.Contents.{file_of};
-ghost use Rattle.script_input.specs.Programs.{sending, AreProgramsOf};
+ghost use Rattle.script_input.specs.StepsDealt.{sending, AreStepsOfAll};
 
 use io_vector::Piece;
 use no_memory::NoMemory;
 use run_lanes::next_of;
-use run_seats::Program;
+use run_seats::ProcessSteps;
 use script_plan::{Act, PortDecl, Step};
 use std::alloc::Global;
 use std::collections::VecDeque;
@@ -17,17 +17,17 @@ use std::vec::IntoIter;
 const MOST_ROWS: usize = 1_048_576;
 
 /// So many processes that do nothing.
-fn idle_programs(alloc: Global, processes: usize) -> Result<Vec<Program>, NoMemory>
-    ensures { IfOk result (λ programs. AreProgramsOf processes [] [] programs.items) }
+fn empty_steps(alloc: Global, processes: usize) -> Result<Vec<ProcessSteps>, NoMemory>
+    ensures { IfOk result (λ process_steps. AreStepsOfAll processes [] [] process_steps.items) }
 {
-    let mut programs = Vec::new(alloc);
+    let mut process_steps = Vec::new(alloc);
     for _process in 0..processes {
-        programs.push(Program {
+        process_steps.push(ProcessSteps {
             steps: VecDeque::new(alloc),
             files: VecDeque::new(alloc),
         })?;
     }
-    Ok(programs)
+    Ok(process_steps)
 }
 
 /// The content of the file that a step sends, if it sends one: the next of what is left.
@@ -44,14 +44,18 @@ fn next_content(step: &Step, contents: &mut IntoIter<Piece>) -> Option<Piece>
 }
 
 /// One more step of a process, with the content of the file that it sends.
-fn add_step(program: &mut Program, step: Step, content: Option<Piece>) -> Result<(), NoMemory>
-    ensures steps { OnOk result (program.new.steps.items ≡ program.old.steps.items ++ step ∷ []) }
-    ensures files { OnOk result (program.new.files.items ≡ program.old.files.items ++ option_to_list content) }
+fn add_step(
+    own_steps: &mut ProcessSteps,
+    step: Step,
+    content: Option<Piece>,
+) -> Result<(), NoMemory>
+    ensures steps { OnOk result (own_steps.new.steps.items ≡ own_steps.old.steps.items ++ step ∷ []) }
+    ensures files { OnOk result (own_steps.new.files.items ≡ own_steps.old.files.items ++ option_to_list content) }
 {
     if let Some(content) = content {
-        program.files.push_back(content)?;
+        own_steps.files.push_back(content)?;
     }
-    program.steps.push_back(step)?;
+    own_steps.steps.push_back(step)?;
     Ok(())
 }
 
@@ -70,22 +74,22 @@ pub(crate) fn rows_of(steps: &[Step], contents: &[Piece], ports: &[PortDecl]) ->
     rows.saturating_add(rows / 8).min(MOST_ROWS) / ports.len().max(1)
 }
 
-/// The programs of so many processes, by the steps of all and the contents of the files that they send, each in the order of the script.
+/// What each of so many processes does, by the steps of all and the contents of the files that they send, each in the order of the script.
 pub(crate) fn deal_steps(
     alloc: Global,
     processes: usize,
     steps: Vec<Step>,
     contents: Vec<Piece>,
-) -> Result<Vec<Program>, NoMemory>
+) -> Result<Vec<ProcessSteps>, NoMemory>
     requires senders { All (λ s. s.process < processes) steps.items }
     requires many { length contents.items ≡ length (sending steps.items) }
-    ensures { IfOk result (λ programs. AreProgramsOf processes steps.items contents.items programs.items) }
+    ensures { IfOk result (λ process_steps. AreStepsOfAll processes steps.items contents.items process_steps.items) }
 {
-    let mut programs = idle_programs(alloc, processes)?;
+    let mut process_steps = empty_steps(alloc, processes)?;
     let mut contents = contents.into_iter();
     for step in steps {
         let content = next_content(&step, &mut contents);
-        add_step(&mut programs[step.process as usize], step, content)?;
+        add_step(&mut process_steps[step.process as usize], step, content)?;
     }
-    Ok(programs)
+    Ok(process_steps)
 }

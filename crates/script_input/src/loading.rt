@@ -14,7 +14,7 @@ use script_plan::{Script, ScriptParts};
 use std::alloc::Global;
 
 /// What is run of a script, once the file of each of its steps is read that sends one. They are read in the order of the steps, and have at most 33,554,432 bytes together. No byte of a file is copied.
-pub fn load_programs<F: Files>(
+pub fn load_steps<F: Files>(
     alloc: Global,
     files: &mut F,
     script: Script,
@@ -43,11 +43,11 @@ pub fn load_programs<F: Files>(
         steps,
     } = script.into_parts();
     let rows = rows_of(steps.as_slice(), contents.as_slice(), ports.as_slice());
-    let programs = deal_steps(alloc, processes.len(), steps, contents)?;
+    let process_steps = deal_steps(alloc, processes.len(), steps, contents)?;
     Ok(RunInput {
         script: RunScript {
             ports,
-            programs,
+            process_steps,
             workers,
             schedulers,
             rows,

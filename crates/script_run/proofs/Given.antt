@@ -10,7 +10,7 @@ use Rattle.run_lanes.specs.declared.parts.ProcessLanes.{ProcessLanes}
 use Rattle.run_lanes.specs.declared.parts.WorkerLanes.{WorkerLanes}
 use Rattle.run_lanes.specs.declared.parts.FinishEnds.{FinishEnds}
 use Rattle.run_seats.specs.declared.plans.ProcessPlan.{ProcessPlan}
-use Rattle.run_seats.specs.declared.plans.Program.{Program}
+use Rattle.run_seats.specs.declared.plans.ProcessSteps.{ProcessSteps}
 use Rattle.run_seats.specs.Dealt.{proc_of}
 use Rattle.run_seats.specs.Plans.{IsPlanOf}
 use Rattle.threaded_jobs.specs.declared.ended.EndedJobs.{EndedJobs}
@@ -34,7 +34,7 @@ module _ {S : Type 0} (faults : S → ℕ) (answered : S → List ℕ) (s : Sett
       let planned = has.dealt.plans_are.many in
       let counts = has.is.lanes_are.counts.processes_many in
       let all = many-ran plans jobs.processes.items many in
-      let programs_many = has.is.programs_many in
+      let process_steps_many = has.is.process_steps_many in
       record {
         many = omega (arith, all, planned, counts);
         ran = λ n r below.
@@ -48,15 +48,15 @@ module _ {S : Type 0} (faults : S → ℕ) (answered : S → List ℕ) (s : Sett
             let p = some plans n inside in
             let e = some jobs.processes.items n (omega (arith, many, inside)) in
             let plan = has.dealt.plans_are.each n l q p within in
-            subst (IsSetUp s n (get_or s.lanes.processes.items n l) (get_or s.programs n q)) (sym (at-ran plans jobs.processes.items n r p e many inside))
+            subst (IsSetUp s n (get_or s.lanes.processes.items n l) (get_or s.process_steps n q)) (sym (at-ran plans jobs.processes.items n r p e many inside))
             (record {
-              old = set-up n (get_or s.lanes.processes.items n l) (get_or s.programs n q) (get_or plans n p) plan;
-              steps = ap (λ (x : Program). x.steps.items) plan.program_is;
-              files = ap (λ (x : Program). x.files.items) plan.program_is;
+              old = set-up n (get_or s.lanes.processes.items n l) (get_or s.process_steps n q) (get_or plans n p) plan;
+              steps = ap (λ (x : ProcessSteps). x.steps.items) plan.own_steps_are;
+              files = ap (λ (x : ProcessSteps). x.files.items) plan.own_steps_are;
             });
       }
     where
-      set-up : (n : ℕ) (l : ProcessLanes) (q : Program) (p : ProcessPlan) → IsPlanOf s.soft n l q p → proc_of p ≡ proc_view n l.mailbox l.lanes.items l.seats.items s.soft [] 0 0
+      set-up : (n : ℕ) (l : ProcessLanes) (q : ProcessSteps) (p : ProcessPlan) → IsPlanOf s.soft n l q p → proc_of p ≡ proc_view n l.mailbox l.lanes.items l.seats.items s.soft [] 0 0
       set-up n l q p is =
           ap (λ x. proc_view x p.parts.mailbox p.parts.lanes.items p.parts.seats.items p.parts.soft.items [] 0 0) is.number_is
           ∙ ap (λ x. proc_view n x p.parts.lanes.items p.parts.seats.items p.parts.soft.items [] 0 0) is.mailbox

@@ -45,7 +45,7 @@ use Rattle.closed_lanes.specs.Closed.{IsClosedPort}
 use Rattle.run_end.specs.Shown.{Calls, HasCause, adds_of}
 use Rattle.port_words.specs.busy.Queue.{bytes_of, period_of}
 use Rattle.process_end.specs.Bounds.{queue_bound}
-use Rattle.run_seats.specs.declared.plans.Program.{Program}
+use Rattle.run_seats.specs.declared.plans.ProcessSteps.{ProcessSteps}
 use Rattle.process_end.specs.Views.{LaneEnd, ProcView}
 use Rattle.process_job.specs.Asks.{made_asks}
 use Rattle.port_model.specs.declared.mail.Mail.{Mail}
@@ -171,8 +171,8 @@ module _ {D S : Type 0} {gh : Ghosts BodyView} (kind : D → Kind) (stage : D �
       (omega (arith, rooms_many, lanes_many, limits_many, names_many, bodies_many))
       (keep-names kind stage faults own program is.bodies ended seated.places.items mid new same back) is.opened back.returned
 
--- the calls of a process that ran, as its program and what it left tell them
-same-calls : (ports : ℕ) (p : Program) (left : ProcessLeft) (ran : RanProcess) → ran.steps ≡ p.steps.items → ran.files ≡ p.files.items → length ran.old.lanes ≡ ports → left.receipts ≡ ran.end.receipts
+-- the calls of a process that ran, as its steps and what it left tell them
+same-calls : (ports : ℕ) (p : ProcessSteps) (left : ProcessLeft) (ran : RanProcess) → ran.steps ≡ p.steps.items → ran.files ≡ p.files.items → length ran.old.lanes ≡ ports → left.receipts ≡ ran.end.receipts
     → calls_of ports p left ≡ calls_made ran
 same-calls ports p left ran steps files lanes receipts =
     ap (λ n. calls_of n p left) (sym lanes)
@@ -186,47 +186,47 @@ lanes-many s ran n r is have below =
     let many = have.many in
     let inside : n < s.size.processes = omega (arith, many, below) in
     let d = some s.lanes.processes.items n (let counts = is.lanes_are.counts.processes_many in omega (arith, counts, inside)) in
-    let p = some s.programs n (let counts = is.programs_many in omega (arith, counts, inside)) in
+    let p = some s.process_steps n (let counts = is.process_steps_many in omega (arith, counts, inside)) in
     let set = have.each n d p r inside in
     let own = is.lanes_are.processes n d inside in
     ap (λ (v : ProcView). length v.lanes) set.old ∙ own.lanes.many ∙ is.lanes_are.counts.ports_many ∙ length-map s.ports _
 
 -- the calls of all processes
 all-calls : (s : Setting) (ran : List RanProcess) (mails : List (List Mail)) (left : ScriptRan) → IsSetting s → HaveRunIn s ran → AreProcessesLeft ran mails left → length mails ≡ length ran
-    → all_calls (length s.ports) s.programs left.processes.items ≡ map calls_made ran
+    → all_calls (length s.ports) s.process_steps left.processes.items ≡ map calls_made ran
 all-calls s ran mails left is have are many =
     let count = are.many in
-    let programs = is.programs_many in
+    let process_steps = is.process_steps_many in
     let all = have.many in
-    let same : length left.processes.items ≡ length s.programs = omega (arith, count, programs, all) in
+    let same : length left.processes.items ≡ length s.process_steps = omega (arith, count, process_steps, all) in
     let none : Calls = record { asks = []; receipts = [] } in
-    let long = many-calls (length s.ports) s.programs left.processes.items same in
+    let long = many-calls (length s.ports) s.process_steps left.processes.items same in
     let mapped : length (map calls_made ran) ≡ length ran = length-map ran calls_made in
     ext_get_or none _ _ (omega (arith, long, mapped, count)) (λ k below.
     let inside : k < length ran = omega (arith, long, count, below) in
     let here : k < s.size.processes = omega (arith, inside, all) in
     let d = some s.lanes.processes.items k (let counts = is.lanes_are.counts.processes_many in omega (arith, counts, here)) in
-    let p = some s.programs k (omega (arith, programs, here)) in
+    let p = some s.process_steps k (omega (arith, process_steps, here)) in
     let l = some left.processes.items k (omega (arith, count, inside)) in
     let r = some ran k inside in
     let set = have.each k d p r here in
-    at-calls (length s.ports) s.programs left.processes.items k none p l same (omega (arith, count, inside))
-    ∙ same-calls (length s.ports) (get_or s.programs k p) (get_or left.processes.items k l) (get_or ran k r) set.steps set.files (lanes-many s ran k r is have inside) (are.receipts_are k l r inside)
+    at-calls (length s.ports) s.process_steps left.processes.items k none p l same (omega (arith, count, inside))
+    ∙ same-calls (length s.ports) (get_or s.process_steps k p) (get_or left.processes.items k l) (get_or ran k r) set.steps set.files (lanes-many s ran k r is have inside) (are.receipts_are k l r inside)
     ∙ sym (get_or-map calls_made ran k r none inside))
   where
-    many-calls : (ports : ℕ) (programs : List Program) (lefts : List ProcessLeft) → length lefts ≡ length programs → length (all_calls ports programs lefts) ≡ length lefts
+    many-calls : (ports : ℕ) (process_steps : List ProcessSteps) (lefts : List ProcessLeft) → length lefts ≡ length process_steps → length (all_calls ports process_steps lefts) ≡ length lefts
     many-calls ports [] [] same = refl
     many-calls ports [] (l ∷ lefts) same = absurd (omega (arith, same))
-    many-calls ports (p ∷ programs) [] same = absurd (omega (arith, same))
-    many-calls ports (p ∷ programs) (l ∷ lefts) same = let less : length lefts ≡ length programs = omega (arith, same) in ap suc (many-calls ports programs lefts less)
+    many-calls ports (p ∷ process_steps) [] same = absurd (omega (arith, same))
+    many-calls ports (p ∷ process_steps) (l ∷ lefts) same = let less : length lefts ≡ length process_steps = omega (arith, same) in ap suc (many-calls ports process_steps lefts less)
 
-    at-calls : (ports : ℕ) (programs : List Program) (lefts : List ProcessLeft) (k : ℕ) (c : Calls) (p : Program) (l : ProcessLeft) → length lefts ≡ length programs → k < length lefts
-        → get_or (all_calls ports programs lefts) k c ≡ calls_of ports (get_or programs k p) (get_or lefts k l)
+    at-calls : (ports : ℕ) (process_steps : List ProcessSteps) (lefts : List ProcessLeft) (k : ℕ) (c : Calls) (p : ProcessSteps) (l : ProcessLeft) → length lefts ≡ length process_steps → k < length lefts
+        → get_or (all_calls ports process_steps lefts) k c ≡ calls_of ports (get_or process_steps k p) (get_or lefts k l)
     at-calls ports [] [] k c p l same within = absurd (omega (arith, within))
     at-calls ports [] (y ∷ lefts) k c p l same within = absurd (omega (arith, same))
-    at-calls ports (x ∷ programs) [] k c p l same within = absurd (omega (arith, same))
-    at-calls ports (x ∷ programs) (y ∷ lefts) zero c p l same within = refl
-    at-calls ports (x ∷ programs) (y ∷ lefts) (suc k) c p l same within = at-calls ports programs lefts k c p l (omega (arith, same)) (omega (arith, within))
+    at-calls ports (x ∷ process_steps) [] k c p l same within = absurd (omega (arith, same))
+    at-calls ports (x ∷ process_steps) (y ∷ lefts) zero c p l same within = refl
+    at-calls ports (x ∷ process_steps) (y ∷ lefts) (suc k) c p l same within = at-calls ports process_steps lefts k c p l (omega (arith, same)) (omega (arith, within))
 
 -- the mail of each process, each with its source, where there are so many processes
 abbrev came-of : (s : Setting) (ran : List RanProcess) (closed : List ClosedPort) (left : ScriptRan) → IsGathered s ran closed left → (n : ℕ) → (n < length ran) ⊎ (length ran ≤ n) → List Came
@@ -261,16 +261,16 @@ mailboxes-many s k p d name port is named closed below =
     sym (length-map port.mailboxes end_name) ∙ ap length (closed.mailboxes_are ∙ named.opened.mailboxes) ∙ length-map (get_or s.lanes.ports.items k d).mailboxes end_name ∙ own.mailboxes_many
 
 -- the calls of a process that ran, as the script and what it left tell them
-process-calls : (script : RunScript) (s : Setting) (ran : List RanProcess) (left : ScriptRan) → IsSetting s → HaveRunIn s ran → s.ports ≡ script.ports.items → s.programs ≡ script.programs.items
-    → (m : ℕ) (q : Program) (l : ProcessLeft) (r : RanProcess) → m < length ran → (get_or left.processes.items m l).receipts ≡ (get_or ran m r).end.receipts
-    → calls_of (length script.ports.items) (get_or script.programs.items m q) (get_or left.processes.items m l) ≡ calls_made (get_or ran m r)
-process-calls script s ran left is have ports programs m q l r below receipts =
+process-calls : (script : RunScript) (s : Setting) (ran : List RanProcess) (left : ScriptRan) → IsSetting s → HaveRunIn s ran → s.ports ≡ script.ports.items → s.process_steps ≡ script.process_steps.items
+    → (m : ℕ) (q : ProcessSteps) (l : ProcessLeft) (r : RanProcess) → m < length ran → (get_or left.processes.items m l).receipts ≡ (get_or ran m r).end.receipts
+    → calls_of (length script.ports.items) (get_or script.process_steps.items m q) (get_or left.processes.items m l) ≡ calls_made (get_or ran m r)
+process-calls script s ran left is have ports process_steps m q l r below receipts =
     let many = have.many in
     let counts = is.lanes_are.counts.processes_many in
     let inside : m < s.size.processes = omega (arith, many, below) in
     let set = have.each m (some s.lanes.processes.items m (omega (arith, counts, inside))) q r inside in
-    same-calls (length script.ports.items) (get_or script.programs.items m q) (get_or left.processes.items m l) (get_or ran m r)
-    (set.steps ∙ ap (λ (x : List Program). (get_or x m q).steps.items) programs) (set.files ∙ ap (λ (x : List Program). (get_or x m q).files.items) programs)
+    same-calls (length script.ports.items) (get_or script.process_steps.items m q) (get_or left.processes.items m l) (get_or ran m r)
+    (set.steps ∙ ap (λ (x : List ProcessSteps). (get_or x m q).steps.items) process_steps) (set.files ∙ ap (λ (x : List ProcessSteps). (get_or x m q).files.items) process_steps)
     (lanes-many s ran m r is have below ∙ ap length ports) receipts
 
 -- an answer that came stays among the mail
@@ -289,12 +289,12 @@ receipts-newest {kept} {told} is = sym (reverse-reverse kept) ∙ ap reverse (sy
 
 -- what is said of a process
 process-holds : AllCallsTell → AllWaitsAreShown → (script : RunScript) (s : Setting) (ran : List RanProcess) (closed : List ClosedPort) (left : ScriptRan) (g : IsGathered s ran closed left) → IsSetting s → HaveRunIn s ran → length closed ≡ length s.ports
-    → s.ports ≡ script.ports.items → s.programs ≡ script.programs.items → (soft : List Bool) → s.soft ≡ soft → (n : ℕ) (q : Program) (l : ProcessLeft) (below : n < length ran)
-    → ProcessHolds (length script.ports.items) soft (get_or script.programs.items n q) (calls_of (length script.ports.items) (get_or script.programs.items n q) (get_or left.processes.items n l)) (get_or left.processes.items n l)
+    → s.ports ≡ script.ports.items → s.process_steps ≡ script.process_steps.items → (soft : List Bool) → s.soft ≡ soft → (n : ℕ) (q : ProcessSteps) (l : ProcessLeft) (below : n < length ran)
+    → ProcessHolds (length script.ports.items) soft (get_or script.process_steps.items n q) (calls_of (length script.ports.items) (get_or script.process_steps.items n q) (get_or left.processes.items n l)) (get_or left.processes.items n l)
     (g.joined.merges n (some ran n below) [] below).merge.came
-process-holds tell waits script s ran closed left g is have closed_many ports programs soft softs n q l below =
+process-holds tell waits script s ran closed left g is have closed_many ports process_steps soft softs n q l below =
     let r = some ran n below in
-    let calls = process-calls script s ran left is have ports programs n q l r below (g.processes.receipts_are n l r below) in
+    let calls = process-calls script s ran left is have ports process_steps n q l r below (g.processes.receipts_are n l r below) in
     let told = tell (get_or ran n r) (have.ran n r below) in
     let many = have.many in
     let counts = is.lanes_are.counts.processes_many in
@@ -316,10 +316,10 @@ process-holds tell waits script s ran closed left g is have closed_many ports pr
           (replied-later (calls_made (get_or ran n r)).asks (calls_made (get_or ran n r)).receipts (get_or ran n r).mails grown.0
           (subst (λ asks. AreReplied (reverse asks) (reverse (get_or ran n r).end.receipts) (get_or ran n r).mails) whole.asks_are
           (subst (λ receipts. AreReplied (reverse whole.asks) receipts (get_or ran n r).mails) (receipts-newest whole.receipts_are) whole.replied))));
-      waited = subst (λ steps. WaitsAreShown (get_or left.processes.items n l).mails.items (get_or left.processes.items n l).receipts steps (get_or script.programs.items n q).files.items)
-          (set.steps ∙ ap (λ (x : List Program). (get_or x n q).steps.items) programs)
+      waited = subst (λ steps. WaitsAreShown (get_or left.processes.items n l).mails.items (get_or left.processes.items n l).receipts steps (get_or script.process_steps.items n q).files.items)
+          (set.steps ∙ ap (λ (x : List ProcessSteps). (get_or x n q).steps.items) process_steps)
           (subst (λ files. WaitsAreShown (get_or left.processes.items n l).mails.items (get_or left.processes.items n l).receipts (get_or ran n r).steps files)
-          (set.files ∙ ap (λ (x : List Program). (get_or x n q).files.items) programs)
+          (set.files ∙ ap (λ (x : List ProcessSteps). (get_or x n q).files.items) process_steps)
           (subst (λ receipts. WaitsAreShown (get_or left.processes.items n l).mails.items receipts (get_or ran n r).steps (get_or ran n r).files) (sym (g.processes.receipts_are n l r below))
           (subst (λ m. WaitsAreShown m (get_or ran n r).end.receipts (get_or ran n r).steps (get_or ran n r).files) (sym (g.processes.mails_are n l [] below ∙ grown.1))
           (waits (get_or ran n r) grown.0 (have.ran n r below)))));
@@ -435,13 +435,13 @@ module _ {D S : Type 0} {gh : Ghosts BodyView} (kind : D → Kind) (stage : D �
       opened-as s k s.size.processes (kind before) (faults before) it room room.workers name port called refl shut ∙ ap (λ x. opening_of k s.size.processes x it (port_left port)) (sym kinds) in
       let own-lane = is.is.is.lanes_are.ports k (limits_of it.config) d (omega (arith, limits_many, inside)) in
       let keyed : name.key ≡ key_of s.size (get_or s.lanes.ports.items k d).seat = called.key ∙ own-lane.lane.key_is in
-      let sized : s.size.processes ≡ length script.programs.items = ap (λ (z : LaneSize). z.processes) is.is.size_is in
+      let sized : s.size.processes ≡ length script.process_steps.items = ap (λ (z : LaneSize). z.processes) is.is.size_is in
       let worked : s.size.workers ≡ script.workers = ap (λ (z : LaneSize). z.workers) is.is.size_is in
       let left_many : length left.ports.items ≡ length whole.closed = ap length (g.ports_are ∙ g.are_parts.left) ∙ length-map whole.closed port_left in
       let left-is : get_or left.ports.items k p ≡ port_left port = ap (λ (l : List PortLeft). get_or l k p) (g.ports_are ∙ g.are_parts.left) ∙ get_or-map port_left whole.closed k c p here in
-      let calls = all_calls (length script.ports.items) script.programs.items left.processes.items in
+      let calls = all_calls (length script.ports.items) script.process_steps.items left.processes.items in
       let calls-are : map calls_made ran ≡ calls = sym (all-calls s ran g.mails left is.is.is whole.have_run g.processes g.joined.many)
-      ∙ ap (λ m. all_calls m s.programs left.processes.items) ports_many ∙ ap (λ l. all_calls (length script.ports.items) l left.processes.items) is.is.programs_are in
+      ∙ ap (λ m. all_calls m s.process_steps left.processes.items) ports_many ∙ ap (λ l. all_calls (length script.ports.items) l left.processes.items) is.is.process_steps_are in
       let seat-is : get_or g.parts.peers.seats.items k port.seat ≡ port.seat = ap (λ (l : List PortKnown). get_or l k port.seat) g.are_parts.seats_are ∙ get_or-map (λ (x : ClosedPort). x.seat) whole.closed k c port.seat here in
       let decl-is : get_or s.ports k decl ≡ it = ap (λ (l : List PortDecl). get_or l k decl) is.is.ports_are in
       let named = is.found.named k decl h (let m = is.found.len in omega (arith, m, below)) in
@@ -457,16 +457,16 @@ module _ {D S : Type 0} {gh : Ghosts BodyView} (kind : D → Kind) (stage : D �
         told = stopped.told;
         pairs = λ m q l less.
             let within : m < length ran = omega (arith, ran_many, sized, less) in
-            subst (λ x. PairHolds k m x (kind stopped.driver) it (port_left port) (calls_of (length script.ports.items) (get_or script.programs.items m q) (get_or left.processes.items m l))
+            subst (λ x. PairHolds k m x (kind stopped.driver) it (port_left port) (calls_of (length script.ports.items) (get_or script.process_steps.items m q) (get_or left.processes.items m l))
             (came-of s ran whole.closed left g m (cases_lt m (length ran)))) sized
             (came-holds s ran whole.closed left g
-            (λ came. PairHolds k m s.size.processes (kind stopped.driver) it (port_left port) (calls_of (length script.ports.items) (get_or script.programs.items m q) (get_or left.processes.items m l)) came) m within
+            (λ came. PairHolds k m s.size.processes (kind stopped.driver) it (port_left port) (calls_of (length script.ports.items) (get_or script.process_steps.items m q) (get_or left.processes.items m l)) came) m within
             (λ low.
             let r = some ran m low in
-            pair-holds laws.in_order laws.listed s names ran whole.closed left g k m c (kind stopped.driver) it name (calls_of (length script.ports.items) (get_or script.programs.items m q) (get_or left.processes.items m l)) low shut as-opened here
+            pair-holds laws.in_order laws.listed s names ran whole.closed left g k m c (kind stopped.driver) it name (calls_of (length script.ports.items) (get_or script.process_steps.items m q) (get_or left.processes.items m l)) low shut as-opened here
             (let boxes = mailboxes-many s k it d name port is.is.is (record { kind = kind before; faults = faults before; opened = called }) shut inside in omega (arith, boxes, ran_many, low))
             (closed.signals k m c r inside low)
-            (process-calls script s ran left is.is.is whole.have_run is.is.ports_are is.is.programs_are m q l r low (g.processes.receipts_are m l r low))
+            (process-calls script s ran left is.is.is whole.have_run is.is.ports_are is.is.process_steps_are m q l r low (g.processes.receipts_are m l r low))
             (get_or ran m r).old.soft (laws.tells (get_or ran m r) (whole.have_run.ran m r low)).receipts));
         words = subst (λ m. PortWordsHold k m (kind stopped.driver) it (port_left port) calls) sized
             (subst (λ (x : List Calls). PortWordsHold k s.size.processes (kind stopped.driver) it (port_left port) x) calls-are
@@ -525,7 +525,7 @@ module _ {D S : Type 0} {gh : Ghosts BodyView} (kind : D → Kind) (stage : D �
       let served = (all-served kind stage faults own program script poll old mid new seated ended unused is same back).0 in
       let closed_many = whole.are_closed.many in
       let ports_many : length s.ports ≡ length script.ports.items = ap length is.is.ports_are in
-      let sized : s.size.processes ≡ length script.programs.items = ap (λ (z : LaneSize). z.processes) is.is.size_is in
+      let sized : s.size.processes ≡ length script.process_steps.items = ap (λ (z : LaneSize). z.processes) is.is.size_is in
       let ran_many = whole.have_run.many in
       let left_many : length left.ports.items ≡ length whole.closed = ap length (g.ports_are ∙ g.are_parts.left) ∙ length-map whole.closed port_left in
       let processes_many = g.processes.many in
@@ -541,8 +541,8 @@ module _ {D S : Type 0} {gh : Ghosts BodyView} (kind : D → Kind) (stage : D �
         processes = λ n p l below.
             let within : n < length ran = omega (arith, ran_many, sized, below) in
             came-holds s ran whole.closed left g
-            (λ came. ProcessHolds (length script.ports.items) (soft_at kind old seated.places.items) (get_or script.programs.items n p) (calls_of (length script.ports.items) (get_or script.programs.items n p) (get_or left.processes.items n l)) (get_or left.processes.items n l) came)
+            (λ came. ProcessHolds (length script.ports.items) (soft_at kind old seated.places.items) (get_or script.process_steps.items n p) (calls_of (length script.ports.items) (get_or script.process_steps.items n p) (get_or left.processes.items n l)) (get_or left.processes.items n l) came)
             n within
-            (λ low. process-holds laws.tells laws.waited script s ran whole.closed left g is.is.is whole.have_run closed_many is.is.ports_are is.is.programs_are (soft_at kind old seated.places.items) is.is.soft_are n p l low);
+            (λ low. process-holds laws.tells laws.waited script s ran whole.closed left g is.is.is whole.have_run closed_many is.is.ports_are is.is.process_steps_are (soft_at kind old seated.places.items) is.is.soft_are n p l low);
         ready = ready;
       }

@@ -28,7 +28,7 @@ use Rattle.driver_hosts.specs.Finding.{Found}
 use Rattle.run_end.specs.Merge.{IsFromPort}
 use Rattle.run_end.specs.Shown.{Calls, QueueWordsHold, WordsHold}
 use Rattle.run_opening.specs.Opened.{limits_of, soft_at}
-use Rattle.run_seats.specs.declared.plans.Program.{Program}
+use Rattle.run_seats.specs.declared.plans.ProcessSteps.{ProcessSteps}
 use Rattle.script_plan.specs.declared.decl.PortDecl.{PortDecl}
 use Rattle.closed_lanes.specs.closed_ports.told_jobs.Told.{WorkersTell}
 use Rattle.suspended_calls.specs.Numbers.{listed_numbers, resumed_numbers, suspended_numbers}
@@ -67,17 +67,17 @@ IsFrom processes workers (Handled from seq task outside effects) = IsAmong proce
 IsFrom processes workers (Late from seq task) = IsAmong processes workers from
 IsFrom processes workers row = Unit {0}
 
--- the calls that a process made by its program, and their receipts, both newest first
-abbrev pub calls_of : ℕ → Program → ProcessLeft → Calls
-calls_of ports program left = record {
-  asks = reverse (made_asks ports program.steps.items program.files.items left.receipts);
+-- the calls that a process made by its steps, and their receipts, both newest first
+abbrev pub calls_of : ℕ → ProcessSteps → ProcessLeft → Calls
+calls_of ports own_steps left = record {
+  asks = reverse (made_asks ports own_steps.steps.items own_steps.files.items left.receipts);
   receipts = reverse left.receipts;
 }
 
 -- the calls of each of these processes, in their order
-abbrev pub all_calls : ℕ → List Program → List ProcessLeft → List Calls
-all_calls ports (program ∷ programs) (left ∷ rest) = calls_of ports program left ∷ all_calls ports programs rest
-all_calls ports programs rest = []
+abbrev pub all_calls : ℕ → List ProcessSteps → List ProcessLeft → List Calls
+all_calls ports (own_steps ∷ process_steps) (left ∷ rest) = calls_of ports own_steps left ∷ all_calls ports process_steps rest
+all_calls ports process_steps rest = []
 
 -- The history of a port is one lawful and finished history of a driver of this kind, with the port's options and owner, which doesn't refuse to start; each task in it is of one of so many processes or
 -- workers, or of the poller; the tasks of each worker tell the first of the driver's jobs that are its, in their order; and each task for which its sender was listed has a row in it
@@ -103,13 +103,13 @@ pub record PairHolds (number process processes : ℕ) (kind : Kind) (decl : Port
 
 -- A process has one receipt for each of its calls. Its mail came from the ports, but for what it added itself, which is one `noproc` for each link and each monitor that a closed port refused; each
 -- signal that is answered, and was put, has its answer in it; and it has the data for which each of its steps waited, or the port is closed by the receipts of the calls behind that step
-pub record ProcessHolds (ports : ℕ) (soft : List Bool) (program : Program) (calls : Calls) (left : ProcessLeft) (came : List Came) : Type 0 where
+pub record ProcessHolds (ports : ℕ) (soft : List Bool) (own_steps : ProcessSteps) (calls : Calls) (left : ProcessLeft) (came : List Came) : Type 0 where
   pub receipts : AreReceipts soft calls.asks calls.receipts
   pub mails_are : left.mails.items ≡ map (λ c. c.mail) came
   pub own : mail_from None came ≡ own_mails calls.asks calls.receipts
   pub among : All (λ c. IsFromPort ports c.from) came
   pub replied : AreReplied calls.asks calls.receipts left.mails.items
-  pub waited : WaitsAreShown left.mails.items left.receipts program.steps.items program.files.items
+  pub waited : WaitsAreShown left.mails.items left.receipts own_steps.steps.items own_steps.files.items
 
 -- the words that the receipts of all processes show of a port agree with the marks of its history, keep the bound of its message queue, and show it busy only with a cause; and so do the words with which
 -- its rows resume senders, but for the marks
@@ -124,13 +124,13 @@ module _ {D : Type 0} where
       (host : Hosted D) : Type 0 where
     pub driver : D
     pub back : host ≡ record { port = Some number; driver = Some driver }
-    pub holds : PortHolds number (length script.programs.items) script.workers (kind driver) decl port
-    pub stands : IsLeftByCalls (opening_of number (length script.programs.items) (kind driver) decl port) (history_of port) (own driver) (program driver)
+    pub holds : PortHolds number (length script.process_steps.items) script.workers (kind driver) decl port
+    pub stands : IsLeftByCalls (opening_of number (length script.process_steps.items) (kind driver) decl port) (history_of port) (own driver) (program driver)
     pub told : TellsOfProgram (own driver) (program driver)
-    pub pairs : (s : ℕ) (p : Program) (l : ProcessLeft) → s < length script.programs.items
-        → PairHolds number s (length script.programs.items) (kind driver) decl port
-        (calls_of (length script.ports.items) (slice_index_or script.programs.items s p) (slice_index_or ran.processes.items s l)) (came s)
-    pub words : PortWordsHold number (length script.programs.items) (kind driver) decl port (all_calls (length script.ports.items) script.programs.items ran.processes.items)
+    pub pairs : (s : ℕ) (p : ProcessSteps) (l : ProcessLeft) → s < length script.process_steps.items
+        → PairHolds number s (length script.process_steps.items) (kind driver) decl port
+        (calls_of (length script.ports.items) (slice_index_or script.process_steps.items s p) (slice_index_or ran.processes.items s l)) (came s)
+    pub words : PortWordsHold number (length script.process_steps.items) (kind driver) decl port (all_calls (length script.ports.items) script.process_steps.items ran.processes.items)
 
   -- A driver that served this port counted each failure that the port's rows tell: its count of faults rose by as many from that with which it was handed in, or stands at its end
   pub record HasCounted (faults : D → ℕ) (port : PortLeft) (old new : Hosted D) : Type 0 where
@@ -148,14 +148,14 @@ module _ {D : Type 0} where
     pub found : Found kind old script.ports.items places
     pub served : HaveServed kind stage faults places old new
     pub ports_many : length ran.ports.items ≡ length script.ports.items
-    pub processes_many : length ran.processes.items ≡ length script.programs.items
+    pub processes_many : length ran.processes.items ≡ length script.process_steps.items
     pub came : ℕ → List Came
     pub ports : (k : ℕ) (decl : PortDecl) (p : PortLeft) (h : Hosted D) → k < length script.ports.items
         → PortServed kind own program script ran came k (slice_index_or script.ports.items k decl) (slice_index_or ran.ports.items k p) (slice_index_or new (slice_index places k) h)
     pub counted : (k : ℕ) (p : PortLeft) (h : Hosted D) → k < length script.ports.items
         → HasCounted faults (slice_index_or ran.ports.items k p) (slice_index_or old (slice_index places k) h) (slice_index_or new (slice_index places k) h)
-    pub processes : (s : ℕ) (p : Program) (l : ProcessLeft) → s < length script.programs.items
-        → ProcessHolds (length script.ports.items) (soft_at kind old places) (slice_index_or script.programs.items s p)
-        (calls_of (length script.ports.items) (slice_index_or script.programs.items s p) (slice_index_or ran.processes.items s l))
+    pub processes : (s : ℕ) (p : ProcessSteps) (l : ProcessLeft) → s < length script.process_steps.items
+        → ProcessHolds (length script.ports.items) (soft_at kind old places) (slice_index_or script.process_steps.items s p)
+        (calls_of (length script.ports.items) (slice_index_or script.process_steps.items s p) (slice_index_or ran.processes.items s l))
         (slice_index_or ran.processes.items s l) (came s)
     pub ready : ReadyRowsAreAnswered before after ran

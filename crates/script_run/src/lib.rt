@@ -7,6 +7,6 @@ mod parting;
 mod running;
 
 pub use run_opening::{Driver, Hosted, StartRefusal};
-pub use run_seats::Program;
+pub use run_seats::ProcessSteps;
 pub use run_setting::RunScript;
 pub use running::{PortLeft, ProcessLeft, RunEnd, RunFault, ScriptRan, run_script};

@@ -36,14 +36,14 @@ module _ {D : Type 0} (kind : D → Kind) (faults : D → ℕ) where
 
   -- what the run is set up with
   abbrev pub setting_of : (script : RunScript) (old new : List (Hosted D)) (o : OpenPorts D) → HaveOpened kind faults (size_of script) script.ports.items old new o → Setting
-  setting_of script old new o have = record { size = size_of script; ports = script.ports.items; programs = script.programs.items; lanes = have.run; soft = o.soft.items }
+  setting_of script old new o have = record { size = size_of script; ports = script.ports.items; process_steps = script.process_steps.items; lanes = have.run; soft = o.soft.items }
 
   pub is-setting : (script : RunScript) (old new : List (Hosted D)) (o : OpenPorts D) → IsRunnable script → (have : HaveOpened kind faults (size_of script) script.ports.items old new o)
       → IsSetting (setting_of script old new o have)
   is-setting script old new o runnable have = record {
     declared = runnable.declared;
     lanes_are = have.are;
-    programs_many = refl;
+    process_steps_many = refl;
     soft_many = ap length have.soft ∙ length-map o.places.items (λ at. soft_of kind (get_or old at (record { port = None; driver = None }))) ∙ have.found.len;
   }
 
@@ -53,6 +53,6 @@ module _ {D : Type 0} (kind : D → Kind) (faults : D → ℕ) where
     is = is-setting script old new o runnable have;
     size_is = refl;
     ports_are = refl;
-    programs_are = refl;
+    process_steps_are = refl;
     soft_are = have.soft;
   }

@@ -15,7 +15,7 @@ use Rattle.run_opening.specs.run_lanes.declared.size.LaneSize.{LaneSize}
 use Rattle.run_opening.specs.run_lanes.Opened.{CanBegin, HasLaneEnds, HasProcess}
 use Rattle.run_opening.specs.Opened.{limits_of}
 use Rattle.run_seats.specs.declared.plans.ProcessPlan.{ProcessPlan}
-use Rattle.run_seats.specs.declared.plans.Program.{Program}
+use Rattle.run_seats.specs.declared.plans.ProcessSteps.{ProcessSteps}
 use Rattle.run_seats.specs.Plans.{ArePlansOf, IsPlanOf, IsReadyPlan, IsReadyWorker}
 use Rattle.run_seats.specs.Seated.{AreReadyLanes}
 use Rattle.run_setting.specs.Setting.{Setting, IsSetting}
@@ -62,32 +62,32 @@ module _ (s : Setting) (is : IsSetting s) where
       let mine_is = own key end.processes end.workers in
       ap (sender_at key) (end.number_is ∙ sym mine_is.0) ∙ numbered key from mine_is.1
 
-  one-ready : (n : ℕ) (lanes : ProcessLanes) (program : Program) (plan : ProcessPlan) → IsPlanOf s.soft n lanes program plan → CanBegin (length s.ports) n lanes → HasProcess s.size s.lanes n lanes
-      → AreWithin s.size.processes (length s.ports) program.steps.items → IsReadyPlan (length s.ports) plan
-  one-ready n lanes program plan of can has within = record {
+  one-ready : (n : ℕ) (lanes : ProcessLanes) (own_steps : ProcessSteps) (plan : ProcessPlan) → IsPlanOf s.soft n lanes own_steps plan → CanBegin (length s.ports) n lanes → HasProcess s.size s.lanes n lanes
+      → AreWithin s.size.processes (length s.ports) own_steps.steps.items → IsReadyPlan (length s.ports) plan
+  one-ready n lanes own_steps plan of can has within = record {
     parts = rw (of.number_is, of.mailbox, of.lanes_are, of.seats, of.soft_are) (can s.soft is.soft_many);
     many = ap length of.lanes_are ∙ ends-many n lanes.lanes.items has.lanes;
     processes = s.size.processes;
     among = λ k d below. rw of.lanes_are ((end-at n lanes.lanes.items has.lanes k d (subst (λ ends. k < length ends) of.lanes_are below)).processes);
-    within = subst (λ (p : Program). AreWithin s.size.processes (length s.ports) p.steps.items) (sym of.program_is) within;
+    within = subst (λ (p : ProcessSteps). AreWithin s.size.processes (length s.ports) p.steps.items) (sym of.own_steps_are) within;
   }
 
   -- each plan is that of the process of its number
-  plan-at : (parts : JobParts) (plans : List ProcessPlan) → ArePartsOf s parts → ArePlansOf parts.soft.items parts.lanes.processes.items parts.programs.items plans
-      → (n : ℕ) (l : ProcessLanes) (p : Program) (d : ProcessPlan) → n < length parts.lanes.processes.items → IsPlanOf s.soft n (get_or s.lanes.processes.items n l) (get_or s.programs n p) (get_or plans n d)
-  plan-at parts plans of are n l p d inside = rw (sym of.soft_are, sym of.lanes_are.processes, sym of.programs_are) (are.each n l p d inside)
+  plan-at : (parts : JobParts) (plans : List ProcessPlan) → ArePartsOf s parts → ArePlansOf parts.soft.items parts.lanes.processes.items parts.process_steps.items plans
+      → (n : ℕ) (l : ProcessLanes) (p : ProcessSteps) (d : ProcessPlan) → n < length parts.lanes.processes.items → IsPlanOf s.soft n (get_or s.lanes.processes.items n l) (get_or s.process_steps n p) (get_or plans n d)
+  plan-at parts plans of are n l p d inside = rw (sym of.soft_are, sym of.lanes_are.processes, sym of.process_steps_are) (are.each n l p d inside)
 
-  ready-plans : (parts : JobParts) (plans : List ProcessPlan) → ArePartsOf s parts → ArePlansOf parts.soft.items parts.lanes.processes.items parts.programs.items plans → All (IsReadyPlan (length s.ports)) plans
+  ready-plans : (parts : JobParts) (plans : List ProcessPlan) → ArePartsOf s parts → ArePlansOf parts.soft.items parts.lanes.processes.items parts.process_steps.items plans → All (IsReadyPlan (length s.ports)) plans
   ready-plans parts plans of are n d below =
       let inside : n < length parts.lanes.processes.items = subst (λ m. n < m) are.many below in
       let among : n < length s.lanes.processes.items = subst (λ ls. n < length ls) of.lanes_are.processes inside in
       let counted : n < s.size.processes = subst (λ m. n < m) is.lanes_are.counts.processes_many among in
-      let has_program : n < length s.programs = subst (λ m. n < m) (sym is.programs_many) counted in
+      let has_steps : n < length s.process_steps = subst (λ m. n < m) (sym is.process_steps_many) counted in
       let l : ProcessLanes = some s.lanes.processes.items n among in
-      let p : Program = some s.programs n has_program in
-      one-ready n (get_or s.lanes.processes.items n l) (get_or s.programs n p) (get_or plans n d) (plan-at parts plans of are n l p d inside)
+      let p : ProcessSteps = some s.process_steps n has_steps in
+      one-ready n (get_or s.lanes.processes.items n l) (get_or s.process_steps n p) (get_or plans n d) (plan-at parts plans of are n l p d inside)
       (subst (λ ports. CanBegin ports n (get_or s.lanes.processes.items n l)) (length-map s.ports (λ p. limits_of p.config)) (is.lanes_are.can_begin n l counted)) (is.lanes_are.processes n l counted)
-      (of.within n p has_program)
+      (of.within n p has_steps)
 
   ready-others : EndsAreNumbered → (parts : JobParts) → ArePartsOf s parts → AreReadyLanes (length s.ports) (others_of parts.lanes)
   ready-others numbered parts of = record {
@@ -107,7 +107,7 @@ module _ (s : Setting) (is : IsSetting s) where
   }
 
 -- so it is with so many ports
-pub plans-ready : (ports : ℕ) (parts : JobParts) (plans : List ProcessPlan) → AreParts ports parts → ArePlansOf parts.soft.items parts.lanes.processes.items parts.programs.items plans → All (IsReadyPlan ports) plans
+pub plans-ready : (ports : ℕ) (parts : JobParts) (plans : List ProcessPlan) → AreParts ports parts → ArePlansOf parts.soft.items parts.lanes.processes.items parts.process_steps.items plans → All (IsReadyPlan ports) plans
 plans-ready ports parts plans of are = subst (λ m. All (IsReadyPlan m) plans) of.many (ready-plans of.setting of.is parts plans of.of are)
 
 pub others-ready : EndsAreNumbered → (ports : ℕ) (parts : JobParts) → AreParts ports parts → AreReadyLanes ports (others_of parts.lanes)

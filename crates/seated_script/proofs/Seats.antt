@@ -23,7 +23,7 @@ use Rattle.seated_script.proofs.Named.{is-setting, is-setting-of, named-in, sett
 
 -- what the jobs of a script are made of once its ports are opened
 abbrev pub parts_of : {D : Type 0} → RunScript → OpenPorts D → JobParts
-parts_of script o = record { soft = o.soft; lanes = o.lanes; programs = script.programs }
+parts_of script o = record { soft = o.soft; lanes = o.lanes; process_steps = script.process_steps }
 
 module _ {D : Type 0} (kind : D → Kind) (faults : D → ℕ) (script : RunScript) (old new : List (Hosted D)) (o : OpenPorts D) (size : LaneSize) (size_is : size ≡ size_of script)
     (was : HaveOpened kind faults size script.ports.items old new o) where
@@ -38,7 +38,7 @@ module _ {D : Type 0} (kind : D → Kind) (faults : D → ℕ) (script : RunScri
     setting = setting_of kind faults script old new o have;
     is = is-setting kind faults script old new o runnable have;
     many = sym have.count;
-    of = record { lanes_are = have.lanes_are; programs_are = refl; soft_are = refl; within = runnable.within };
+    of = record { lanes_are = have.lanes_are; process_steps_are = refl; soft_are = refl; within = runnable.within };
   }
 
   pub were-opened : (stage : D → Life) → All (IsUnused stage) old → WereOpened kind stage faults o.places.items old new o.bodies.items
@@ -55,7 +55,7 @@ module _ {D : Type 0} (kind : D → Kind) (faults : D → ℕ) (script : RunScri
   }
 
   pub is-seated : {S : Type 0} {g : Ghosts BodyView} (poll : S) (seated : SeatedScript BodyView S g) → IsRunnable script → IsRunOf o.bodies.items (parts_of script o) poll script.schedulers seated.run → seated.places ≡ o.places
-      → seated.ended.items ≡ [] → length script.programs.items ≤ vec_capacity seated.ended → IsSeatedScript kind faults script poll old new seated
+      → seated.ended.items ≡ [] → length script.process_steps.items ≤ vec_capacity seated.ended → IsSeatedScript kind faults script poll old new seated
   is-seated poll seated runnable run places none room = record {
     setting = setting_of kind faults script old new o have;
     is = rw places (is-setting-of kind faults script old new o runnable have);
@@ -66,7 +66,7 @@ module _ {D : Type 0} (kind : D → Kind) (faults : D → ℕ) (script : RunScri
     plans = run.plans;
     others = others_of o.lanes;
     dealt = record {
-      plans_are = subst (λ ls. ArePlansOf o.soft.items ls script.programs.items run.plans) have.lanes_are.processes run.plans_are;
+      plans_are = subst (λ ls. ArePlansOf o.soft.items ls script.process_steps.items run.plans) have.lanes_are.processes run.plans_are;
       workers_are = have.lanes_are.workers;
       poller_is = have.lanes_are.poller;
       finish_is = have.lanes_are.finish;

@@ -16,12 +16,12 @@ use Rattle.seated_script.specs.declared.dealing.JobParts.{JobParts}
 abbrev pub others_of : JobLanes → OtherLanes
 others_of lanes = record { workers = lanes.workers; poller = lanes.poller; finish = lanes.finish }
 
--- these are the parts that this says, and its programs name ports and processes that are there
+-- these are the parts that this says, and the steps of its processes name ports and processes that are there
 pub record ArePartsOf (s : Setting) (parts : JobParts) : Type 0 where
   pub lanes_are : IsPartOf s.lanes parts.lanes
-  pub programs_are : parts.programs.items ≡ s.programs
+  pub process_steps_are : parts.process_steps.items ≡ s.process_steps
   pub soft_are : parts.soft.items ≡ s.soft
-  pub within : All (λ p. AreWithin s.size.processes (length s.ports) p.steps.items) s.programs
+  pub within : All (λ p. AreWithin s.size.processes (length s.ports) p.steps.items) s.process_steps
 
 -- these are the parts of a run with so many ports
 pub record AreParts (ports : ℕ) (parts : JobParts) : Type 0 where
@@ -33,5 +33,5 @@ pub record AreParts (ports : ℕ) (parts : JobParts) : Type 0 where
 -- the run is seated over these bodies, and each job is dealt its part
 pub record IsRunOf {B S : Type 0} {g : Ghosts B} (bodies : List B) (parts : JobParts) (poll : S) (schedulers : ℕ) (run : SeatedRun B S g) : Type 0 where
   pub plans : List ProcessPlan
-  pub plans_are : ArePlansOf parts.soft.items parts.lanes.processes.items parts.programs.items plans
+  pub plans_are : ArePlansOf parts.soft.items parts.lanes.processes.items parts.process_steps.items plans
   pub seated : IsSeated bodies plans (others_of parts.lanes) poll schedulers run

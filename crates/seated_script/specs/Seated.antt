@@ -21,12 +21,12 @@ pub record IsSettingOf {D : Type 0} (kind : D → Kind) (script : RunScript) (ho
   pub is : IsSetting s
   pub size_is : s.size ≡ size_of script
   pub ports_are : s.ports ≡ script.ports.items
-  pub programs_are : s.programs ≡ script.programs.items
+  pub process_steps_are : s.process_steps ≡ script.process_steps.items
   pub soft_are : s.soft ≡ soft_at kind hosts places
 
 -- what is dealt to the jobs are the lanes of the run
 pub record AreDealt (s : Setting) (plans : List ProcessPlan) (others : OtherLanes) : Type 0 where
-  pub plans_are : ArePlansOf s.soft s.lanes.processes.items s.programs plans
+  pub plans_are : ArePlansOf s.soft s.lanes.processes.items s.process_steps plans
   pub workers_are : others.workers.items ≡ s.lanes.workers.items
   pub poller_is : others.poller ≡ s.lanes.poller
   pub finish_is : others.finish ≡ s.lanes.finish

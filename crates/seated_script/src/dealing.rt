@@ -1,4 +1,4 @@
-//! The lanes and the programs of a run are dealt to its jobs.
+//! The lanes of a run and the steps of its processes are dealt to its jobs.
 ghost use Rattle.std.specs.Prelude.{◌≡◌, ◌<◌, ◌≤◌, length, IfOk, IfErr};
 ghost use Rattle.seated_script.specs.Parts.{AreParts, IsRunOf};
 
@@ -6,15 +6,15 @@ use driver_hosts::{Body, Driver};
 use outside::PollSet;
 use port_lanes::each_sender_has_an_end;
 use run_opening::JobLanes;
-use run_seats::{OtherLanes, Program, SeatedRun, process_plans, seat_run};
+use run_seats::{OtherLanes, ProcessSteps, SeatedRun, process_plans, seat_run};
 use std::alloc::Global;
 
-/// What the jobs of a run are made of: of each port whether its driver takes forced commands while the port is busy, the lanes, and the program of each process.
+/// What the jobs of a run are made of: of each port whether its driver takes forced commands while the port is busy, the lanes, and the steps of each process.
 #[derive(Drop)]
 pub(crate) struct JobParts {
     pub soft: Vec<bool>,
     pub lanes: JobLanes,
-    pub programs: Vec<Program>,
+    pub process_steps: Vec<ProcessSteps>,
 }
 
 /// Seats a run over these bodies. Where memory is wanting they come back as they were.
@@ -34,7 +34,7 @@ pub(crate) fn seat_bodies<D: Driver, S: PollSet + Drop>(
     let JobParts {
         soft,
         lanes,
-        programs,
+        process_steps,
     } = parts;
     let JobLanes {
         processes,
@@ -42,7 +42,7 @@ pub(crate) fn seat_bodies<D: Driver, S: PollSet + Drop>(
         poller,
         finish,
     } = lanes;
-    let Ok(plans) = process_plans(alloc, soft.as_slice(), processes, programs) else {
+    let Ok(plans) = process_plans(alloc, soft.as_slice(), processes, process_steps) else {
         return Err(bodies);
     };
     let others = OtherLanes {

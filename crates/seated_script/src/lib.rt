@@ -1,4 +1,4 @@
-//! How a run of a script begins: its ports are opened, the lanes and the programs are dealt to its jobs, and the run is seated.
+//! How a run of a script begins: its ports are opened, the lanes and the steps of the processes are dealt to its jobs, and the run is seated.
 #![tactic(auto)]
 
 mod dealing;

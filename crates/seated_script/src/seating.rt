@@ -39,7 +39,7 @@ fn size_of(script: &RunScript) -> LaneSize
     ensures { result ≡ size_of script.now }
 {
     LaneSize {
-        processes: script.programs.len() as u32,
+        processes: script.process_steps.len() as u32,
         workers: script.workers,
         rows: script.rows,
     }
@@ -70,7 +70,7 @@ pub fn seat_script<D: Driver, S: PollSet + Drop, R: Wait>(
     ensures back { IfErr result (λ u. AllCameBack D.kind D.stage D.faults hosts.old.items hosts.new.items) }
     ensures poll { IfErr result (λ u. u.fault ≢ fault.NoMemory → u.poll ≡ Some poll) }
 {
-    let Ok(ended) = Vec::with_capacity(alloc, script.programs.len()) else {
+    let Ok(ended) = Vec::with_capacity(alloc, script.process_steps.len()) else {
         return Err(refused_with(OpenFault::NoMemory, poll));
     };
     let size = size_of(&script);
@@ -81,7 +81,7 @@ pub fn seat_script<D: Driver, S: PollSet + Drop, R: Wait>(
     let parts = JobParts {
         soft: open.soft,
         lanes: open.lanes,
-        programs: script.programs,
+        process_steps: script.process_steps,
     };
     match seat_bodies(alloc, open.bodies, parts, script.schedulers, poll) {
         Ok(run) => Ok(SeatedScript {

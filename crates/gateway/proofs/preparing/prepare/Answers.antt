@@ -27,33 +27,33 @@ returns-in_err-look_for_drivers-clause-load g c = λ number asks.
     (plan-read _ (asked_by c.in-Ok.asked) _ _ c.in-Ok-source_script.script (sym c.in-Ok.ensures.asked) c.in-Ok-source_script.ensures.says c.source_script.ensures.files.told
     c.in-Ok-source_script.ensures.plan) asks
 
-pub returns-in-Ok-load_programs-clause-input : goal.returns-in-Ok-load_programs-clause-input
-returns-in-Ok-load_programs-clause-input g c = (
+pub returns-in-Ok-load_steps-clause-input : goal.returns-in-Ok-load_steps-clause-input
+returns-in-Ok-load_steps-clause-input g c = (
   c.in-Ok-source_script.script,
-  all-read _ _ _ _ c.in-Ok-source_script.script c.in-Ok-load_programs.input
+  all-read _ _ _ _ c.in-Ok-source_script.script c.in-Ok-load_steps.input
       (plan-read _ (asked_by c.in-Ok.asked) _ _ c.in-Ok-source_script.script (sym c.in-Ok.ensures.asked) c.in-Ok-source_script.ensures.says c.source_script.ensures.files.told
-      c.in-Ok-source_script.ensures.plan) c.in-Ok-load_programs.ensures.input,
+      c.in-Ok-source_script.ensures.plan) c.in-Ok-load_steps.ensures.input,
 )
 
-pub returns-in-Ok-load_programs-clause-source : goal.returns-in-Ok-load_programs-clause-source
-returns-in-Ok-load_programs-clause-source g c = record { asked = asked_by c.in-Ok.asked; named = sym c.in-Ok.ensures.asked; source_is = refl }
+pub returns-in-Ok-load_steps-clause-source : goal.returns-in-Ok-load_steps-clause-source
+returns-in-Ok-load_steps-clause-source g c = record { asked = asked_by c.in-Ok.asked; named = sym c.in-Ok.ensures.asked; source_is = refl }
 
-pub returns-in-Ok-load_programs-clause-load : goal.returns-in-Ok-load_programs-clause-load
-returns-in-Ok-load_programs-clause-load g c = λ number asks.
-    load-quiet _ _ _ c.in-Ok-source_script.script c.in-Ok-load_programs.input number
-    (all-read _ _ _ _ c.in-Ok-source_script.script c.in-Ok-load_programs.input
+pub returns-in-Ok-load_steps-clause-load : goal.returns-in-Ok-load_steps-clause-load
+returns-in-Ok-load_steps-clause-load g c = λ number asks.
+    load-quiet _ _ _ c.in-Ok-source_script.script c.in-Ok-load_steps.input number
+    (all-read _ _ _ _ c.in-Ok-source_script.script c.in-Ok-load_steps.input
     (plan-read _ (asked_by c.in-Ok.asked) _ _ c.in-Ok-source_script.script (sym c.in-Ok.ensures.asked) c.in-Ok-source_script.ensures.says c.source_script.ensures.files.told
-    c.in-Ok-source_script.ensures.plan) c.in-Ok-load_programs.ensures.input) asks
+    c.in-Ok-source_script.ensures.plan) c.in-Ok-load_steps.ensures.input) asks
 
-pub returns-in-Err-load_programs-clause-cause : goal.returns-in-Err-load_programs-clause-cause
-returns-in-Err-load_programs-clause-cause g c =
-    rw c.input_cause-in-Err-load_programs.ensures
-    (files-end g.D.Driver.kind g.D.Driver.stage g.D.Driver.faults _ c.args.hosts.now _ _ _ c.in-Ok-source_script.script c.in-Err-load_programs.fault
+pub returns-in-Err-load_steps-clause-cause : goal.returns-in-Err-load_steps-clause-cause
+returns-in-Err-load_steps-clause-cause g c =
+    rw c.input_cause-in-Err-load_steps.ensures
+    (files-end g.D.Driver.kind g.D.Driver.stage g.D.Driver.faults _ c.args.hosts.now _ _ _ c.in-Ok-source_script.script c.in-Err-load_steps.fault
     (plan-read _ (asked_by c.in-Ok.asked) _ _ c.in-Ok-source_script.script (sym c.in-Ok.ensures.asked) c.in-Ok-source_script.ensures.says c.source_script.ensures.files.told
-    c.in-Ok-source_script.ensures.plan) c.in-Err-load_programs.ensures.fault)
+    c.in-Ok-source_script.ensures.plan) c.in-Err-load_steps.ensures.fault)
 
-pub returns-in-Err-load_programs-clause-load : goal.returns-in-Err-load_programs-clause-load
-returns-in-Err-load_programs-clause-load g c = λ number asks.
-    load-ends-quiet _ _ _ _ c.in-Ok-source_script.script number c.in-Err-load_programs.fault
+pub returns-in-Err-load_steps-clause-load : goal.returns-in-Err-load_steps-clause-load
+returns-in-Err-load_steps-clause-load g c = λ number asks.
+    load-ends-quiet _ _ _ _ c.in-Ok-source_script.script number c.in-Err-load_steps.fault
     (plan-read _ (asked_by c.in-Ok.asked) _ _ c.in-Ok-source_script.script (sym c.in-Ok.ensures.asked) c.in-Ok-source_script.ensures.says c.source_script.ensures.files.told
-    c.in-Ok-source_script.ensures.plan) asks c.in-Err-load_programs.ensures.fault
+    c.in-Ok-source_script.ensures.plan) asks c.in-Err-load_steps.ensures.fault

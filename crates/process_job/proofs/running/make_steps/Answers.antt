@@ -19,7 +19,7 @@ steps-init g c = record {
   ports = c.requires.ports;
   within = c.requires.within;
   silent = λ none. (refl, refl);
-  come = come_none c.args.program.steps.items c.args.program.files.items (state c.args.proc c.args.log.now);
+  come = come_none c.args.own_steps.steps.items c.args.own_steps.files.items (state c.args.proc c.args.log.now);
 }
 
 pub act-requires-clause-within : goal.act-requires-clause-within
@@ -47,8 +47,8 @@ steps-preserved g c =
     let step : Step = c.in-Some.step in
     let rest : List Step = c.pop_front.new.self.items in
     let files : List (List ℕ) = c.steps.files.items in
-    let all_steps : List Step = c.args.program.steps.items in
-    let all_files : List (List ℕ) = c.args.program.files.items in
+    let all_steps : List Step = c.args.own_steps.steps.items in
+    let all_files : List (List ℕ) = c.args.own_steps.files.items in
     let one : ProcessState = state c.args.proc c.args.log.now in
     let two : ProcessState = state c.steps.sender c.steps.log in
     let three : ProcessState = state c.in_ok-sender-in-Ok.sender c.act.new.log in
@@ -79,8 +79,8 @@ returns-in-Err-clause-made g c =
     let step : Step = c.in-Some.step in
     let rest : List Step = c.pop_front.new.self.items in
     let files : List (List ℕ) = c.steps.files.items in
-    let all_steps : List Step = c.args.program.steps.items in
-    let all_files : List (List ℕ) = c.args.program.files.items in
+    let all_steps : List Step = c.args.own_steps.steps.items in
+    let all_files : List (List ℕ) = c.args.own_steps.files.items in
     let one : ProcessState = state c.args.proc c.args.log.now in
     let two : ProcessState = state c.steps.sender c.steps.log in
     let e = ends_with step.line step.act (next_content files) c.in-Err.reason c.action_of.result c.in-Err.is (c.action_of.ensures ∙ c.content_for-content.ensures.content step.line) in
@@ -89,8 +89,8 @@ returns-in-Err-clause-made g c =
 pub returns-clause-made : goal.returns-clause-made
 returns-clause-made g c =
     let files : List (List ℕ) = c.steps.files.items in
-    let all_steps : List Step = c.args.program.steps.items in
-    let all_files : List (List ℕ) = c.args.program.files.items in
+    let all_steps : List Step = c.args.own_steps.steps.items in
+    let all_files : List (List ℕ) = c.args.own_steps.files.items in
     let one : ProcessState = state c.args.proc c.args.log.now in
     let two : ProcessState = state c.steps.sender c.steps.log in
     let none : length c.steps.steps.items ≡ 0 = omega (arith, c.in_default.ensures.cases.0, c.steps.steps.ok.0) in

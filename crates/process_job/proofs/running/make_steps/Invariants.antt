@@ -11,7 +11,7 @@ invariant-steps g l = record {
   ports : HasPorts l.seats l.sender;
   within : (processes : ℕ) × AreAmong processes l.sender.lanes × AreWithin processes (length l.sender.lanes) l.steps.items;
   silent : length l.fn.proc.lanes ≡ 0 → HasTakenNone l.fn.proc.mailbox l.fn.log l.sender.mailbox l.log;
-  come : HasComeTo l.fn.program.steps.items l.fn.program.files.items (state l.fn.proc l.fn.log) l.steps.items l.files.items (state l.sender l.log);
+  come : HasComeTo l.fn.own_steps.steps.items l.fn.own_steps.files.items (state l.fn.proc l.fn.log) l.steps.items l.files.items (state l.sender l.log);
 }
 
 abbrev pub decreases-steps : goal.decreases-steps

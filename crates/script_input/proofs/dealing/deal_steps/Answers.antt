@@ -1,6 +1,6 @@
 use Rattle.std.proofs.Common.{◌++◌, ◌∷◌, [], sym, ap, ◌∙◌, append_assoc, ℕ, List, length, length-append, arith}
 use Rattle.std.specs.Option.{option_to_list}
-use Rattle.script_input.proofs.Programs.{dealt-more, sender-below}
+use Rattle.script_input.proofs.StepsDealt.{dealt-more, sender-below}
 use Rattle.script_input.proofs.dealing.deal_steps.Goals as goal
 
 pub loop-step-preserved : goal.loop-step-preserved

@@ -6,7 +6,7 @@ use Rattle.seated_script.proofs.dealing.seat_bodies.Goals as goal
 pub seat_run-requires-clause-plans : goal.seat_run-requires-clause-plans
 seat_run-requires-clause-plans g c =
     let parts = c.args.parts in
-    let are : ArePlansOf parts.soft.items parts.lanes.processes.items parts.programs.items c.in-Ok.plans.items = rw (sym c.as_slice.ensures.value) c.in-Ok.ensures in
+    let are : ArePlansOf parts.soft.items parts.lanes.processes.items parts.process_steps.items c.in-Ok.plans.items = rw (sym c.as_slice.ensures.value) c.in-Ok.ensures in
     plans-ready (length c.args.bodies.items) parts c.in-Ok.plans.items c.requires.parts are
 
 pub seat_run-requires-clause-lanes : goal.seat_run-requires-clause-lanes

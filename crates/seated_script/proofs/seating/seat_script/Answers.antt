@@ -16,9 +16,9 @@ end_opened-requires g c = (
 
 pub returns-in-Ok-seat_bodies-clause-seated : goal.returns-in-Ok-seat_bodies-clause-seated
 returns-in-Ok-seat_bodies-clause-seated g c =
-    let room : length c.args.script.programs.items ≤ vec_capacity c.in-Ok.ended =
+    let room : length c.args.script.process_steps.items ≤ vec_capacity c.in-Ok.ended =
     let many = c.len.ensures in
-    let len = c.args.script.programs.ok.0 in
+    let len = c.args.script.process_steps.ok.0 in
     let capacity = c.in-Ok.ensures.capacity in
     omega arith in
     is-seated g.D.Driver.kind g.D.Driver.faults c.args.script c.args.hosts.now.items c.open_ports_of.new.hosts.items c.in-Ok-open_ports_of.open c.size_of-size.result c.size_of-size.ensures

@@ -1,4 +1,4 @@
--- The programs of the processes, as far as the steps were dealt to them.
+-- The steps of each process, as far as they were dealt.
 use Rattle.std.proofs.Common.{inl, inr, ◌≡◌, ◌≢◌, ℕ, suc, ◌+◌, ◌<◌, Bool, true, false, List, [], ◌∷◌, ◌++◌, length, map, filter, get_or, set, cond, eqb, Option, Some, None, is_some, refl, sym, ap, subst, ◌∙◌, append-nil, append_assoc, length-append, arith}
 use Rattle.std.specs.Prelude.{All}
 use Rattle.std.specs.List.{zip, cons_option}
@@ -10,27 +10,27 @@ use Rattle.std.proofs.lemmas.Bool.Decides.{eqb_tells}
 use Rattle.std.proofs.lemmas.List.{get_or_append_left, get_or_push, get_or-set_same, get_or-set_other, length-set, length_push, map-append}
 use Rattle.std.proofs.lemmas.List.Elements.{filter-append}
 use Rattle.script_plan.specs.declared.step.Step.{Step}
-use Rattle.run_seats.specs.declared.plans.Program.{Program}
+use Rattle.run_seats.specs.declared.plans.ProcessSteps.{ProcessSteps}
 use Rattle.script_input.specs.Contents.{file_of, file_names}
-use Rattle.script_input.specs.Programs.{steps_of, sending, files_of, IsProgramOf, AreProgramsOf}
+use Rattle.script_input.specs.StepsDealt.{steps_of, sending, files_of, AreStepsOf, AreStepsOfAll}
 
--- ---- programs that do nothing
+-- ---- processes without a step
 
-IsIdle : Program → Type 0
+IsIdle : ProcessSteps → Type 0
 IsIdle p = (p.steps.items ≡ []) × (p.files.items ≡ [])
 
 -- one more of them
-pub idle-more : (n : ℕ) (programs : List Program) (program : Program) → AreProgramsOf n [] [] programs → program.steps.items ≡ [] → program.files.items ≡ []
-    → AreProgramsOf (n + 1) [] [] (programs ++ program ∷ [])
-idle-more n programs program h s f = record {
-  many = length_push programs program ∙ ap (λ n. n + 1) h.many;
+pub idle-more : (n : ℕ) (process_steps : List ProcessSteps) (own_steps : ProcessSteps) → AreStepsOfAll n [] [] process_steps → own_steps.steps.items ≡ [] → own_steps.files.items ≡ []
+    → AreStepsOfAll (n + 1) [] [] (process_steps ++ own_steps ∷ [])
+idle-more n process_steps own_steps h s f = record {
+  many = length_push process_steps own_steps ∙ ap (λ n. n + 1) h.many;
   each = λ q d lt. elim (eq-or-lt_of_le {n = q} {m = n} (omega arith)) [
-    | inl here ↦ rw here (rw (get_or_push programs program d n h.many) (record { steps_are = s; files_are = f }))
-    | inr below ↦ rw (get_or_append_left programs (program ∷ []) d q (omega (arith, h.many))) (h.each q d below)
+    | inl here ↦ rw here (rw (get_or_push process_steps own_steps d n h.many) (record { steps_are = s; files_are = f }))
+    | inr below ↦ rw (get_or_append_left process_steps (own_steps ∷ []) d q (omega (arith, h.many))) (h.each q d below)
   ];
 }
 
-pub none-idle : AreProgramsOf 0 [] [] []
+pub none-idle : AreStepsOfAll 0 [] [] []
 none-idle = record { many = refl; each = λ q d lt. absurd (omega arith) }
 
 -- ---- lists
@@ -77,41 +77,41 @@ sending-same done step e = sending-more done step ∙ ap (λ b. sending done ++ 
 
 -- ---- the steps so far
 
--- the programs of the steps so far, with the first of the contents, and the others are left
-pub record Dealt (processes : ℕ) (done : List Step) (contents rest : List (List ℕ)) (programs : List Program) : Type 0 where
+-- the steps so far were dealt, with the first of the contents, and the others are left
+pub record Dealt (processes : ℕ) (done : List Step) (contents rest : List (List ℕ)) (process_steps : List ProcessSteps) : Type 0 where
   pub used : List (List ℕ)
   pub split : contents ≡ used ++ rest
   pub many_used : length used ≡ length (sending done)
-  pub programs_are : AreProgramsOf processes done used programs
+  pub process_steps_are : AreStepsOfAll processes done used process_steps
 
-pub none-dealt : (processes : ℕ) (contents : List (List ℕ)) (programs : List Program) → AreProgramsOf processes [] [] programs → Dealt processes [] contents contents programs
-none-dealt processes contents programs h = record { used = []; split = refl; many_used = refl; programs_are = h }
+pub none-dealt : (processes : ℕ) (contents : List (List ℕ)) (process_steps : List ProcessSteps) → AreStepsOfAll processes [] [] process_steps → Dealt processes [] contents contents process_steps
+none-dealt processes contents process_steps h = record { used = []; split = refl; many_used = refl; process_steps_are = h }
 
--- the program of a process with one more step
-program-more : (done : List Step) (used : List (List ℕ)) (step : Step) (content : Option (List ℕ)) (old new : Program) → IsProgramOf done used step.process old
+-- a process with one more step
+own-steps-more : (done : List Step) (used : List (List ℕ)) (step : Step) (content : Option (List ℕ)) (old new : ProcessSteps) → AreStepsOf done used step.process old
     → length used ≡ length (sending done) → is_some content ≡ is_some (file_of step.act)
     → new.steps.items ≡ old.steps.items ++ step ∷ [] → new.files.items ≡ old.files.items ++ option_to_list content
-    → IsProgramOf (done ++ step ∷ []) (used ++ option_to_list content) step.process new
-program-more done used step None old new h e sends s f = record {
+    → AreStepsOf (done ++ step ∷ []) (used ++ option_to_list content) step.process new
+own-steps-more done used step None old new h e sends s f = record {
   steps_are = s ∙ ap (λ steps. steps ++ step ∷ []) h.steps_are ∙ sym (steps-more step.process done step ∙ ap (λ b. steps_of step.process done ++ cond b (step ∷ []) []) (eq-eqb step.process step.process refl));
   files_are = f ∙ append-nil old.files.items ∙ h.files_are
       ∙ sym (ap (λ u. files_of step.process (done ++ step ∷ []) u) (append-nil used) ∙ ap (λ s. map second (filter (is-of step.process) (zip s used))) (sending-same done step (sym sends)));
 }
-program-more done used step (Some bytes) old new h e sends s f = record {
+own-steps-more done used step (Some bytes) old new h e sends s f = record {
   steps_are = s ∙ ap (λ steps. steps ++ step ∷ []) h.steps_are ∙ sym (steps-more step.process done step ∙ ap (λ b. steps_of step.process done ++ cond b (step ∷ []) []) (eq-eqb step.process step.process refl));
   files_are = f ∙ ap (λ files. files ++ bytes ∷ []) h.files_are
       ∙ sym (files-with step.process done step used bytes e (sym sends) ∙ ap (λ b. files_of step.process done used ++ cond b (bytes ∷ []) []) (eq-eqb step.process step.process refl));
 }
 
 -- that of another process stays
-program-same : (done : List Step) (used : List (List ℕ)) (step : Step) (content : Option (List ℕ)) (q : ℕ) (program : Program) → IsProgramOf done used q program → step.process ≢ q
-    → length used ≡ length (sending done) → is_some content ≡ is_some (file_of step.act) → IsProgramOf (done ++ step ∷ []) (used ++ option_to_list content) q program
-program-same done used step None q program h apart e sends = record {
+own-steps-same : (done : List Step) (used : List (List ℕ)) (step : Step) (content : Option (List ℕ)) (q : ℕ) (own_steps : ProcessSteps) → AreStepsOf done used q own_steps → step.process ≢ q
+    → length used ≡ length (sending done) → is_some content ≡ is_some (file_of step.act) → AreStepsOf (done ++ step ∷ []) (used ++ option_to_list content) q own_steps
+own-steps-same done used step None q own_steps h apart e sends = record {
   steps_are = h.steps_are ∙ sym (steps-more q done step ∙ ap (λ b. steps_of q done ++ cond b (step ∷ []) []) (ne_eqb step.process q apart) ∙ append-nil (steps_of q done));
   files_are = h.files_are
       ∙ sym (ap (λ u. files_of q (done ++ step ∷ []) u) (append-nil used) ∙ ap (λ s. map second (filter (is-of q) (zip s used))) (sending-same done step (sym sends)));
 }
-program-same done used step (Some bytes) q program h apart e sends = record {
+own-steps-same done used step (Some bytes) q own_steps h apart e sends = record {
   steps_are = h.steps_are ∙ sym (steps-more q done step ∙ ap (λ b. steps_of q done ++ cond b (step ∷ []) []) (ne_eqb step.process q apart) ∙ append-nil (steps_of q done));
   files_are = h.files_are
       ∙ sym (files-with q done step used bytes e (sym sends) ∙ ap (λ b. files_of q done used ++ cond b (bytes ∷ []) []) (ne_eqb step.process q apart) ∙ append-nil (files_of q done used));
@@ -125,37 +125,37 @@ many-more done used step (Some bytes) e sends =
     ∙ sym (ap (λ (s : List Step). length s) (sending-more done step ∙ ap (λ b. sending done ++ cond b (step ∷ []) []) (sym sends)) ∙ length_push (sending done) step)
 
 -- one more step was dealt
-pub dealt-more : (processes : ℕ) (done : List Step) (contents rest rest' : List (List ℕ)) (programs : List Program) (step : Step) (content : Option (List ℕ)) (old new : Program)
-    → Dealt processes done contents rest programs → step.process < processes → old ≡ get_or programs step.process old → rest ≡ option_to_list content ++ rest'
+pub dealt-more : (processes : ℕ) (done : List Step) (contents rest rest' : List (List ℕ)) (process_steps : List ProcessSteps) (step : Step) (content : Option (List ℕ)) (old new : ProcessSteps)
+    → Dealt processes done contents rest process_steps → step.process < processes → old ≡ get_or process_steps step.process old → rest ≡ option_to_list content ++ rest'
     → is_some content ≡ is_some (file_of step.act) → new.steps.items ≡ old.steps.items ++ step ∷ [] → new.files.items ≡ old.files.items ++ option_to_list content
-    → Dealt processes (done ++ step ∷ []) contents rest' (set programs step.process new)
-dealt-more processes done contents rest rest' programs step content old new h lt at next sends s f = record {
+    → Dealt processes (done ++ step ∷ []) contents rest' (set process_steps step.process new)
+dealt-more processes done contents rest rest' process_steps step content old new h lt at next sends s f = record {
   used = h.used ++ option_to_list content;
   split = h.split ∙ ap (λ r. h.used ++ r) next ∙ sym (append_assoc h.used (option_to_list content) rest');
   many_used = many-more done h.used step content h.many_used sends;
-  programs_are = record {
-    many = length-set programs step.process new ∙ h.programs_are.many;
+  process_steps_are = record {
+    many = length-set process_steps step.process new ∙ h.process_steps_are.many;
     each = λ q d below. elim (eqb_tells step.process q) [
-      | inl here ↦ rw (sym here.1) (rw (get_or-set_same programs step.process new d (omega (arith, h.programs_are.many)))
-          (program-more done h.used step content old new (rw at (h.programs_are.each step.process old lt)) h.many_used sends s f))
-      | inr apart ↦ rw (get_or-set_other programs step.process q new d (λ e. apart.1 (sym e))) (program-same done h.used step content q _ (h.programs_are.each q d below) apart.1 h.many_used sends)
+      | inl here ↦ rw (sym here.1) (rw (get_or-set_same process_steps step.process new d (omega (arith, h.process_steps_are.many)))
+          (own-steps-more done h.used step content old new (rw at (h.process_steps_are.each step.process old lt)) h.many_used sends s f))
+      | inr apart ↦ rw (get_or-set_other process_steps step.process q new d (λ e. apart.1 (sym e))) (own-steps-same done h.used step content q _ (h.process_steps_are.each q d below) apart.1 h.many_used sends)
     ];
   };
 }
 
 -- all contents are used once all steps were dealt
-pub all-dealt : (processes : ℕ) (steps : List Step) (contents rest : List (List ℕ)) (programs : List Program) → Dealt processes steps contents rest programs
-    → length contents ≡ length (sending steps) → AreProgramsOf processes steps contents programs
-all-dealt processes steps contents rest programs h many = rw (h.split ∙ ap (λ r. h.used ++ r) (none rest (omega (arith, h.many_used, many, ap (λ (c : List (List ℕ)). length c) h.split, length-append h.used rest))) ∙ append-nil h.used) h.programs_are
+pub all-dealt : (processes : ℕ) (steps : List Step) (contents rest : List (List ℕ)) (process_steps : List ProcessSteps) → Dealt processes steps contents rest process_steps
+    → length contents ≡ length (sending steps) → AreStepsOfAll processes steps contents process_steps
+all-dealt processes steps contents rest process_steps h many = rw (h.split ∙ ap (λ r. h.used ++ r) (none rest (omega (arith, h.many_used, many, ap (λ (c : List (List ℕ)). length c) h.split, length-append h.used rest))) ∙ append-nil h.used) h.process_steps_are
   where
     none : (xs : List (List ℕ)) → length xs ≡ 0 → xs ≡ []
     none [] e = refl
     none (x ∷ xs) e = absurd (omega arith)
 
 -- something is left where the next step sends a file
-pub some-left : (processes : ℕ) (steps done more : List Step) (step : Step) (contents rest : List (List ℕ)) (programs : List Program) → Dealt processes done contents rest programs
+pub some-left : (processes : ℕ) (steps done more : List Step) (step : Step) (contents rest : List (List ℕ)) (process_steps : List ProcessSteps) → Dealt processes done contents rest process_steps
     → length contents ≡ length (sending steps) → steps ≡ done ++ step ∷ more → is_some (file_of step.act) ≡ true → 0 < length rest
-some-left processes steps done more step contents rest programs h many split sends =
+some-left processes steps done more step contents rest process_steps h many split sends =
     let parts : sending steps ≡ sending done ++ step ∷ sending more =
     ap sending split ∙ filter-append (λ (s : Step). is_some (file_of s.act)) done (step ∷ more) ∙ ap (λ b. sending done ++ cond b (step ∷ sending more) (sending more)) sends in
     omega (arith, h.many_used, many, ap (λ (c : List (List ℕ)). length c) h.split, length-append h.used rest, ap (λ (s : List Step). length s) parts, length-append (sending done) (step ∷ sending more))

@@ -2,7 +2,7 @@
 use Rattle.std.specs.Prelude.{◌≡◌, ℕ, ◌<◌, ◌==◌, List, length, map, filter, is_some, slice_index_or}
 use Rattle.std.specs.List.{zip}
 use Rattle.script_plan.specs.declared.step.Step.{Step}
-use Rattle.run_seats.specs.declared.plans.Program.{Program}
+use Rattle.run_seats.specs.declared.plans.ProcessSteps.{ProcessSteps}
 use Rattle.script_input.specs.Contents.{file_of}
 
 -- the steps of a process, in their order
@@ -17,12 +17,12 @@ sending steps = filter (λ s. is_some (file_of s.act)) steps
 abbrev pub files_of : ℕ → List Step → List (List ℕ) → List (List ℕ)
 files_of process steps contents = map (λ p. p.1) (filter (λ p. p.0.process == process) (zip (sending steps) contents))
 
--- the program is that of this process
-pub record IsProgramOf (steps : List Step) (contents : List (List ℕ)) (process : ℕ) (program : Program) : Type 0 where
-  pub steps_are : program.steps.items ≡ steps_of process steps
-  pub files_are : program.files.items ≡ files_of process steps contents
+-- these are the steps of this process, and the contents of its files
+pub record AreStepsOf (steps : List Step) (contents : List (List ℕ)) (process : ℕ) (own_steps : ProcessSteps) : Type 0 where
+  pub steps_are : own_steps.steps.items ≡ steps_of process steps
+  pub files_are : own_steps.files.items ≡ files_of process steps contents
 
--- there is a program for each of so many processes
-pub record AreProgramsOf (processes : ℕ) (steps : List Step) (contents : List (List ℕ)) (programs : List Program) : Type 0 where
-  pub many : length programs ≡ processes
-  pub each : (process : ℕ) (p : Program) → process < processes → IsProgramOf steps contents process (slice_index_or programs process p)
+-- these are the steps of each of so many processes
+pub record AreStepsOfAll (processes : ℕ) (steps : List Step) (contents : List (List ℕ)) (process_steps : List ProcessSteps) : Type 0 where
+  pub many : length process_steps ≡ processes
+  pub each : (process : ℕ) (p : ProcessSteps) → process < processes → AreStepsOf steps contents process (slice_index_or process_steps process p)
