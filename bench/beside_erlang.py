@@ -10,6 +10,7 @@ has a name, the project's figure, that of Erlang/OTP, and the project's in perce
                        the first that is made to the end of the last, so a little more than from the first command to the last data; by Erlang/OTP from the first
                        command to the last data, with a linked-in driver in C
   load_floor           the puts, takes, copies and lists of these commands in C on one thread, with records as large as the project's, in microseconds
+  load_floor_4         the same dealt to four threads, each of which has two processes and one port for itself, so that none waits for another or shares a word with it
   load_process         `load 7`, the whole process, with the 4 schedulers that it has where nothing is said, in microseconds; and that of `erl` with 4
   load_process_1       the same with 1 scheduler each
   growth               131,072 commands of 8 bytes at an echo port in percent of 16,384
@@ -17,11 +18,12 @@ has a name, the project's figure, that of Erlang/OTP, and the project's in perce
                        131,072 and 16,384
   memory_off           the same without limits, so that commands may lie in the lane before they are handled: the two of `growth`
   replay               the journal of 16,000 commands replayed, the whole process, in microseconds
-  cat_stream, cat_line 33,554,432 bytes in lines through `cat` in stream mode and as lines, and saved, in microseconds; the project's are whole processes, Erlang/OTP's are
-                       from the start of `cat` to the end of the write of the file
+  cat_stream, cat_line 33,554,432 bytes in lines through `cat` in stream mode and as lines, and saved, in microseconds, from the start of `cat` until what came back is
+                       written to a file, on both sides
   cat_stream_run, cat_line_run
-                       of these the time for which the project has threads, from the start of `cat` to the end of the run: without the reading of the file, the
-                       write of the save, and the report with its SHA-256
+                       of these the time for which the project has threads, from the start of `cat` to the end of the run: without the write of the file
+  cat_stream_process, cat_line_process
+                       the project's whole processes, with the reading of the file, and the report with its SHA-256, which Erlang/OTP's side doesn't make
   cat_floor            the same bytes through `cat` by two pipes in C
   cat_memory           the most memory of the run in stream mode, in percent of the file
   wait                 processor time of a run that waits five seconds for a slow program, in microseconds
@@ -65,18 +67,24 @@ def median(runs, words, part=0, **how):
 
 
 class Span:
-    """For how long a run of the program has threads, by a library that is built in the folder of this bench. One thread, which serves programs, is made before a run."""
+    """For how long a run of the program has threads, and how long after their start it closes its last file, by a library that is built in the folder of this bench. One thread,
+    which serves programs, is made before a run."""
 
     def __init__(self):
         subprocess.run(["gcc", "-O2", "-shared", "-fPIC", "-o", "thread_span.so", f"{HERE}/thread_span.c"], check=True)
         self.environment = dict(os.environ, LD_PRELOAD=os.path.realpath("thread_span.so"), SPAN=os.path.realpath("span"), BEHIND="1")
 
-    def once(self, words):
+    def both(self, words):
+        """The microseconds to the end of the last thread, and to the last close of a file."""
         with open("span", "wb") as it:
-            it.write(bytes(8))
+            it.write(bytes(16))
         run(words, env=self.environment)
         with open("span", "rb") as it:
-            return int.from_bytes(it.read(), sys.byteorder)
+            told = it.read()
+        return int.from_bytes(told[:8], sys.byteorder), int.from_bytes(told[8:], sys.byteorder)
+
+    def once(self, words):
+        return self.both(words)[0]
 
 
 def row(name, ours, theirs=None):
@@ -132,10 +140,10 @@ class Erlang:
 
 def time_load(program, runs, erlang):
     """Makes all works of a round one after another, since the machine may be faster in one minute than in the next."""
-    subprocess.run(["gcc", "-O2", "-o", "floor", f"{HERE}/floor.c"], check=True)
+    subprocess.run(["gcc", "-O2", "-pthread", "-o", "floor", f"{HERE}/floor.c"], check=True)
     span, rounds = Span(), []
     for _ in range(runs):
-        times = {"load_floor": float(subprocess.run(["./floor", "7"], check=True, capture_output=True).stdout)}
+        times = {name: float(subprocess.run(["./floor", "7", threads], check=True, capture_output=True).stdout) for name, threads in (("load_floor", "1"), ("load_floor_4", "4"))}
         for schedulers in ("1", "4"):
             name, words = f"load_{schedulers}", [program, "load", "7", schedulers, "1"]
             times[name], times[f"{name}_erlang"] = span.once(words), erlang.told(schedulers, "load", 7, 3)
@@ -144,7 +152,7 @@ def time_load(program, runs, erlang):
             times[f"{name}_erlang"] = run(erlang.words(schedulers, "load", 7, 1))[0] if erlang.found else None
         rounds.append(times)
     middle = {name: time and statistics.median(it[name] for it in rounds) for name, time in rounds[0].items()}
-    for name in ("load_1", "load_4", "load_process", "load_process_1", "load_floor"):
+    for name in ("load_1", "load_4", "load_process", "load_process_1", "load_floor", "load_floor_4"):
         row(name, middle[name], middle.get(f"{name}_erlang"))
 
 
@@ -175,10 +183,11 @@ def time_cat(program, runs, erlang):
         port = f'process a\nport p a spawn run "cat" {option} msgq off busy 65536 131072\nsave a p "out.txt"\n'
         wait = f"bytes p {SIZE}" if name == "stream" else f"bytes p {SIZE - open('in.txt', 'rb').read().count(10)}"
         script = write(f"{name}.txt", f'{port}a file p 65536 "in.txt"\na {wait}\na close p\n')
-        whole, threads = zip(*[(run([program, "run", script])[0], span.once([program, "run", script])) for _ in range(runs)])
+        whole, threads, written = zip(*[(run([program, "run", script])[0], *span.both([program, "run", script])) for _ in range(runs)])
         theirs = erlang.told(1, "filter", name, "in.txt", min(runs, 5))
-        row(f"cat_{name}", statistics.median(whole), theirs)
-        row(f"cat_{name}_run", statistics.median(threads), theirs)
+        row(f"cat_{name}", statistics.median(written), theirs)
+        row(f"cat_{name}_run", statistics.median(threads))
+        row(f"cat_{name}_process", statistics.median(whole), theirs)
         if open("in.txt", "rb").read() != open("out.txt", "rb").read():
             sys.exit(f"the file that came back as {name} isn't the same")
     row("cat_memory", statistics.median(most_memory([program, "run", "stream.txt"]) for _ in range(3)) * 100 / SIZE)
