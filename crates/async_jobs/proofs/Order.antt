@@ -19,7 +19,7 @@ use Rattle.async_jobs.specs.declared.worker.Worked.TheVariants as worked
 use Rattle.async_jobs.specs.Items.{AnyFits, jobs_in, jobs_of, with_key}
 use Rattle.async_jobs.specs.Pool.{PoolEnd, Lanes, worker_of, Submitted}
 use Rattle.async_jobs.specs.Turns.{Worker, Took, Turned, IsDoneOf}
-use Rattle.async_jobs.specs.Order.{share_of, SubmittedByKey, TakenByKey, TakenOnceEnded, AllTakenByKey, Asked, asked_by, answered_by, jobs_taken, AnsweredAsTaken, IsPartOf, AnsweredByKey, AllAnsweredByKey}
+use Rattle.async_jobs.specs.Order.{share_of, SubmittedByKey, TakenByKey, TakenOnceEnded, AllTakenByKey, AskedJob, asked_by, answered_by, jobs_taken, AnsweredAsTaken, IsPartOf, AnsweredByKey, AllAnsweredByKey}
 
 jobs_in-append : (xs ys : List WorkItem) → jobs_in (xs ++ ys) ≡ jobs_in xs ++ jobs_in ys
 jobs_in-append [] ys = refl
@@ -142,7 +142,7 @@ done_asked job done is = sym (λ i. record { port = is.port i; number = is.numbe
 turn_answers : (old new : Worker) (turn : Worked) → Turned old new turn
     → map asked_by (jobs_taken new) ≡ map asked_by (jobs_taken old) ++ answered_by turn
 turn_answers old new (worked.Did done) (job, it, is) =
-    took_asked old new (Work job) it ∙ ap (λ (a : Asked). map asked_by (jobs_taken old) ++ a ∷ []) (done_asked job done is)
+    took_asked old new (Work job) it ∙ ap (λ (a : AskedJob). map asked_by (jobs_taken old) ++ a ∷ []) (done_asked job done is)
 turn_answers old new worked.Empty (same, empty, whole) = ap (λ t. map asked_by (jobs_taken t)) same ∙ sym (append-nil (map asked_by (jobs_taken old)))
 turn_answers old new worked.Finished it = took_asked old new Finish it
 turn_answers old new (worked.NoMemory job) it = took_asked old new (Work job) it

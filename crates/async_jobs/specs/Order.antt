@@ -53,17 +53,17 @@ AllTakenByKey = (old new : Lanes) (jobs : List Job) → AllSubmitted old jobs ne
     → jobs_of key (of (slice_index_or new n e).number t.taken) ≡ jobs_of key (slice_index_or old n e).sent ++ share_of old n key jobs
 
 -- what a job asks for, and who asked
-pub record Asked : Type 0 where
+pub record AskedJob : Type 0 where
   pub port : ℕ
   pub number : ℕ
   pub code : ℕ
   pub input : List ℕ
 
-abbrev pub asked_by : Job → Asked
+abbrev pub asked_by : Job → AskedJob
 asked_by job = record { port = job.port; number = job.number; code = job.code; input = job.input }
 
 -- the job that a turn answers: one that it did, or one for which it found no memory
-abbrev pub answered_by : Worked → List Asked
+abbrev pub answered_by : Worked → List AskedJob
 answered_by (worked.Did done) = record { port = done.port; number = done.number; code = done.code; input = done.input } ∷ []
 answered_by worked.Empty = []
 answered_by worked.Finished = []

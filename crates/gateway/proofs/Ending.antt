@@ -20,7 +20,7 @@ use Rattle.script_input.specs.declared.input.RunInput.{RunInput}
 use Rattle.script_input.specs.declared.input.RunWrites.{RunWrites}
 use Rattle.script_input.specs.Files.{FilesView, NothingRead, NothingWritten}
 use Rattle.script_input.proofs.Contents.{all-done}
-use Rattle.script_input.specs.Words.{Asked, Source, FromFile, FromLoad}
+use Rattle.script_input.specs.Words.{AskedRun, Source, FromFile, FromLoad}
 use Rattle.script_plan.specs.declared.decl.PortDecl.{PortDecl}
 use Rattle.script_plan.specs.Plan.{Plan}
 use Rattle.load_summary.specs.run_output.script_run.declared.running.RunFault.{RunFault}
@@ -40,14 +40,14 @@ use Rattle.gateway.proofs.Untouched.{none-touched}
 use Rattle.gateway.proofs.Whole.{completes}
 
 -- the script of a run for which all was read
-found-of : (words : Result Asked ℕ) (before after : FilesView) (plan : Plan) (i : RunInput) → HasInput words before after plan i → PlanFound words before after plan
+found-of : (words : Result AskedRun ℕ) (before after : FilesView) (plan : Plan) (i : RunInput) → HasInput words before after plan i → PlanFound words before after plan
 found-of words before after plan i h = record {
   mid = h.loaded.mid;
   script = h.loaded.script;
   files = all-done plan.steps plan.steps h.loaded.mid after h.contents h.loaded.files refl;
 }
 
-reads-same : (words : Result Asked ℕ) (before after : FilesView) (plan : Plan) (i : RunInput) → HasInput words before after plan i → after.reads ≡ before.reads
+reads-same : (words : Result AskedRun ℕ) (before after : FilesView) (plan : Plan) (i : RunInput) → HasInput words before after plan i → after.reads ≡ before.reads
 reads-same words before after plan i h = h.loaded.files.reads ∙ says-reads h.loaded.script.asked.source before h.loaded.mid plan h.loaded.script.read
 
 -- what a load leaves of the files
@@ -121,7 +121,7 @@ module _ {D : Type 0} (kind : D → Kind) (stage : D → Life) (faults : D → �
   unread-comes run (Limit line) l w s h = (l, h, (w, s))
   unread-comes run (JournalText at) l w s h = absurd l
 
-  unread-reported : (run : Run D) (words : Result Asked ℕ) (hosts : List (Hosted D)) (before after : FilesView) (cause : Cause) → InputEnds kind stage faults words hosts before after cause
+  unread-reported : (run : Run D) (words : Result AskedRun ℕ) (hosts : List (Hosted D)) (before after : FilesView) (cause : Cause) → InputEnds kind stage faults words hosts before after cause
       → IsReported kind stage faults own program run cause None
   unread-reported run words hosts before after Done l = absurd l
   unread-reported run words hosts before after (Usage at) l = refl

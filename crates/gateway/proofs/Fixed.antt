@@ -16,7 +16,7 @@ use Rattle.script_input.specs.Input.{IsRunOf}
 use Rattle.script_input.specs.Names.{AreNamesOf}
 use Rattle.script_input.specs.run_setting.declared.RunScript.{RunScript}
 use Rattle.script_input.specs.run_setting.Script.{IsRunnable}
-use Rattle.script_input.specs.Words.{Asked, Source, FromFile, FromLoad}
+use Rattle.script_input.specs.Words.{AskedRun, Source, FromFile, FromLoad}
 use Rattle.script_plan.specs.Plan.{Plan}
 use Rattle.gateway.specs.Fixed.{AnswersAreFixed, IsSummaryOf}
 use Rattle.gateway.specs.Run.{HasInput, SaysPlan}
@@ -60,7 +60,7 @@ module _ {D : Type 0} (kind : D → Kind) (stage : D → Life) (faults : D → �
         has_run = ran;
       })
 
-  pub summed : FixedLaws → (words : Result Asked ℕ) (files read : FilesView) (plan : Plan) (i : RunInput) (h : HasInput words files read plan i) (old new : List (Hosted D)) (before : List ℕ)
+  pub summed : FixedLaws → (words : Result AskedRun ℕ) (files read : FilesView) (plan : Plan) (i : RunInput) (h : HasInput words files read plan i) (old new : List (Hosted D)) (before : List ℕ)
       (after : Option (List ℕ)) (left : ScriptRan) → HasRun kind stage faults own program i.script old new before after left
       → IsSummaryOf h.loaded.script.asked.source (report_of i.names left)
   summed laws words files read plan i h old new before after left ran =

@@ -11,7 +11,7 @@ use Rattle.run_report.specs.declared.cause.Cause.TheVariants.{Done, Usage, Scrip
 use Rattle.run_report.specs.declared.report.Report.{Report}
 use Rattle.script_input.specs.declared.input.RunWrites.{RunWrites}
 use Rattle.script_input.specs.Files.{FilesView}
-use Rattle.script_input.specs.Words.{Asked, Source}
+use Rattle.script_input.specs.Words.{AskedRun, Source}
 use Rattle.load_summary.specs.run_output.script_run.declared.running.RunFault.{RunFault}
 use Rattle.load_summary.specs.run_output.script_run.declared.running.RunFault.TheVariants as ran
 use Rattle.load_summary.specs.run_output.script_run.declared.running.ScriptRan.{ScriptRan}
@@ -21,7 +21,7 @@ use Rattle.gateway.specs.Stages.{run_cause, InputEnds, WriteEnds}
 
 module _ {D S : Type 0} (kind : D → Kind) (stage : D → Life) (faults : D → ℕ) (waits : S → ℕ) where
   -- nothing was run
-  pub poll-unread : (words : Result Asked ℕ) (hosts : List (Hosted D)) (before after : FilesView) (poll : S) (cause : Cause) → InputEnds kind stage faults words hosts before after cause
+  pub poll-unread : (words : Result AskedRun ℕ) (hosts : List (Hosted D)) (before after : FilesView) (poll : S) (cause : Cause) → InputEnds kind stage faults words hosts before after cause
       → PollEnds waits poll cause (Some poll)
   poll-unread words hosts before after poll Done l = absurd l
   poll-unread words hosts before after poll (Usage at) l = refl

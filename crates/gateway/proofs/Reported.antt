@@ -18,7 +18,7 @@ use Rattle.script_input.specs.declared.input.PortName.{PortName}
 use Rattle.script_input.specs.declared.input.RunInput.{RunInput}
 use Rattle.script_input.specs.Files.{FilesView}
 use Rattle.script_input.specs.Names.{port_name}
-use Rattle.script_input.specs.Words.{Asked}
+use Rattle.script_input.specs.Words.{AskedRun}
 use Rattle.script_plan.specs.declared.decl.PortDecl.{PortDecl}
 use Rattle.script_plan.specs.declared.decl.ProcessDecl.{ProcessDecl}
 use Rattle.script_plan.specs.declared.decl.SaveDecl.{SaveDecl}
@@ -30,10 +30,10 @@ use Rattle.gateway.specs.Run.{HasInput}
 use Rattle.gateway.proofs.Closing.{finished-has-end}
 
 -- the names of a plan are as many as its processes and its ports
-process-names-many : (words : Result Asked ℕ) (before after : FilesView) (plan : Plan) (i : RunInput) → HasInput words before after plan i → length i.names.processes.items ≡ length plan.processes
+process-names-many : (words : Result AskedRun ℕ) (before after : FilesView) (plan : Plan) (i : RunInput) → HasInput words before after plan i → length i.names.processes.items ≡ length plan.processes
 process-names-many words before after plan i h = rw h.names.processes (length-map plan.processes (λ (p : ProcessDecl). p.name))
 
-port-names-many : (words : Result Asked ℕ) (before after : FilesView) (plan : Plan) (i : RunInput) → HasInput words before after plan i → length i.names.ports.items ≡ length plan.ports
+port-names-many : (words : Result AskedRun ℕ) (before after : FilesView) (plan : Plan) (i : RunInput) → HasInput words before after plan i → length i.names.ports.items ≡ length plan.ports
 port-names-many words before after plan i h = rw h.names.ports (length-map plan.ports port_name)
 
 -- a sender of a run is a process of it, where it is a process
@@ -73,19 +73,19 @@ module _ {D : Type 0} (kind : D → Kind) (stage : D → Life) (faults : D → �
   no-host = record { port = None; driver = None }
 
   -- each process of the plan is reported
-  pub processes-many : (words : Result Asked ℕ) (before after : FilesView) (plan : Plan) (i : RunInput) (old new : List (Hosted D)) (answered : List ℕ) (later : Option (List ℕ)) (left : ScriptRan) → HasInput words before after plan i
+  pub processes-many : (words : Result AskedRun ℕ) (before after : FilesView) (plan : Plan) (i : RunInput) (old new : List (Hosted D)) (answered : List ℕ) (later : Option (List ℕ)) (left : ScriptRan) → HasInput words before after plan i
       → HasRun kind stage faults own program i.script old new answered later left → length (report_of i.names left).processes ≡ length plan.processes
   processes-many words before after plan i old new answered later left h run =
       let names = process-names-many words before after plan i h in
       paired-many (λ p. process_report p.0 p.1) i.names.processes.items left.processes.items (run.processes_many ∙ h.run.programs.many ∙ sym names) ∙ names
 
-  pub saves-within : (words : Result Asked ℕ) (before after : FilesView) (plan : Plan) (i : RunInput) (old new : List (Hosted D)) (answered : List ℕ) (later : Option (List ℕ)) (left : ScriptRan) → HasInput words before after plan i
+  pub saves-within : (words : Result AskedRun ℕ) (before after : FilesView) (plan : Plan) (i : RunInput) (old new : List (Hosted D)) (answered : List ℕ) (later : Option (List ℕ)) (left : ScriptRan) → HasInput words before after plan i
       → HasRun kind stage faults own program i.script old new answered later left → All (λ (s : SaveDecl). s.process < length (report_of i.names left).processes) i.writes.saves.items
   saves-within words before after plan i old new answered later left h run =
       rw (processes-many words before after plan i old new answered later left h run) (rw h.writes.saves (λ k d below. (h.loaded.script.is_plan.saved k d below).0))
 
   -- the port of this number has ended, by its report
-  ended-at : (words : Result Asked ℕ) (before after : FilesView) (plan : Plan) (i : RunInput) (old new : List (Hosted D)) (answered : List ℕ) (later : Option (List ℕ)) (left : ScriptRan) → HasInput words before after plan i
+  ended-at : (words : Result AskedRun ℕ) (before after : FilesView) (plan : Plan) (i : RunInput) (old new : List (Hosted D)) (answered : List ℕ) (later : Option (List ℕ)) (left : ScriptRan) → HasInput words before after plan i
       → HasRun kind stage faults own program i.script old new answered later left → (k : ℕ) (p : PortLeft) → k < length plan.ports
       → HasEnded (length plan.processes) (port_report (port_name (slice_index_or plan.ports k no-decl)) (slice_index_or left.ports.items k p))
   ended-at words before after plan i old new answered later left h run k p lt =
@@ -98,7 +98,7 @@ module _ {D : Type 0} (kind : D → Kind) (stage : D → Life) (faults : D → �
       (h.loaded.script.is_plan.owners k no-decl lt)
 
   -- the report of each port has ended
-  pub all-ended : (words : Result Asked ℕ) (before after : FilesView) (plan : Plan) (i : RunInput) (old new : List (Hosted D)) (answered : List ℕ) (later : Option (List ℕ)) (left : ScriptRan) → HasInput words before after plan i
+  pub all-ended : (words : Result AskedRun ℕ) (before after : FilesView) (plan : Plan) (i : RunInput) (old new : List (Hosted D)) (answered : List ℕ) (later : Option (List ℕ)) (left : ScriptRan) → HasInput words before after plan i
       → HasRun kind stage faults own program i.script old new answered later left → All (HasEnded (length (report_of i.names left).processes)) (report_of i.names left).ports
   all-ended words before after plan i old new answered later left h run = λ k d below.
       let names = port-names-many words before after plan i h in

@@ -26,7 +26,7 @@ use Rattle.run_report.specs.declared.cause.Cause.TheVariants.{Done, Usage, Scrip
 use Rattle.script_input.specs.Contents.{file_of, file_names, named, total, StopsAt}
 use Rattle.script_input.specs.Files.{FilesView, HasRead, IsUnread}
 use Rattle.script_input.specs.Script.{ScriptRead}
-use Rattle.script_input.specs.Words.{Asked, Source, FromFile, FromLoad}
+use Rattle.script_input.specs.Words.{AskedRun, Source, FromFile, FromLoad}
 use Rattle.script_plan.specs.declared.decl.PortDecl.{PortDecl}
 use Rattle.script_plan.specs.declared.fault.ScriptFault.{ScriptFault}
 use Rattle.script_plan.specs.declared.step.Step.{Step}
@@ -236,7 +236,7 @@ module _ {D : Type 0} where
     plan-same : (mid : FilesView) (plan : Plan) (more : List NamedBytes) (v : IsValid kind faults run) → PlanRead run.words run.files mid plan → run.files_after.answered ≡ mid.answered ++ more
         → plan ≡ v.plan
     plan-same mid plan more v r log =
-        let same : v.asked.source ≡ r.asked.source = ap (λ (a : Asked). a.source) (ok-same run.words v.asked r.asked v.named r.named) in
+        let same : v.asked.source ≡ r.asked.source = ap (λ (a : AskedRun). a.source) (ok-same run.words v.asked r.asked v.named r.named) in
         says-same r.asked.source mid plan v.plan more r.read (subst (λ (s : Source). ScriptThere s run.files run.files_after v.plan) same v.there) log
 
     found-same : (plan : Plan) (v : IsValid kind faults run) → PlanFound run.words run.files run.files_after plan → plan ≡ v.plan

@@ -21,7 +21,7 @@ use Rattle.run_report.specs.declared.report.Report.{Report}
 use Rattle.script_input.specs.Contents.{file_names, named as named_files, total, FileUnread, FilesOver}
 use Rattle.script_input.specs.Files.{FilesView, IsLonger, IsUnread, NothingRead, NothingWritten}
 use Rattle.script_input.specs.Script.{IsOfScript, ScriptRead}
-use Rattle.script_input.specs.Words.{Asked, Source, FromFile, FromLoad}
+use Rattle.script_input.specs.Words.{AskedRun, Source, FromFile, FromLoad}
 use Rattle.script_load.specs.Load.{load_plan}
 use Rattle.script_plan.specs.declared.decl.PortDecl.{PortDecl}
 use Rattle.script_plan.specs.declared.fault.ScriptFault.{ScriptFault}
@@ -32,28 +32,28 @@ use Rattle.gateway.specs.Ran.{Ran}
 -- The five below are of the script of a file alone: a load has none of them
 
 -- what the words name is no script, by this fault
-pub record IsNoScript (words : Result Asked ℕ) (before after : FilesView) (fault : ScriptFault) : Type 0 where
+pub record IsNoScript (words : Result AskedRun ℕ) (before after : FilesView) (fault : ScriptFault) : Type 0 where
   pub name : List ℕ
   pub named : AskFor words (FromFile name)
   pub of_script : IsOfScript fault
   pub read : ScriptRead before after name (Err fault)
 
 -- the script wasn't read
-pub record ScriptUnread (words : Result Asked ℕ) (before after : FilesView) : Type 0 where
+pub record ScriptUnread (words : Result AskedRun ℕ) (before after : FilesView) : Type 0 where
   pub name : List ℕ
   pub named : AskFor words (FromFile name)
   pub answered : after.answered ≡ before.answered
   pub unread : IsUnread before after name
 
 -- the script is larger than is allowed
-pub record ScriptOver (words : Result Asked ℕ) (before after : FilesView) : Type 0 where
+pub record ScriptOver (words : Result AskedRun ℕ) (before after : FilesView) : Type 0 where
   pub name : List ℕ
   pub named : AskFor words (FromFile name)
   pub nothing : NothingRead before after
   pub over : IsLonger 1048576 before name
 
 -- the script was read, and the file that this line names wasn't
-pub record StepUnread (words : Result Asked ℕ) (before after : FilesView) (line : ℕ) : Type 0 where
+pub record StepUnread (words : Result AskedRun ℕ) (before after : FilesView) (line : ℕ) : Type 0 where
   pub name : List ℕ
   pub named : AskFor words (FromFile name)
   pub plan : Plan
@@ -62,7 +62,7 @@ pub record StepUnread (words : Result Asked ℕ) (before after : FilesView) (lin
   pub file : FileUnread plan.steps mid after line
 
 -- the script was read, and its files up to that of this line are larger than is allowed
-pub record StepOver (words : Result Asked ℕ) (before after : FilesView) (line : ℕ) : Type 0 where
+pub record StepOver (words : Result AskedRun ℕ) (before after : FilesView) (line : ℕ) : Type 0 where
   pub name : List ℕ
   pub named : AskFor words (FromFile name)
   pub plan : Plan
@@ -173,7 +173,7 @@ module _ {D : Type 0} where
   -- What the words ask for is there and valid, within the limits of its size. A driver is there for each of its ports, and no start failed; and no count of failed reads, writes, puts or waits rose, or stood
   -- at its end
   pub record IsValid (kind : D → Kind) (faults : D → ℕ) (run : Run D) : Type 0 where
-    pub asked : Asked
+    pub asked : AskedRun
     pub plan : Plan
     pub named : run.words ≡ Ok asked
     pub there : ScriptThere asked.source run.files run.files_after plan

@@ -14,7 +14,7 @@ use Rattle.script_input.specs.program_io.declared.fault.InputFault.TheVariants a
 use Rattle.script_input.specs.declared.input.RunWrites.{RunWrites}
 use Rattle.script_input.specs.Files.{FilesView, NothingRead}
 use Rattle.script_input.specs.Script.{ScriptEnds}
-use Rattle.script_input.specs.Words.{Asked, Source, FromFile, FromLoad}
+use Rattle.script_input.specs.Words.{AskedRun, Source, FromFile, FromLoad}
 use Rattle.script_plan.specs.declared.decl.PortDecl.{PortDecl}
 use Rattle.script_plan.specs.Plan.{Plan}
 use Rattle.load_summary.specs.run_output.script_run.declared.running.RunFault.{RunFault}
@@ -43,7 +43,7 @@ module _ {D : Type 0} (kind : D → Kind) (stage : D → Life) (faults : D → �
   DriversEnd ports hosts cause = ⊥
 
   -- why there is nothing to run
-  abbrev pub InputEnds : Result Asked ℕ → List (Hosted D) → FilesView → FilesView → Cause → Type 0
+  abbrev pub InputEnds : Result AskedRun ℕ → List (Hosted D) → FilesView → FilesView → Cause → Type 0
   InputEnds words hosts before after (Usage at) = (words ≡ Err at) × NothingRead before after
   InputEnds words hosts before after (Script fault) = IsNoScript words before after fault
   InputEnds words hosts before after (ReadFault line) = ((line ≡ 0) × ScriptUnread words before after) ⊎ StepUnread words before after line

@@ -3,7 +3,7 @@ use Rattle.std.specs.Prelude.{◌≡◌, ◌≢◌, ℕ, List, Option, Some, fin
 use Rattle.std.specs.Option.{option_map}
 use Rattle.std.specs.Str.{bytes_eq}
 use Rattle.outside.specs.Log.{NamedBytes}
-use Rattle.outside.specs.Plan.{Plan}
+use Rattle.outside.specs.Plan.{CallPlanView}
 
 -- a file: its name and its bytes
 pub record File : Type 0 where
@@ -13,8 +13,8 @@ pub record File : Type 0 where
 -- the files that are held, the calls that were made and are to fail, their faults, and what they answered
 pub record Disk : Type 0 where
   pub files : List File
-  pub reads : Plan
-  pub writes : Plan
+  pub reads : CallPlanView
+  pub writes : CallPlanView
   pub read_faults : ℕ
   pub write_faults : ℕ
   pub answered : List NamedBytes

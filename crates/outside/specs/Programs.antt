@@ -5,17 +5,17 @@ use Rattle.outside.specs.declared.chunk.Ending.{Ending}
 use Rattle.outside.specs.declared.child.Fetched.{Fetched}
 use Rattle.outside.specs.declared.child.Fetched.TheVariants.{Bytes, Again, End, Failed, NoMemory}
 use Rattle.outside.specs.Children.{ChildView, Stand}
-use Rattle.outside.specs.Plan.{Plan}
+use Rattle.outside.specs.Plan.{CallPlanView}
 
 -- a program: the most bytes that one offer takes, how many bytes what comes next waits for, what it gives, and how its output ends
-pub record Program : Type 0 where
+pub record ProgramView : Type 0 where
   pub grain : ℕ
   pub need : ℕ
   pub chunks : List Chunk
   pub ending : Option Ending
 
 -- a program got one more chunk
-pub record Gives (old new : Program) (more : List ℕ) : Type 0 where
+pub record Gives (old new : ProgramView) (more : List ℕ) : Type 0 where
   pub chunk : Chunk
   pub need : chunk.need ≡ old.need
   pub bytes : chunk.bytes.items ≡ more
@@ -54,9 +54,9 @@ pub record Running : Type 0 where
   pub chunks : List Chunk
   pub ending : Option Ending
   pub at_end : Bool
-  pub offers : Plan
-  pub fetches : Plan
-  pub statuses : Plan
+  pub offers : CallPlanView
+  pub fetches : CallPlanView
+  pub statuses : CallPlanView
   pub faults : ℕ
 
 -- how it stands

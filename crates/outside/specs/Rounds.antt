@@ -1,13 +1,13 @@
 -- Readiness in memory: rounds of events, and what a wait answers by them.
 use Rattle.std.specs.Prelude.{ℕ, ◌==◌, if◌then◌else◌, List, [], ◌∷◌, filter, length}
 use Rattle.std.specs.List.{list_any}
-use Rattle.outside.specs.Plan.{Plan}
+use Rattle.outside.specs.Plan.{CallPlanView}
 
 -- the rounds that are left, the events answered so far, the waits made and to fail, and their faults
 pub record Rounds : Type 0 where
   pub rounds : List (List ℕ)
   pub answered : List ℕ
-  pub waits : Plan
+  pub waits : CallPlanView
   pub faults : ℕ
 
 -- the armed events that are in a round

@@ -1,6 +1,6 @@
 -- Output in memory.
 use Rattle.std.specs.Prelude.{◌≡◌, ℕ, ◌+◌, ◌≤◌, ◌<◌, List, ◌++◌, length}
-use Rattle.outside.specs.Plan.{Plan}
+use Rattle.outside.specs.Plan.{CallPlanView}
 
 -- the bytes written so far, how many more there is room for, how many bytes a put that is to fail takes, the puts made and to fail, their
 -- faults, and the bytes of the puts that answered `Ok`
@@ -8,7 +8,7 @@ pub record Tape : Type 0 where
   pub written : List ℕ
   pub room : ℕ
   pub part : ℕ
-  pub puts : Plan
+  pub puts : CallPlanView
   pub faults : ℕ
   pub took : List ℕ
 

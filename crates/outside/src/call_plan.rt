@@ -14,9 +14,9 @@ pub(crate) struct CallPlan {
 }
 
 impl Model for CallPlan {
-    ghost use Rattle.outside.specs.Plan.{Plan};
+    ghost use Rattle.outside.specs.Plan.{CallPlanView};
 
-    ghost Value = { Plan };
+    ghost Value = { CallPlanView };
 
     ghost view = { λ p. record { calls = p.calls; failing = p.failing.items } };
 }

@@ -17,9 +17,9 @@ pub struct MemProgram {
 }
 
 impl Model for MemProgram {
-    ghost use Rattle.outside.specs.Programs.{Program};
+    ghost use Rattle.outside.specs.Programs.{ProgramView};
 
-    ghost Value = { Program };
+    ghost Value = { ProgramView };
 
     ghost view = { λ p. record { grain = p.grain; need = p.need; chunks = p.chunks.items; ending = p.ending } };
 }

@@ -14,7 +14,7 @@ pub data Source : Type 0 where
   FromLoad : ℕ → Source
 
 -- what is asked for: where the script comes from, and how many schedulers and workers run it
-pub record Asked : Type 0 where
+pub record AskedRun : Type 0 where
   pub source : Source
   pub schedulers : ℕ
   pub workers : ℕ
@@ -32,33 +32,33 @@ abbrev pub is_count : ℕ → List ℕ → Bool
 is_count most word = is_number word && nat_le 1 (value_of word) && nat_le (value_of word) most
 
 -- nothing stands behind the words
-abbrev pub ended : Asked → List (List ℕ) → Result Asked ℕ
+abbrev pub ended : AskedRun → List (List ℕ) → Result AskedRun ℕ
 ended asked [] = Ok asked
 ended asked (word ∷ rest) = Err 5
 
 -- how many workers are asked for, 2 where nothing is said
-abbrev pub with_workers : Source → ℕ → List (List ℕ) → Result Asked ℕ
+abbrev pub with_workers : Source → ℕ → List (List ℕ) → Result AskedRun ℕ
 with_workers source schedulers [] = Ok (record { source = source; schedulers = schedulers; workers = 2 })
 with_workers source schedulers (word ∷ rest) =
     if is_count 8 word then ended (record { source = source; schedulers = schedulers; workers = value_of word }) rest else Err 4
 
 -- how many schedulers, 4 where nothing is said
-abbrev pub with_schedulers : Source → List (List ℕ) → Result Asked ℕ
+abbrev pub with_schedulers : Source → List (List ℕ) → Result AskedRun ℕ
 with_schedulers source [] = Ok (record { source = source; schedulers = 4; workers = 2 })
 with_schedulers source (word ∷ rest) = if is_count 16 word then with_workers source (value_of word) rest else Err 3
 
 -- which script
-abbrev pub with_script : List (List ℕ) → Result Asked ℕ
+abbrev pub with_script : List (List ℕ) → Result AskedRun ℕ
 with_script [] = Err 2
 with_script (word ∷ rest) = if is_word word then with_schedulers (FromFile word) rest else Err 2
 
 -- which load
-abbrev pub with_load_number : List (List ℕ) → Result Asked ℕ
+abbrev pub with_load_number : List (List ℕ) → Result AskedRun ℕ
 with_load_number [] = Err 2
 with_load_number (word ∷ rest) = if is_load_number word then with_schedulers (FromLoad (value_of word)) rest else Err 2
 
 -- What `run SCRIPT [SCHEDULERS [WORKERS]]` or `load NUMBER [SCHEDULERS [WORKERS]]` asks for, or the first word, from 1, at which no accepted list of words goes on
-abbrev pub asked : List (List ℕ) → Result Asked ℕ
+abbrev pub asked : List (List ℕ) → Result AskedRun ℕ
 asked [] = Err 1
 asked (word ∷ rest) = if bytes_eq word (codes "run") then with_script rest else (if bytes_eq word (codes "load") then with_load_number rest else Err 1)
 
@@ -68,9 +68,9 @@ source_of (File name) = FromFile name.now
 source_of (Load number) = FromLoad number
 
 -- what the words ask for that were read so
-abbrev pub asked_by : RunWords → Asked
+abbrev pub asked_by : RunWords → AskedRun
 asked_by words = record { source = source_of words.source; schedulers = words.schedulers; workers = words.workers }
 
-abbrev pub told : Result RunWords ℕ → Result Asked ℕ
+abbrev pub told : Result RunWords ℕ → Result AskedRun ℕ
 told (Ok words) = Ok (asked_by words)
 told (Err at) = Err at
