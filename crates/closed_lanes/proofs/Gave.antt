@@ -1,6 +1,6 @@
 -- The ends that were given back are all ends of the ports' lanes.
 use Rattle.std.proofs.Common.{◌<◌, ◌+◌, ℕ, List, length, get_or, sym, ◌∙◌, arith}
-use Rattle.driver_hosts.specs.port_body.Body.{BodyView}
+use Rattle.run_setting.specs.run_opening.driver_hosts.port_body.Body.{BodyView}
 use Rattle.closed_ports.specs.Closed.{ArePortsOfLanes}
 use Rattle.run_end.specs.Ran.{RanProcess}
 use Rattle.run_setting.specs.Setting.{Setting}

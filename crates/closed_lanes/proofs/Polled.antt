@@ -5,9 +5,9 @@ use Rattle.std.proofs.lemmas.Bool.{eq-eqb, le-ltb}
 use Rattle.std.proofs.lemmas.List.{get_or-map, length-map}
 use Rattle.port_lanes.specs.Keys.{Key, sender_at}
 use Rattle.port_model.specs.declared.signal.Sender.TheVariants.{Poller}
-use Rattle.driver_hosts.specs.port_body.Body.{BodyView, name_of}
-use Rattle.driver_hosts.specs.port_body.LanePort.{rows_from}
-use Rattle.driver_hosts.specs.declared.ending.EndedPort.{EndedPort}
+use Rattle.run_setting.specs.run_opening.driver_hosts.port_body.Body.{BodyView, name_of}
+use Rattle.run_setting.specs.run_opening.driver_hosts.port_body.LanePort.{rows_from}
+use Rattle.run_setting.specs.run_opening.driver_hosts.declared.ending.EndedPort.{EndedPort}
 use Rattle.closed_ports.specs.Closed.{AreClosed}
 use Rattle.closed_ports.specs.settled_ports.Ends.{LaneEnd}
 use Rattle.closed_ports.specs.settled_ports.Laws.{ends_at}

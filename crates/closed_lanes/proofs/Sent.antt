@@ -1,6 +1,6 @@
 -- What the processes of a run sent to its ports is what they gave back.
 use Rattle.std.proofs.Common.{◌<◌, List, length, get_or, sym, ap, ◌∙◌, arith}
-use Rattle.driver_hosts.specs.port_body.Body.{BodyView}
+use Rattle.run_setting.specs.run_opening.driver_hosts.port_body.Body.{BodyView}
 use Rattle.closed_ports.specs.Signals.{HaveSentTo}
 use Rattle.run_end.specs.Ran.{RanProcess}
 use Rattle.run_lanes.specs.Opened.{HasProcess}

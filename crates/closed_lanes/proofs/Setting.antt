@@ -1,7 +1,7 @@
 -- What the jobs of a run give back, by what they were set up with.
 use Rattle.std.proofs.Common.{◌≡◌, ◌<◌, ◌+◌, ℕ, List, length, map, get_or, sym, ap, ◌∙◌, subst, arith}
 use Rattle.std.proofs.lemmas.List.{get_or-map, length-map}
-use Rattle.driver_hosts.specs.port_body.Body.{BodyView, name_of}
+use Rattle.run_setting.specs.run_opening.driver_hosts.port_body.Body.{BodyView, name_of}
 use Rattle.run_end.specs.Ran.{RanProcess}
 use Rattle.run_end.proofs.Tells.{tells}
 use Rattle.run_lanes.specs.declared.parts.ProcessLanes.{ProcessLanes}

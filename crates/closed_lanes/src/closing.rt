@@ -1,6 +1,6 @@
 ghost use Rattle.std.specs.Prelude.{◌≡◌, ◌≢◌, ◌<◌, List, length, map, All, AllPairs, IfOk};
 ghost use Rattle.closed_ports.specs.Closed.{HaveComeBack};
-ghost use Rattle.driver_hosts.specs.port_body.Body.{name_of};
+ghost use Rattle.run_setting.specs.run_opening.driver_hosts.port_body.Body.{name_of};
 ghost use Rattle.run_end.specs.Ran.{RanProcess};
 ghost use Rattle.run_setting.specs.Setting.{Setting, IsSetting, AreNamedIn};
 ghost use Rattle.run_setting.specs.Jobs.{HaveRunIn};
@@ -12,7 +12,6 @@ use async_jobs::WorkItem;
 use closed_ports::{
     Body, Driver, Hosted, accepted_signals_have_rows, close_ports, closed_ports_are_lawful,
 };
-use driver_hosts::take_back;
 use no_memory::NoMemory;
 use port_config::Config;
 use port_lanes::Parcel;
@@ -20,6 +19,7 @@ use port_mail::Mailboxes;
 use port_model::Journal;
 use port_words::busy::PortSeat;
 use run_lanes::empty_lanes;
+use run_setting::take_back;
 use std::alloc::Global;
 use std::sync::Wait;
 use task_queue::SendEnd;

@@ -19,8 +19,8 @@ use Rattle.run_report.specs.declared.summary.Totals.{Totals}
 use Rattle.run_report.specs.Ports.{counts_of, opening_of as reported_opening}
 use Rattle.run_report.specs.Report.{load_head, load_line, summary_of, totals_of}
 use Rattle.run_report.proofs.Same.{same_counts}
-use Rattle.script_input.specs.declared.input.PortName.{PortName}
-use Rattle.script_input.specs.Names.{port_name}
+use Rattle.run_output.specs.script_input.declared.input.PortName.{PortName}
+use Rattle.run_output.specs.script_input.Names.{port_name}
 use Rattle.script_plan.specs.declared.step.Step.{Step}
 use Rattle.script_load.specs.Load.{commands_to, load_plan, port_with, ports, processes}
 use Rattle.run_output.specs.script_run.declared.running.PortLeft.{PortLeft}

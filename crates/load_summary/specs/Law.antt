@@ -3,15 +3,15 @@ use Rattle.std.specs.Prelude.{◌≡◌, ℕ, List, Option}
 use Rattle.driver_model.specs.Calls.{Kind, Own}
 use Rattle.driver_model.specs.Programs.{ToldProgram}
 use Rattle.port_driver.specs.declared.life.Life.{Life}
-use Rattle.script_input.specs.run_setting.run_opening.driver_hosts.declared.hosted.Hosted.{Hosted}
+use Rattle.run_output.specs.script_input.run_setting.run_opening.driver_hosts.declared.hosted.Hosted.{Hosted}
 use Rattle.run_output.specs.Reported.{report_of}
 use Rattle.run_output.specs.script_run.declared.running.ScriptRan.{ScriptRan}
 use Rattle.run_output.specs.script_run.Ran.{HasRun}
 use Rattle.run_report.specs.Report.{summary_of}
-use Rattle.script_input.specs.declared.input.RunNames.{RunNames}
-use Rattle.script_input.specs.run_setting.declared.RunScript.{RunScript}
-use Rattle.script_input.specs.Input.{IsRunOf}
-use Rattle.script_input.specs.Names.{AreNamesOf}
+use Rattle.run_output.specs.script_input.declared.input.RunNames.{RunNames}
+use Rattle.run_output.specs.script_input.run_setting.declared.RunScript.{RunScript}
+use Rattle.run_output.specs.script_input.Input.{IsRunOf}
+use Rattle.run_output.specs.script_input.Names.{AreNamesOf}
 use Rattle.script_load.specs.Load.{load_plan}
 use Rattle.load_summary.specs.Summary.{load_summary}
 

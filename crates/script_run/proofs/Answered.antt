@@ -23,9 +23,9 @@ use Rattle.run_jobs.specs.Rounds.{PollsTo, all_found, poller_of, tasks_of}
 use Rattle.run_jobs.specs.Telling.{PortTask, parcels_for}
 use Rattle.run_lanes.specs.declared.parts.PollerLanes.{PollerLanes}
 use Rattle.run_end.specs.Ran.{RanProcess}
-use Rattle.run_opening.specs.Opened.{limits_of}
-use Rattle.run_seats.specs.declared.plans.ProcessPlan.{ProcessPlan}
-use Rattle.run_setting.specs.Setting.{Setting, IsSetting}
+use Rattle.seated_script.specs.run_setting.run_opening.Opened.{limits_of}
+use Rattle.seated_script.specs.run_setting.run_seats.declared.plans.ProcessPlan.{ProcessPlan}
+use Rattle.seated_script.specs.run_setting.Setting.{Setting, IsSetting}
 use Rattle.script_plan.specs.declared.decl.PortDecl.{PortDecl}
 use Rattle.threaded_jobs.specs.declared.ended.EndedJobs.{EndedJobs}
 use Rattle.closed_lanes.specs.Closed.{tasks_sent}

@@ -9,15 +9,15 @@ use Rattle.run_lanes.specs.declared.parts.PollerLanes.{PollerLanes}
 use Rattle.run_lanes.specs.declared.parts.ProcessLanes.{ProcessLanes}
 use Rattle.run_lanes.specs.declared.parts.WorkerLanes.{WorkerLanes}
 use Rattle.run_lanes.specs.declared.parts.FinishEnds.{FinishEnds}
-use Rattle.run_seats.specs.declared.plans.ProcessPlan.{ProcessPlan}
-use Rattle.run_seats.specs.declared.plans.ProcessSteps.{ProcessSteps}
-use Rattle.run_seats.specs.Dealt.{proc_of}
-use Rattle.run_seats.specs.Plans.{IsPlanOf}
+use Rattle.seated_script.specs.run_setting.run_seats.declared.plans.ProcessPlan.{ProcessPlan}
+use Rattle.seated_script.specs.run_setting.run_seats.declared.plans.ProcessSteps.{ProcessSteps}
+use Rattle.seated_script.specs.run_setting.run_seats.Dealt.{proc_of}
+use Rattle.seated_script.specs.run_setting.run_seats.Plans.{IsPlanOf}
 use Rattle.threaded_jobs.specs.declared.ended.EndedJobs.{EndedJobs}
 use Rattle.threaded_jobs.specs.declared.parting.WorkerLeft.{WorkerLeft}
 use Rattle.process_end.specs.Views.{proc_view}
-use Rattle.run_setting.specs.Setting.{Setting}
-use Rattle.run_setting.specs.Jobs.{HasWorkedLane, HaveRunIn, IsSetUp}
+use Rattle.seated_script.specs.run_setting.Setting.{Setting}
+use Rattle.seated_script.specs.run_setting.Jobs.{HasWorkedLane, HaveRunIn, IsSetUp}
 use Rattle.closed_lanes.specs.declared.closing.LaneEnds.{LaneEnds}
 use Rattle.closed_mail.specs.declared.joining.ProcessPeers.{ProcessPeers}
 use Rattle.closed_mail.specs.Joined.{AreOfProcesses}

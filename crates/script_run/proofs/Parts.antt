@@ -4,7 +4,7 @@ use Rattle.port_model.specs.declared.mail.Mail.{Mail}
 use Rattle.process_end.specs.declared.answers.ProcEnd.{ProcEnd}
 use Rattle.process_job.specs.declared.job.EndedProcess.{EndedProcess}
 use Rattle.run_end.specs.Ran.{RanProcess}
-use Rattle.run_seats.specs.declared.plans.ProcessPlan.{ProcessPlan}
+use Rattle.seated_script.specs.run_setting.run_seats.declared.plans.ProcessPlan.{ProcessPlan}
 use Rattle.ended_jobs.specs.Ended.{ran_of}
 use Rattle.script_run.specs.Parted.{ran_processes}
 

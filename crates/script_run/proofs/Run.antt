@@ -9,9 +9,9 @@ use Rattle.port_sched.specs.declared.body.PortBody.{Ghosts}
 use Rattle.port_body.specs.Body.{BodyView, name_of}
 use Rattle.driver_hosts.specs.declared.hosted.Hosted.{Hosted}
 use Rattle.no_memory.specs.declared.NoMemory.{NoMemory as Wanting}
-use Rattle.run_setting.specs.declared.RunScript.{RunScript}
+use Rattle.seated_script.specs.run_setting.declared.RunScript.{RunScript}
 use Rattle.script_plan.specs.declared.decl.PortDecl.{PortDecl}
-use Rattle.run_setting.specs.Setting.{AreNamedIn}
+use Rattle.seated_script.specs.run_setting.Setting.{AreNamedIn}
 use Rattle.seated_script.specs.declared.seating.SeatedScript.{SeatedScript}
 use Rattle.seated_script.specs.Seated.{IsSeatedScript}
 use Rattle.ended_jobs.specs.Ended.{HaveEndedFor, StopComes}

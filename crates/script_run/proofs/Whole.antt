@@ -35,9 +35,9 @@ use Rattle.closed_lanes.specs.closed_ports.told_jobs.Told.{WorkersTell}
 use Rattle.script_plan.specs.declared.decl.PortDecl.{PortDecl}
 use Rattle.run_end.specs.Ran.{RanProcess, calls_made}
 use Rattle.run_lanes.specs.declared.parts.PortLanes.{PortLanes}
-use Rattle.run_opening.specs.Opened.{room_of}
-use Rattle.run_setting.specs.declared.RunScript.{RunScript}
-use Rattle.run_setting.specs.Setting.{Setting, IsNamedIn, all_limits}
+use Rattle.seated_script.specs.run_setting.run_opening.Opened.{room_of}
+use Rattle.seated_script.specs.run_setting.declared.RunScript.{RunScript}
+use Rattle.seated_script.specs.run_setting.Setting.{Setting, IsNamedIn, all_limits}
 use Rattle.seated_script.specs.declared.seating.SeatedScript.{SeatedScript}
 use Rattle.seated_script.specs.Seated.{IsSeatedScript}
 use Rattle.closed_lanes.specs.declared.closing.ClosedPort.{ClosedPort}
@@ -45,12 +45,12 @@ use Rattle.closed_lanes.specs.Closed.{IsClosedPort}
 use Rattle.run_end.specs.Shown.{Calls, HasCause, adds_of}
 use Rattle.port_words.specs.busy.Queue.{bytes_of, period_of}
 use Rattle.process_end.specs.Bounds.{queue_bound}
-use Rattle.run_seats.specs.declared.plans.ProcessSteps.{ProcessSteps}
+use Rattle.seated_script.specs.run_setting.run_seats.declared.plans.ProcessSteps.{ProcessSteps}
 use Rattle.process_end.specs.Views.{LaneEnd, ProcView}
 use Rattle.process_job.specs.Asks.{made_asks}
 use Rattle.port_model.specs.declared.mail.Mail.{Mail}
-use Rattle.run_setting.specs.Setting.{IsSetting}
-use Rattle.run_setting.specs.Jobs.{HaveRunIn}
+use Rattle.seated_script.specs.run_setting.Setting.{IsSetting}
+use Rattle.seated_script.specs.run_setting.Jobs.{HaveRunIn}
 use Rattle.script_run.specs.declared.running.PortLeft.{PortLeft}
 use Rattle.script_run.specs.declared.running.ProcessLeft.{ProcessLeft}
 use Rattle.script_run.specs.declared.running.ScriptRan.{ScriptRan}
@@ -69,7 +69,7 @@ use Rattle.process_job.specs.declared.job.EndedProcess.{EndedProcess}
 use Rattle.run_end.specs.Merge.{IsFromPort}
 use Rattle.run_end.specs.Tell.{AllCallsTell}
 use Rattle.run_end.specs.Waited.{AllWaitsAreShown}
-use Rattle.run_opening.specs.Opened.{soft_at}
+use Rattle.seated_script.specs.run_setting.run_opening.Opened.{soft_at}
 use Rattle.run_lanes.specs.declared.size.LaneSize.{LaneSize}
 use Rattle.run_lanes.specs.Keyed.{key_of}
 use Rattle.port_body.specs.recorded_port.View.{stat_marks}
@@ -82,7 +82,7 @@ use Rattle.port_history.specs.Mail.{mails}
 use Rattle.port_body.specs.LanePort.{rows_from}
 use Rattle.std.specs.Str.{bytes_eq}
 use Rattle.std.specs.Option.{option_map_or}
-use Rattle.run_opening.specs.Opened.{limits_of}
+use Rattle.seated_script.specs.run_setting.run_opening.Opened.{limits_of}
 use Rattle.closed_mail.specs.served_port.View.{end_name}
 use Rattle.script_run.specs.Parted.{port_left, ran_processes}
 use Rattle.script_run.proofs.Parts.{some}

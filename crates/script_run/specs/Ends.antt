@@ -7,9 +7,9 @@ use Rattle.script_plan.specs.declared.decl.PortDecl.{PortDecl}
 use Rattle.driver_hosts.specs.declared.hosted.Hosted.{Hosted}
 use Rattle.driver_hosts.specs.Back.{HaveServed}
 use Rattle.driver_hosts.specs.Finding.{Found}
-use Rattle.run_opening.specs.declared.opening.OpenFault.{OpenFault}
-use Rattle.run_opening.specs.declared.opening.OpenFault.TheVariants as opening
-use Rattle.run_opening.specs.Faults.{LacksAt, RefusedAt}
+use Rattle.seated_script.specs.run_setting.run_opening.declared.opening.OpenFault.{OpenFault}
+use Rattle.seated_script.specs.run_setting.run_opening.declared.opening.OpenFault.TheVariants as opening
+use Rattle.seated_script.specs.run_setting.run_opening.Faults.{LacksAt, RefusedAt}
 use Rattle.threaded_jobs.specs.declared.ended.Stop.{Stop}
 use Rattle.threaded_jobs.specs.declared.ended.Stop.TheVariants as stop
 use Rattle.script_run.specs.declared.running.RunFault.{RunFault}

@@ -6,8 +6,8 @@ use Rattle.port_model.specs.declared.mail.Mail.{Mail}
 use Rattle.port_body.specs.Body.{BodyName}
 use Rattle.driver_hosts.specs.declared.hosted.Hosted.{Hosted}
 use Rattle.run_end.specs.Ran.{RanProcess}
-use Rattle.run_seats.specs.declared.plans.ProcessPlan.{ProcessPlan}
-use Rattle.run_seats.specs.declared.seating.OtherLanes.{OtherLanes}
+use Rattle.seated_script.specs.run_setting.run_seats.declared.plans.ProcessPlan.{ProcessPlan}
+use Rattle.seated_script.specs.run_setting.run_seats.declared.seating.OtherLanes.{OtherLanes}
 use Rattle.threaded_jobs.specs.declared.ended.EndedJobs.{EndedJobs}
 use Rattle.closed_lanes.specs.declared.closing.ClosedPort.{ClosedPort}
 use Rattle.closed_lanes.specs.declared.closing.LaneEnds.{LaneEnds}
@@ -21,8 +21,8 @@ use Rattle.closed_mail.specs.Joined.{AreJoined, AreOfProcesses}
 use Rattle.process_receipts.specs.declared.receipt.Receipt.{Receipt}
 use Rattle.ended_jobs.specs.Ended.{HaveEndedFor}
 use Rattle.seated_script.specs.Seated.{AreDealt}
-use Rattle.run_setting.specs.Setting.{Setting, IsSetting, AreNamedIn}
-use Rattle.run_setting.specs.Jobs.{HaveRunIn}
+use Rattle.seated_script.specs.run_setting.Setting.{Setting, IsSetting, AreNamedIn}
+use Rattle.seated_script.specs.run_setting.Jobs.{HaveRunIn}
 use Rattle.script_run.specs.declared.parting.PartedPorts.{PartedPorts}
 use Rattle.script_run.specs.declared.parting.ProcessParts.{ProcessParts}
 use Rattle.script_run.specs.declared.running.ProcessLeft.{ProcessLeft}

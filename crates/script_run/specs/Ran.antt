@@ -27,12 +27,12 @@ use Rattle.driver_hosts.specs.Back.{HaveServed}
 use Rattle.driver_hosts.specs.Finding.{Found}
 use Rattle.run_end.specs.Merge.{IsFromPort}
 use Rattle.run_end.specs.Shown.{Calls, QueueWordsHold, WordsHold}
-use Rattle.run_opening.specs.Opened.{limits_of, soft_at}
-use Rattle.run_seats.specs.declared.plans.ProcessSteps.{ProcessSteps}
+use Rattle.seated_script.specs.run_setting.run_opening.Opened.{limits_of, soft_at}
+use Rattle.seated_script.specs.run_setting.run_seats.declared.plans.ProcessSteps.{ProcessSteps}
 use Rattle.script_plan.specs.declared.decl.PortDecl.{PortDecl}
 use Rattle.closed_lanes.specs.closed_ports.told_jobs.Told.{WorkersTell}
 use Rattle.suspended_calls.specs.Numbers.{listed_numbers, resumed_numbers, suspended_numbers}
-use Rattle.run_setting.specs.declared.RunScript.{RunScript}
+use Rattle.seated_script.specs.run_setting.declared.RunScript.{RunScript}
 use Rattle.script_run.specs.declared.running.PortLeft.{PortLeft}
 use Rattle.script_run.specs.declared.running.ProcessLeft.{ProcessLeft}
 use Rattle.script_run.specs.declared.running.ScriptRan.{ScriptRan}

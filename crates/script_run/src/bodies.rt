@@ -1,17 +1,16 @@
 //! The seated run of a script, with the bodies of its ports, is run to its end.
 ghost use Rattle.std.specs.Prelude.{◌≡◌, ◌≤◌, ℕ, [], List, length, map, IfOk, IfErr, vec_capacity};
 ghost use Rattle.port_body.specs.Body.{BodyView, name_of};
-ghost use Rattle.run_seats.specs.declared.plans.ProcessPlan.{ProcessPlan as Plan};
-ghost use Rattle.run_seats.specs.declared.seating.OtherLanes.{OtherLanes as Lanes};
-ghost use Rattle.run_seats.specs.Seated.{IsSeated};
+ghost use Rattle.seated_script.specs.run_setting.run_seats.declared.plans.ProcessPlan.{ProcessPlan as Plan};
+ghost use Rattle.seated_script.specs.run_setting.run_seats.declared.seating.OtherLanes.{OtherLanes as Lanes};
+ghost use Rattle.seated_script.specs.run_setting.run_seats.Seated.{IsSeated};
 ghost use Rattle.ended_jobs.specs.Ended.{HaveEndedFor, StopComes};
 
 use driver_hosts::Body;
 use ended_jobs::{RunOver, run_to_end};
 use outside::{Gate, PollSet};
 use process_job::EndedProcess;
-use run_opening::Driver;
-use run_seats::SeatedRun;
+use seated_script::{Driver, SeatedRun};
 use std::sync::Wait;
 use std::thread::Threads;
 

@@ -3,8 +3,8 @@ ghost use Rattle.std.specs.Prelude.{◌≡◌, ◌≢◌, ◌<◌, List, length,
 ghost use Rattle.closed_lanes.specs.closed_ports.Closed.{HaveComeBack};
 ghost use Rattle.port_body.specs.Body.{BodyName, name_of};
 ghost use Rattle.run_end.specs.Ran.{RanProcess};
-ghost use Rattle.run_seats.specs.declared.plans.ProcessPlan.{ProcessPlan as Plan};
-ghost use Rattle.run_setting.specs.Setting.{Setting};
+ghost use Rattle.seated_script.specs.run_setting.run_seats.declared.plans.ProcessPlan.{ProcessPlan as Plan};
+ghost use Rattle.seated_script.specs.run_setting.Setting.{Setting};
 ghost use Rattle.script_run.specs.Left.{AreJobParts, CanGather, HasEndedIn, HaveJobParts, IsGathered, IsLeft};
 ghost use Rattle.script_run.specs.Parted.{ran_processes};
 
@@ -20,7 +20,7 @@ use port_lanes::Parcel;
 use process_job::EndedProcess;
 use process_receipts::Receipts;
 use run_jobs::Watch;
-use run_opening::{Driver, Hosted};
+use seated_script::{Driver, Hosted};
 use std::alloc::Global;
 use std::sync::Wait;
 use task_queue::SendEnd;

@@ -6,7 +6,5 @@ mod closing;
 mod parting;
 mod running;
 
-pub use run_opening::{Driver, Hosted, StartRefusal};
-pub use run_seats::ProcessSteps;
-pub use run_setting::RunScript;
 pub use running::{PortLeft, ProcessLeft, RunEnd, RunFault, ScriptRan, run_script};
+pub use seated_script::{Driver, Hosted, ProcessSteps, RunScript, StartRefusal};

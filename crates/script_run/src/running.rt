@@ -2,7 +2,7 @@ ghost use Rattle.std.specs.Prelude.{◌≡◌, All, Ok, IfOk, IfErr, MatchResult
 ghost use Rattle.std.specs.Option.{option_map};
 ghost use Rattle.driver_hosts.specs.Back.{AllCameBack};
 ghost use Rattle.driver_hosts.specs.Hosts.{IsUnused};
-ghost use Rattle.run_setting.specs.Script.{IsRunnable};
+ghost use Rattle.seated_script.specs.run_setting.Script.{IsRunnable};
 ghost use Rattle.script_run.specs.declared.running.RunFault.TheVariants as fault;
 ghost use Rattle.script_run.specs.Ends.{IsNotRun, PollIsBack, stopped, unopened};
 ghost use Rattle.script_run.specs.Ran.{HasRun};
@@ -18,9 +18,9 @@ use port_lanes::each_sender_has_an_end;
 use port_model::{Journal, Mail};
 use process_receipts::Receipts;
 use run_end::{calls_tell, waits_are_shown};
-use run_opening::{Driver, Hosted, OpenFault, StartRefusal};
-use run_setting::RunScript;
-use seated_script::{SeatedScript, Unseated, seat_script};
+use seated_script::{
+    Driver, Hosted, OpenFault, RunScript, SeatedScript, StartRefusal, Unseated, seat_script,
+};
 use std::alloc::Global;
 use std::sync::Wait;
 use std::thread::Threads;

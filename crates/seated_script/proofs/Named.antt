@@ -2,12 +2,12 @@
 use Rattle.std.proofs.Common.{◌≡◌, ◌<◌, ℕ, None, List, length, map, ap, sym, subst, ◌∙◌, get_or, refl, slice_index}
 use Rattle.std.proofs.lemmas.List.{get_or-map, length-map}
 use Rattle.driver_model.specs.Calls.{Kind}
-use Rattle.driver_hosts.specs.port_body.Body.{BodyView, name_of}
-use Rattle.driver_hosts.specs.declared.hosted.Hosted.{Hosted}
-use Rattle.driver_hosts.specs.declared.room.PortRoom.{PortRoom}
-use Rattle.driver_hosts.specs.Opening.{AreOpened, HasOpened}
-use Rattle.run_opening.specs.declared.opening.OpenPorts.{OpenPorts}
-use Rattle.run_opening.specs.Opened.{HaveOpened, room_of, soft_of}
+use Rattle.run_setting.specs.run_opening.driver_hosts.port_body.Body.{BodyView, name_of}
+use Rattle.run_setting.specs.run_opening.driver_hosts.declared.hosted.Hosted.{Hosted}
+use Rattle.run_setting.specs.run_opening.driver_hosts.declared.room.PortRoom.{PortRoom}
+use Rattle.run_setting.specs.run_opening.driver_hosts.Opening.{AreOpened, HasOpened}
+use Rattle.run_setting.specs.run_opening.declared.opening.OpenPorts.{OpenPorts}
+use Rattle.run_setting.specs.run_opening.Opened.{HaveOpened, room_of, soft_of}
 use Rattle.run_setting.specs.declared.RunScript.{RunScript}
 use Rattle.run_setting.specs.Script.{IsRunnable, size_of}
 use Rattle.run_setting.specs.Setting.{Setting, IsSetting, AreNamedIn}

@@ -2,13 +2,13 @@
 use Rattle.std.specs.Prelude.{◌≡◌, ℕ, List, All, length}
 use Rattle.port_sched.specs.declared.body.PortBody.{Ghosts}
 use Rattle.process_job.specs.Jobs.{AreWithin}
-use Rattle.run_opening.specs.declared.opening.JobLanes.{JobLanes}
-use Rattle.run_opening.specs.Opened.{IsPartOf}
-use Rattle.run_seats.specs.declared.plans.ProcessPlan.{ProcessPlan}
-use Rattle.run_seats.specs.declared.seating.OtherLanes.{OtherLanes}
-use Rattle.run_seats.specs.declared.seating.SeatedRun.{SeatedRun}
-use Rattle.run_seats.specs.Plans.{ArePlansOf}
-use Rattle.run_seats.specs.Seated.{IsSeated}
+use Rattle.run_setting.specs.run_opening.declared.opening.JobLanes.{JobLanes}
+use Rattle.run_setting.specs.run_opening.Opened.{IsPartOf}
+use Rattle.run_setting.specs.run_seats.declared.plans.ProcessPlan.{ProcessPlan}
+use Rattle.run_setting.specs.run_seats.declared.seating.OtherLanes.{OtherLanes}
+use Rattle.run_setting.specs.run_seats.declared.seating.SeatedRun.{SeatedRun}
+use Rattle.run_setting.specs.run_seats.Plans.{ArePlansOf}
+use Rattle.run_setting.specs.run_seats.Seated.{IsSeated}
 use Rattle.run_setting.specs.Setting.{Setting, IsSetting}
 use Rattle.seated_script.specs.declared.dealing.JobParts.{JobParts}
 

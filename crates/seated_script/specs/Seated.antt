@@ -1,16 +1,16 @@
 -- A run of a script that can begin.
 use Rattle.std.specs.Prelude.{◌≡◌, ◌≤◌, ℕ, List, [], length, map, vec_capacity}
 use Rattle.driver_model.specs.Calls.{Kind}
-use Rattle.driver_hosts.specs.port_body.Body.{BodyView, name_of}
+use Rattle.run_setting.specs.run_opening.driver_hosts.port_body.Body.{BodyView, name_of}
 use Rattle.port_sched.specs.declared.body.PortBody.{Ghosts}
-use Rattle.driver_hosts.specs.declared.hosted.Hosted.{Hosted}
-use Rattle.driver_hosts.specs.Finding.{Found}
-use Rattle.driver_hosts.specs.Opening.{AreOpened}
-use Rattle.run_opening.specs.Opened.{room_of, soft_at}
-use Rattle.run_seats.specs.declared.plans.ProcessPlan.{ProcessPlan}
-use Rattle.run_seats.specs.declared.seating.OtherLanes.{OtherLanes}
-use Rattle.run_seats.specs.Plans.{ArePlansOf}
-use Rattle.run_seats.specs.Seated.{IsSeated}
+use Rattle.run_setting.specs.run_opening.driver_hosts.declared.hosted.Hosted.{Hosted}
+use Rattle.run_setting.specs.run_opening.driver_hosts.Finding.{Found}
+use Rattle.run_setting.specs.run_opening.driver_hosts.Opening.{AreOpened}
+use Rattle.run_setting.specs.run_opening.Opened.{room_of, soft_at}
+use Rattle.run_setting.specs.run_seats.declared.plans.ProcessPlan.{ProcessPlan}
+use Rattle.run_setting.specs.run_seats.declared.seating.OtherLanes.{OtherLanes}
+use Rattle.run_setting.specs.run_seats.Plans.{ArePlansOf}
+use Rattle.run_setting.specs.run_seats.Seated.{IsSeated}
 use Rattle.run_setting.specs.declared.RunScript.{RunScript}
 use Rattle.run_setting.specs.Script.{size_of}
 use Rattle.run_setting.specs.Setting.{Setting, IsSetting, AreNamedIn}

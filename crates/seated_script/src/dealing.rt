@@ -2,11 +2,11 @@
 ghost use Rattle.std.specs.Prelude.{◌≡◌, ◌<◌, ◌≤◌, length, IfOk, IfErr};
 ghost use Rattle.seated_script.specs.Parts.{AreParts, IsRunOf};
 
-use driver_hosts::{Body, Driver};
 use outside::PollSet;
 use port_lanes::each_sender_has_an_end;
-use run_opening::JobLanes;
-use run_seats::{OtherLanes, ProcessSteps, SeatedRun, process_plans, seat_run};
+use run_setting::{
+    Body, Driver, JobLanes, OtherLanes, ProcessSteps, SeatedRun, process_plans, seat_run,
+};
 use std::alloc::Global;
 
 /// What the jobs of a run are made of: of each port whether its driver takes forced commands while the port is busy, the lanes, and the steps of each process.

@@ -5,6 +5,7 @@ mod dealing;
 mod ending;
 mod seating;
 
-pub use run_opening::{Driver, Hosted, OpenFault};
-pub use run_setting::RunScript;
+pub use run_setting::{
+    Driver, Hosted, OpenFault, ProcessSteps, RunScript, SeatedRun, StartRefusal,
+};
 pub use seating::{SeatedScript, Unseated, seat_script};

@@ -1,20 +1,19 @@
 ghost use Rattle.std.specs.Prelude.{◌≡◌, ◌≢◌, All, Some, IfOk, IfErr};
-ghost use Rattle.driver_hosts.specs.Back.{AllCameBack};
-ghost use Rattle.driver_hosts.specs.Hosts.{IsUnused};
-ghost use Rattle.run_opening.specs.declared.opening.OpenFault.TheVariants as fault;
-ghost use Rattle.run_opening.specs.Faults.{AreNotOpened};
+ghost use Rattle.run_setting.specs.run_opening.driver_hosts.Back.{AllCameBack};
+ghost use Rattle.run_setting.specs.run_opening.driver_hosts.Hosts.{IsUnused};
+ghost use Rattle.run_setting.specs.run_opening.declared.opening.OpenFault.TheVariants as fault;
+ghost use Rattle.run_setting.specs.run_opening.Faults.{AreNotOpened};
 ghost use Rattle.run_setting.specs.Script.{IsRunnable, size_of};
 ghost use Rattle.seated_script.specs.Seated.{IsSeatedScript};
 
 use crate::dealing::{JobParts, seat_bodies};
 use crate::ending::end_opened;
-use driver_hosts::Body;
 use outside::PollSet;
 use port_sched::PortBody;
 use process_job::EndedProcess;
-use run_opening::{Driver, Hosted, LaneSize, OpenFault, OpenPorts, open_ports_of};
-use run_seats::SeatedRun;
-use run_setting::RunScript;
+use run_setting::{
+    Body, Driver, Hosted, LaneSize, OpenFault, OpenPorts, RunScript, SeatedRun, open_ports_of,
+};
 use std::alloc::Global;
 use std::sync::Wait;
 
