@@ -13,7 +13,7 @@ use Rattle.closed_ports.specs.settled_ports.Ends.{LaneEnd}
 use Rattle.closed_ports.specs.settled_ports.Laws.{ends_at}
 use Rattle.run_end.specs.Ran.{RanProcess}
 use Rattle.run_setting.specs.Setting.{Setting}
-use Rattle.threaded_jobs.specs.declared.parting.WorkerLeft.{WorkerLeft}
+use Rattle.run_setting.specs.run_seats.threaded_jobs.declared.parting.WorkerLeft.{WorkerLeft}
 use Rattle.closed_lanes.specs.Closed.{tasks_sent}
 use Rattle.closed_lanes.specs.declared.closing.LaneEnds.{LaneEnds}
 use Rattle.closed_lanes.proofs.Lists.{at-middle, long, some-of}

@@ -10,7 +10,7 @@ use Rattle.run_lanes.specs.Opened.{HasProcess, HasWorker}
 use Rattle.run_setting.specs.Setting.{Setting, IsSetting, AreNamedIn}
 use Rattle.run_setting.specs.Jobs.{HaveRunIn, HasWorkedLane}
 use Rattle.closed_ports.specs.settled_ports.Ends.{LaneEnd}
-use Rattle.threaded_jobs.specs.declared.parting.WorkerLeft.{WorkerLeft}
+use Rattle.run_setting.specs.run_seats.threaded_jobs.declared.parting.WorkerLeft.{WorkerLeft}
 use Rattle.closed_lanes.specs.Closed.{GiveBack}
 use Rattle.closed_lanes.specs.Parts.{all_columns}
 use Rattle.closed_lanes.specs.declared.closing.LaneEnds.{LaneEnds}

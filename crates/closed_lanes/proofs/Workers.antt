@@ -11,8 +11,8 @@ use Rattle.closed_ports.specs.Closed.{AreClosed}
 use Rattle.closed_ports.specs.Jobs.{HaveWorkedFor, IsNumbered}
 use Rattle.run_setting.specs.run_opening.driver_hosts.declared.ending.EndedPort.{EndedPort}
 use Rattle.run_end.specs.Ran.{RanProcess}
-use Rattle.threaded_jobs.specs.run_jobs.declared.worker.WorkerEnd.TheVariants.{Finished}
-use Rattle.threaded_jobs.specs.run_jobs.Finishing.{SendsOne}
+use Rattle.run_setting.specs.run_seats.threaded_jobs.run_jobs.declared.worker.WorkerEnd.TheVariants.{Finished}
+use Rattle.run_setting.specs.run_seats.threaded_jobs.run_jobs.Finishing.{SendsOne}
 use Rattle.run_lanes.specs.declared.parts.WorkerLanes.{WorkerLanes}
 use Rattle.run_lanes.specs.Ends.{AreLaneRows, AreOfLanes, HaveEmptied, made_by, new_end}
 use Rattle.run_lanes.specs.Opened.{HasWorker}
@@ -20,7 +20,7 @@ use Rattle.run_setting.specs.Setting.{Setting}
 use Rattle.run_setting.specs.run_opening.driver_hosts.served_port.View.{EndName, end_name, end_names}
 use Rattle.closed_ports.specs.settled_ports.Ends.{LaneEnd}
 use Rattle.task_queue.specs.Ends.{ended_of}
-use Rattle.threaded_jobs.specs.declared.parting.WorkerLeft.{WorkerLeft}
+use Rattle.run_setting.specs.run_seats.threaded_jobs.declared.parting.WorkerLeft.{WorkerLeft}
 use Rattle.closed_ports.specs.told_jobs.Runs.{HasSettled, WorkerRun}
 use Rattle.closed_lanes.specs.declared.closing.LaneEnds.{LaneEnds}
 use Rattle.closed_lanes.proofs.Lists.{Chosen, at-back, choose, some-of}

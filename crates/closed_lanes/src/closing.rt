@@ -19,11 +19,10 @@ use port_mail::Mailboxes;
 use port_model::Journal;
 use port_words::busy::PortSeat;
 use run_lanes::empty_lanes;
-use run_setting::take_back;
+use run_setting::{WorkerLeft, take_back};
 use std::alloc::Global;
 use std::sync::Wait;
 use task_queue::SendEnd;
-use threaded_jobs::WorkerLeft;
 
 /// What the jobs of a run give back of its lanes. Each of the processes, the poller and the workers has an end of the lane of each port, in the order of ports; `finish` are the last ends of the
 /// workers' lanes. Processes and workers stand by their numbers, from 0.

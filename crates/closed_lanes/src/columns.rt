@@ -5,9 +5,9 @@ ghost use Rattle.closed_lanes.specs.Parts.{all_columns};
 use async_jobs::WorkItem;
 use no_memory::NoMemory;
 use port_lanes::Parcel;
+use run_setting::WorkerLeft;
 use std::alloc::Global;
 use task_queue::{SendEnd, TakeEnd};
-use threaded_jobs::WorkerLeft;
 
 /// What each sender gives back of the ports' lanes, the processes first, then the poller, then the workers; and the lanes of the workers.
 pub(crate) fn columns_of(

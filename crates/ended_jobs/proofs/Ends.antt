@@ -2,18 +2,18 @@
 use Rattle.std.proofs.Common.{◌≡◌, ℕ, List, Some, Result, Ok, Err, IfErr, length, map, sym, ap, ◌∙◌, subst}
 use Rattle.std.specs.List.{All}
 use Rattle.port_sched.specs.declared.body.PortBody.{Ghosts}
-use Rattle.process_job.specs.declared.job.ProcessEnd.TheVariants.{Ended}
+use Rattle.run_seats.specs.process_job.declared.job.ProcessEnd.TheVariants.{Ended}
 use Rattle.run_seats.specs.declared.plans.ProcessPlan.{ProcessPlan}
 use Rattle.run_seats.specs.declared.seating.OtherLanes.{OtherLanes}
 use Rattle.run_seats.specs.Seated.{AreDealtJobs}
 use Rattle.run_seats.proofs.Whole.{names-in}
-use Rattle.threaded_jobs.specs.declared.ended.EndedJobs.{EndedJobs}
-use Rattle.threaded_jobs.specs.declared.ended.Stop.{Stop}
-use Rattle.threaded_jobs.specs.declared.jobs.RunJobs.{RunJobs}
-use Rattle.threaded_jobs.specs.declared.parting.RunEnds.{RunEnds}
-use Rattle.threaded_jobs.specs.Ended.{HasFinished, HaveAllEnded, IsStopOf}
-use Rattle.threaded_jobs.specs.Jobs.{CanAllGo, HaveRun}
-use Rattle.threaded_jobs.specs.Parts.{AreEndsOf, worker_left}
+use Rattle.run_seats.specs.threaded_jobs.declared.ended.EndedJobs.{EndedJobs}
+use Rattle.run_seats.specs.threaded_jobs.declared.ended.Stop.{Stop}
+use Rattle.run_seats.specs.threaded_jobs.declared.jobs.RunJobs.{RunJobs}
+use Rattle.run_seats.specs.threaded_jobs.declared.parting.RunEnds.{RunEnds}
+use Rattle.run_seats.specs.threaded_jobs.Ended.{HasFinished, HaveAllEnded, IsStopOf}
+use Rattle.run_seats.specs.threaded_jobs.Jobs.{CanAllGo, HaveRun}
+use Rattle.run_seats.specs.threaded_jobs.Parts.{AreEndsOf, worker_left}
 use Rattle.ended_jobs.specs.Ended.{HaveEndedFor, StopComes}
 use Rattle.ended_jobs.proofs.Jobs.{processes_whole, workers_worked}
 use Rattle.ended_jobs.proofs.Places.{same_many}

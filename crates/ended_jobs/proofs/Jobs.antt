@@ -4,12 +4,12 @@ use Rattle.std.specs.List.{All}
 use Rattle.std.proofs.lemmas.Option.{same_Some}
 use Rattle.port_sched.specs.declared.body.PortBody.{Ghosts}
 use Rattle.port_sched.specs.Jobs.{WentEach}
-use Rattle.process_job.specs.declared.job.EndedProcess.{EndedProcess}
-use Rattle.process_job.specs.declared.job.ProcessEnd.TheVariants.{Ended}
-use Rattle.process_job.specs.declared.job.ProcessJob.{ProcessJob}
-use Rattle.process_job.specs.declared.job.ProcessWork.{ProcessWork}
-use Rattle.process_job.specs.Jobs.{CanMakeSteps, CanRun, EndsAs, HasRun, IsFreshProcess, IsWorkOf}
-use Rattle.process_job.specs.Steps.{HasRunToEnd}
+use Rattle.run_seats.specs.process_job.declared.job.EndedProcess.{EndedProcess}
+use Rattle.run_seats.specs.process_job.declared.job.ProcessEnd.TheVariants.{Ended}
+use Rattle.run_seats.specs.process_job.declared.job.ProcessJob.{ProcessJob}
+use Rattle.run_seats.specs.process_job.declared.job.ProcessWork.{ProcessWork}
+use Rattle.run_seats.specs.process_job.Jobs.{CanMakeSteps, CanRun, EndsAs, HasRun, IsFreshProcess, IsWorkOf}
+use Rattle.run_seats.specs.process_job.Steps.{HasRunToEnd}
 use Rattle.run_setting.specs.run_end.Ran.{HasRunWhole}
 use Rattle.run_seats.specs.run_jobs.declared.worker.WorkerEnd.TheVariants.{Finished}
 use Rattle.run_seats.specs.run_jobs.declared.worker.WorkerJob.{WorkerJob}
@@ -19,9 +19,9 @@ use Rattle.run_seats.specs.declared.plans.ProcessPlan.{ProcessPlan}
 use Rattle.run_seats.specs.Dealt.{AreDealtProcesses, AreDealtWorkers, IsDealtProcess, IsDealtWorker, proc_of}
 use Rattle.run_seats.proofs.Whole.{was-of}
 use Rattle.run_setting.specs.Jobs.{HasWorkedLane}
-use Rattle.threaded_jobs.specs.declared.parting.WorkerLeft.{WorkerLeft}
-use Rattle.threaded_jobs.specs.Ended.{HasFinished}
-use Rattle.threaded_jobs.specs.Parts.{worker_left}
+use Rattle.run_seats.specs.threaded_jobs.declared.parting.WorkerLeft.{WorkerLeft}
+use Rattle.run_seats.specs.threaded_jobs.Ended.{HasFinished}
+use Rattle.run_seats.specs.threaded_jobs.Parts.{worker_left}
 use Rattle.ended_jobs.specs.Ended.{ran_of}
 use Rattle.ended_jobs.proofs.Places.{mapped_at, one_of, same_many}
 

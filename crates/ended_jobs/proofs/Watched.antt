@@ -13,12 +13,12 @@ use Rattle.run_seats.specs.run_jobs.Rounds.{HasPolled, PollsTo, poller_of}
 use Rattle.run_seats.specs.run_lanes.declared.parts.FinishEnds.{FinishEnds}
 use Rattle.run_seats.specs.run_lanes.declared.parts.PollerLanes.{PollerLanes}
 use Rattle.run_seats.specs.Seated.{IsDealtFinish, IsDealtPoller}
-use Rattle.threaded_jobs.specs.declared.ended.Stop.{Stop}
-use Rattle.threaded_jobs.specs.declared.ended.Stop.TheVariants.{PollFault, NoMemory}
-use Rattle.threaded_jobs.specs.declared.parting.FinishLeft.{FinishLeft}
-use Rattle.threaded_jobs.specs.declared.parting.PollerLeft.{PollerLeft}
-use Rattle.threaded_jobs.specs.Ended.{IsStopBy}
-use Rattle.threaded_jobs.specs.Parts.{finish_left, poller_left}
+use Rattle.run_seats.specs.threaded_jobs.declared.ended.Stop.{Stop}
+use Rattle.run_seats.specs.threaded_jobs.declared.ended.Stop.TheVariants.{PollFault, NoMemory}
+use Rattle.run_seats.specs.threaded_jobs.declared.parting.FinishLeft.{FinishLeft}
+use Rattle.run_seats.specs.threaded_jobs.declared.parting.PollerLeft.{PollerLeft}
+use Rattle.run_seats.specs.threaded_jobs.Ended.{IsStopBy}
+use Rattle.run_seats.specs.threaded_jobs.Parts.{finish_left, poller_left}
 use Rattle.ended_jobs.specs.Ended.{HasPolledLanes, HasToldAll, StopComes}
 use Rattle.ended_jobs.proofs.Faults.{fault_raises, finish_keeps}
 

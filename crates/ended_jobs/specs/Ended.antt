@@ -10,13 +10,13 @@ use Rattle.ready_select.specs.declared.ask.PollAsk.TheVariants as ask
 use Rattle.run_seats.specs.run_lanes.declared.parts.FinishEnds.{FinishEnds}
 use Rattle.run_seats.specs.run_lanes.declared.parts.PollerLanes.{PollerLanes}
 use Rattle.run_seats.specs.run_lanes.declared.parts.WorkerLanes.{WorkerLanes}
-use Rattle.process_job.specs.declared.job.EndedProcess.{EndedProcess}
-use Rattle.threaded_jobs.specs.declared.ended.EndedJobs.{EndedJobs}
-use Rattle.threaded_jobs.specs.declared.ended.Stop.{Stop}
-use Rattle.threaded_jobs.specs.declared.ended.Stop.TheVariants.{PollFault, NoMemory}
-use Rattle.threaded_jobs.specs.declared.parting.FinishLeft.{FinishLeft}
-use Rattle.threaded_jobs.specs.declared.parting.PollerLeft.{PollerLeft}
-use Rattle.threaded_jobs.specs.declared.parting.WorkerLeft.{WorkerLeft}
+use Rattle.run_seats.specs.process_job.declared.job.EndedProcess.{EndedProcess}
+use Rattle.run_seats.specs.threaded_jobs.declared.ended.EndedJobs.{EndedJobs}
+use Rattle.run_seats.specs.threaded_jobs.declared.ended.Stop.{Stop}
+use Rattle.run_seats.specs.threaded_jobs.declared.ended.Stop.TheVariants.{PollFault, NoMemory}
+use Rattle.run_seats.specs.threaded_jobs.declared.parting.FinishLeft.{FinishLeft}
+use Rattle.run_seats.specs.threaded_jobs.declared.parting.PollerLeft.{PollerLeft}
+use Rattle.run_seats.specs.threaded_jobs.declared.parting.WorkerLeft.{WorkerLeft}
 use Rattle.run_seats.specs.declared.plans.ProcessPlan.{ProcessPlan}
 use Rattle.run_seats.specs.declared.seating.OtherLanes.{OtherLanes}
 use Rattle.run_seats.specs.Dealt.{proc_of}

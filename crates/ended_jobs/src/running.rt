@@ -6,11 +6,9 @@ ghost use Rattle.ended_jobs.specs.Ended.{HaveEndedFor, StopComes};
 
 use outside::{Gate, PollSet};
 use port_sched::PortBody;
-use process_job::EndedProcess;
-use run_seats::{RunLeft, SeatedRun, run_seated};
+use run_seats::{EndedJobs, EndedProcess, RunLeft, SeatedRun, Stop, run_seated};
 use std::sync::Wait;
 use std::thread::Threads;
-use threaded_jobs::{EndedJobs, Stop};
 
 /// What a run leaves that is over: its bodies, in the order of ports, and what is left of its jobs, or why somebody stopped it, and the poll set.
 #[derive(Drop)]

@@ -2,9 +2,9 @@
 use Rattle.std.proofs.Common.{◌≡◌, ℕ, ◌+◌, Bool, true, false, List, [], ◌∷◌, ◌++◌, Option, IfSome, refl, sym, ap, ◌∙◌, subst, arith}
 use Rattle.std.proofs.lemmas.List.{append-nil}
 use Rattle.port_config.specs.declared.config.Config.{Config}
-use Rattle.port_model.specs.port_signal.declared.outside.Outside.{Outside}
-use Rattle.port_model.specs.declared.effect.Effect.{Effect}
-use Rattle.port_model.specs.declared.effect.Effect.TheVariants.{Message, Eof, Status, Busy, Select, Unuse, Async, Watch, Reply, ReplyBadarg, Fail}
+use Rattle.driver_model.specs.port_model.port_signal.declared.outside.Outside.{Outside}
+use Rattle.driver_model.specs.port_model.declared.effect.Effect.{Effect}
+use Rattle.driver_model.specs.port_model.declared.effect.Effect.TheVariants.{Message, Eof, Status, Busy, Select, Unuse, Async, Watch, Reply, ReplyBadarg, Fail}
 use Rattle.driver_model.specs.Calls.{Callback, DriverCall, call_of, Own, Kind}
 use Rattle.driver_model.specs.Drivers.{holds, job_count, jobs_by, held_events, held_by, effects_of, is_answered}
 use Rattle.driver_model.specs.Programs.{ToldProgram, Tells}

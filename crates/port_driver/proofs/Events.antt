@@ -1,8 +1,8 @@
 -- The events that a driver holds, whatever their order.
 use Rattle.std.proofs.Common.{◌≡◌, ℕ, ◌==◌, Bool, true, false, ◌||◌, List, [], ◌∷◌, ◌++◌, length-append, refl, sym, ap, ◌∙◌, arith}
 use Rattle.std.proofs.lemmas.List.Folds.{list_any-append}
-use Rattle.port_model.specs.declared.effect.Effect.{Effect}
-use Rattle.port_model.specs.declared.effect.Effect.TheVariants.{Message, Eof, Status, Busy, Select, Unuse, Async, Watch, Reply, ReplyBadarg, Fail}
+use Rattle.driver_model.specs.port_model.declared.effect.Effect.{Effect}
+use Rattle.driver_model.specs.port_model.declared.effect.Effect.TheVariants.{Message, Eof, Status, Busy, Select, Unuse, Async, Watch, Reply, ReplyBadarg, Fail}
 use Rattle.driver_model.specs.Drivers.{is_held, with_event, held_by}
 use Rattle.port_driver.specs.Context.{SameEvents}
 

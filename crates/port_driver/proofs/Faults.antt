@@ -1,9 +1,9 @@
 -- How counts of faults rise, one step after another.
 use Rattle.std.proofs.Common.{◌≡◌, ◌≤◌, ◌+◌, ◌-◌, ◌^◌, ℕ, List, [], ◌∷◌, ◌++◌, zero-add, sym, ap, ◌∙◌, arith}
-use Rattle.port_model.specs.port_signal.declared.outside.Outside.{Outside}
-use Rattle.port_model.specs.port_signal.declared.outside.Outside.TheVariants.{Failed}
-use Rattle.port_model.specs.declared.row.Row.{Row}
-use Rattle.port_model.specs.declared.row.Row.TheVariants.{Handled}
+use Rattle.driver_model.specs.port_model.port_signal.declared.outside.Outside.{Outside}
+use Rattle.driver_model.specs.port_model.port_signal.declared.outside.Outside.TheVariants.{Failed}
+use Rattle.driver_model.specs.port_model.declared.row.Row.{Row}
+use Rattle.driver_model.specs.port_model.declared.row.Row.TheVariants.{Handled}
 use Rattle.port_driver.specs.Faults.{failures, failures_in, RisenBy, CountsFailures}
 
 pub failures-append : (a b : List Outside) → failures (a ++ b) ≡ failures a + failures b

@@ -1,7 +1,7 @@
 -- What a callback of a driver is handed.
 use Rattle.std.specs.Prelude.{◌≡◌, ℕ, List, Bool, true, [], ◌∷◌, ◌++◌, ◌&&◌, not, nat_le, length}
-use Rattle.port_model.specs.port_signal.declared.outside.Outside.{Outside}
-use Rattle.port_model.specs.declared.effect.Effect.{Effect}
+use Rattle.driver_model.specs.port_model.port_signal.declared.outside.Outside.{Outside}
+use Rattle.driver_model.specs.port_model.declared.effect.Effect.{Effect}
 use Rattle.driver_model.specs.Drivers.{is_held}
 use Rattle.port_driver.specs.declared.context.SelectFault.{SelectFault}
 use Rattle.port_driver.specs.declared.context.SelectFault.TheVariants.{Full, NoMemory}

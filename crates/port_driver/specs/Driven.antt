@@ -1,8 +1,8 @@
 -- What a callback leaves: the same for every list of earlier calls that led to what the driver held.
 use Rattle.std.specs.Prelude.{◌≡◌, ◌≤◌, ◌+◌, ℕ, List, [], ◌∷◌, ◌++◌, length, true, Option, IfSome}
-use Rattle.port_model.specs.port_signal.declared.outside.Outside.{Outside}
+use Rattle.driver_model.specs.port_model.port_signal.declared.outside.Outside.{Outside}
 use Rattle.port_config.specs.declared.config.Config.{Config}
-use Rattle.port_model.specs.declared.effect.Effect.{Effect}
+use Rattle.driver_model.specs.port_model.declared.effect.Effect.{Effect}
 use Rattle.driver_model.specs.Calls.{Callback, Stop, DriverCall, call_of, Own, Held, Kind}
 use Rattle.driver_model.specs.Drivers.{holds, job_count, held_events, effects_of, is_answered, start_of}
 use Rattle.driver_model.specs.Programs.{ToldProgram, Tells}

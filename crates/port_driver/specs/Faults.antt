@@ -1,9 +1,9 @@
 -- How many failures a driver's outside answered, and by how much its count of faults rose.
 use Rattle.std.specs.Prelude.{◌≤◌, ◌+◌, ◌-◌, ◌^◌, ℕ, min, List, [], ◌∷◌}
-use Rattle.port_model.specs.port_signal.declared.outside.Outside.{Outside}
-use Rattle.port_model.specs.port_signal.declared.outside.Outside.TheVariants.{Failed}
-use Rattle.port_model.specs.declared.row.Row.{Row}
-use Rattle.port_model.specs.declared.row.Row.TheVariants.{Handled}
+use Rattle.driver_model.specs.port_model.port_signal.declared.outside.Outside.{Outside}
+use Rattle.driver_model.specs.port_model.port_signal.declared.outside.Outside.TheVariants.{Failed}
+use Rattle.driver_model.specs.port_model.declared.row.Row.{Row}
+use Rattle.driver_model.specs.port_model.declared.row.Row.TheVariants.{Handled}
 
 -- how many of these answers are failures
 abbrev pub failures : List Outside → ℕ

@@ -1,6 +1,6 @@
 -- The answer to a control or a call.
-use Rattle.port_model.specs.declared.effect.Effect.{Effect}
-use Rattle.port_model.specs.declared.effect.Effect.TheVariants.{Reply, ReplyBadarg}
+use Rattle.driver_model.specs.port_model.declared.effect.Effect.{Effect}
+use Rattle.driver_model.specs.port_model.declared.effect.Effect.TheVariants.{Reply, ReplyBadarg}
 use Rattle.port_driver.specs.declared.reply.ReplyTo.{ReplyTo}
 use Rattle.port_driver.specs.declared.reply.ReplyTo.TheVariants.{Bytes, Badarg}
 

@@ -1,7 +1,7 @@
 //! A boxed driver is a driver: what a run is handed are boxes.
 
 use crate::{Config, Driver, DriverCtx, Life, ReplyTo, StartRefusal};
-use port_model::{IoVec, NoMemory, Piece, Reason};
+use driver_model::{IoVec, NoMemory, Piece, Reason};
 use std::alloc::Global;
 
 impl Driver for Box<dyn Driver + Send> {

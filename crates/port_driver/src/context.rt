@@ -2,7 +2,7 @@ ghost use Rattle.std.specs.Prelude.{◌≡◌, ◌<◌, ◌≤◌, ◌+◌, ◌+
 ghost use Rattle.std.specs.Borrow.{sem};
 ghost use Rattle.std.specs.List.{concat};
 ghost use Rattle.driver_queue.specs.EnqFault.{EnqFails};
-ghost use Rattle.port_model.specs.declared.effect.Effect.TheVariants.{Busy, Message, Watch, Eof, Status, Select, Unuse, Async, Fail};
+ghost use Rattle.driver_model.specs.port_model.declared.effect.Effect.TheVariants.{Busy, Message, Watch, Eof, Status, Select, Unuse, Async, Fail};
 ghost use Rattle.driver_model.specs.Calls.{is_empty};
 ghost use Rattle.driver_model.specs.Digest.{is_code};
 ghost use Rattle.driver_model.specs.Drivers.{is_held, with_event, without_event};
@@ -11,8 +11,8 @@ ghost use Rattle.port_driver.specs.Lent.{LendsQueue};
 ghost use Rattle.port_driver.specs.Replies.{reply_effect};
 
 use crate::ReplyTo;
+use driver_model::{Dir, Effect, Flag, IoVec, Items, NoMemory, Outside, Piece, Reason};
 use driver_queue::{DeqPast, DriverQueue, EnqFault};
-use port_model::{Dir, Effect, Flag, IoVec, Items, NoMemory, Outside, Piece, Reason};
 use std::alloc::Global;
 use std::marker::Model;
 

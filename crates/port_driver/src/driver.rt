@@ -9,7 +9,7 @@ ghost use Rattle.port_driver.specs.Replies.{reply_effect};
 ghost use Rattle.port_driver.specs.Starting.{Refuses};
 
 use crate::{Config, DriverCtx, Life, ReplyTo, StartRefusal};
-use port_model::{IoVec, NoMemory, Piece, Reason};
+use driver_model::{IoVec, NoMemory, Piece, Reason};
 use std::alloc::Global;
 
 /// A driver, by its callbacks: the structure `driver_entry` of the Erlang/OTP manual. Every driver here takes commands by

@@ -1,4 +1,4 @@
-use port_model::Piece;
+use driver_model::Piece;
 
 /// What a driver answers to a control or a call.
 #[derive(Drop)]

@@ -8,4 +8,5 @@
 
 mod laws;
 
+pub use driver_model::{Items, Log, Mail, Monitor, NoMemory, Reason, Sender, Signal, Task};
 pub use laws::nothing_is_told_of_lawful_histories_alone;

@@ -3,7 +3,7 @@ ghost use Rattle.port_history.specs.port_model.Signals.{data_size, is_command};
 ghost use Rattle.port_lanes.specs.Parcels.{IsParcel};
 
 use crate::LaneKey;
-use port_model::Task;
+use port_history::Task;
 use port_words::busy::Weight;
 use std::marker::Model;
 use task_queue::Fits;

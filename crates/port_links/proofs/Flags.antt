@@ -3,8 +3,8 @@ use Rattle.std.proofs.Common.{◌≡◌, ℕ, zero, suc, ◌+◌, ◌<◌, ◌�
 use Rattle.std.proofs.lemmas.Bool.{cases_lt, eq-eqb, ne_eqb, lt-ltb, le-ltb, false≢true}
 use Rattle.std.proofs.lemmas.List.{length-replicate, length-set, length-take, set_past, take_more, map-append, get_or_default, get_or_past}
 use Rattle.std.proofs.lemmas.List.Elements.{All-nil, All-cons, All-head, All-tail, All-filter}
-use Rattle.port_model.specs.port_signal.declared.monitor.Monitor.{Monitor}
-use Rattle.port_model.specs.port_signal.Links.{has, with_process, without_process, is_before, is_same, with_monitor, without_monitor, without_watcher}
+use Rattle.port_history.specs.port_model.port_signal.declared.monitor.Monitor.{Monitor}
+use Rattle.port_history.specs.port_model.port_signal.Links.{has, with_process, without_process, is_before, is_same, with_monitor, without_monitor, without_watcher}
 use Rattle.port_links.specs.Flags.{set_flags, IsKept}
 
 -- a process before the first flag has none

@@ -7,7 +7,7 @@ use Rattle.std.proofs.lemmas.Map.Entries.{option_filter, lookup-filter-keys}
 use Rattle.std.specs.List.{filter}
 use Rattle.slab.specs.Slab.{CalledAt, RetainsFrom}
 use Rattle.std.specs.Borrow.{MutBor}
-use Rattle.port_model.specs.port_signal.declared.monitor.Monitor.{Monitor}
+use Rattle.port_history.specs.port_model.port_signal.declared.monitor.Monitor.{Monitor}
 use Rattle.port_links.specs.Indexed.{monitor_cmp, Invert}
 use Rattle.port_links.proofs.MonitorOrder.{equal-monitors, is-itself}
 

@@ -9,8 +9,8 @@ use Rattle.std.specs.BTreeMap.{is_at, insert_entry}
 use Rattle.std.specs.Option.{is_some}
 use Rattle.std.proofs.lemmas.Bool.{cases_order, eq-eqb, ne_eqb, lt-ltb, le-ltb, eqb-true, and_parts, false≢true, ltb-true}
 use Rattle.std.proofs.lemmas.Map.Keys.{sorted_head, sorted_tail}
-use Rattle.port_model.specs.port_signal.declared.monitor.Monitor.{Monitor}
-use Rattle.port_model.specs.port_signal.Links.{is_before, is_same, has_monitor, with_monitor, without_monitor, without_watcher}
+use Rattle.port_history.specs.port_model.port_signal.declared.monitor.Monitor.{Monitor}
+use Rattle.port_history.specs.port_model.port_signal.Links.{is_before, is_same, has_monitor, with_monitor, without_monitor, without_watcher}
 use Rattle.port_links.specs.Indexed.{monitor_cmp}
 
 -- what the program finds of two monitors

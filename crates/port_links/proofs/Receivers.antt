@@ -1,7 +1,7 @@
 -- Whom the posts of a port's end are for.
 use Rattle.std.proofs.Common.{◌≡◌, ℕ, ◌<◌, List, [], ◌∷◌, ◌++◌, All, map, subst, sym}
 use Rattle.std.proofs.lemmas.List.Elements.{All-append, All-map, All-nil, All-cons, All-head, All-tail}
-use Rattle.port_model.specs.port_signal.declared.monitor.Monitor.{Monitor}
+use Rattle.port_history.specs.port_model.port_signal.declared.monitor.Monitor.{Monitor}
 use Rattle.port_history.specs.Mail.{Sent}
 use Rattle.port_links.specs.declared.post.Post.{Post}
 use Rattle.port_links.specs.Posts.{sent_of, exit_of, down_of}

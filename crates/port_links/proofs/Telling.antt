@@ -5,7 +5,7 @@ use Rattle.std.proofs.lemmas.List.{map-append}
 use Rattle.std.proofs.lemmas.List.Elements.{All-head, All-tail}
 use Rattle.std.specs.BTreeMap.{BTreeMap, get as key_at}
 use Rattle.slab.specs.Slab.{Slab, get as monitor_at}
-use Rattle.port_model.specs.port_signal.declared.monitor.Monitor.{Monitor}
+use Rattle.port_history.specs.port_model.port_signal.declared.monitor.Monitor.{Monitor}
 use Rattle.port_history.specs.Mail.{Sent}
 use Rattle.port_links.specs.declared.post.Post.{Post}
 use Rattle.port_links.specs.Indexed.{monitor_cmp, IsIndexed}

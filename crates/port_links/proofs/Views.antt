@@ -1,6 +1,6 @@
 -- Two tables are seen alike where their parts are.
 use Rattle.std.proofs.Common.{◌≡◌, ℕ, List, ap, ◌∙◌}
-use Rattle.port_model.specs.port_signal.declared.monitor.Monitor.{Monitor}
+use Rattle.port_history.specs.port_model.port_signal.declared.monitor.Monitor.{Monitor}
 use Rattle.port_links.specs.Table.{LinkTable}
 
 abbrev pub table : ℕ → List ℕ → List Monitor → List ℕ → ℕ → LinkTable

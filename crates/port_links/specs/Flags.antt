@@ -1,6 +1,6 @@
 -- How the table keeps the processes: a flag for each.
 use Rattle.std.specs.Prelude.{◌≡◌, ℕ, ◌+◌, ◌<◌, ◌≤◌, ◌^◌, List, [], ◌∷◌, length, Bool, All, if◌then◌else◌}
-use Rattle.port_model.specs.port_signal.declared.monitor.Monitor.{Monitor}
+use Rattle.port_history.specs.port_model.port_signal.declared.monitor.Monitor.{Monitor}
 
 -- the numbers of the flags that are set, where the first flag has the number `first`
 abbrev pub set_flags : ℕ → List Bool → List ℕ

@@ -3,8 +3,8 @@ use Rattle.std.specs.Prelude.{◌≡◌, ℕ, Option, Some}
 use Rattle.std.specs.declared.cmp.Ordering.{Ordering}
 use Rattle.std.specs.BTreeMap.{BTreeMap, IsOrdered, get as key_at}
 use Rattle.slab.specs.Slab.{Slab, get as monitor_at}
-use Rattle.port_model.specs.port_signal.declared.monitor.Monitor.{Monitor}
-use Rattle.port_model.specs.port_signal.contracts.monitor.MonitorOrd.TheImpl as ord
+use Rattle.port_history.specs.port_model.port_signal.declared.monitor.Monitor.{Monitor}
+use Rattle.port_history.specs.port_model.port_signal.contracts.monitor.MonitorOrd.TheImpl as ord
 
 -- how the program compares monitors
 abbrev pub monitor_cmp : Monitor → Monitor → Ordering

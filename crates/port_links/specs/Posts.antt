@@ -1,7 +1,7 @@
 -- What the program sends, as the definitions of a history say it.
 use Rattle.std.specs.Prelude.{ℕ, List}
-use Rattle.port_model.specs.port_signal.declared.monitor.Monitor.{Monitor}
-use Rattle.port_model.specs.declared.mail.Mail.TheVariants.{Exit, Down}
+use Rattle.port_history.specs.port_model.port_signal.declared.monitor.Monitor.{Monitor}
+use Rattle.port_history.specs.port_model.declared.mail.Mail.TheVariants.{Exit, Down}
 use Rattle.port_history.specs.Mail.{Sent, send}
 use Rattle.port_links.specs.declared.post.Post.{Post}
 

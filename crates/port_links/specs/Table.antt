@@ -1,9 +1,9 @@
 -- What contracts see of the table of a port's ties, and what is said of the signals that it is told of.
 use Rattle.std.specs.Prelude.{ℕ, ◌<◌, Bool, true, false}
-use Rattle.port_model.specs.declared.signal.Sender.{Sender}
-use Rattle.port_model.specs.declared.signal.Sender.TheVariants.{Process}
-use Rattle.port_model.specs.declared.signal.Signal.{Signal}
-use Rattle.port_model.specs.declared.signal.Signal.TheVariants.{Monitor}
+use Rattle.port_history.specs.port_model.declared.signal.Sender.{Sender}
+use Rattle.port_history.specs.port_model.declared.signal.Sender.TheVariants.{Process}
+use Rattle.port_history.specs.port_model.declared.signal.Signal.{Signal}
+use Rattle.port_history.specs.port_model.declared.signal.Signal.TheVariants.{Monitor}
 use Rattle.port_history.specs.Ties.{Ties}
 
 pub record LinkTable : Type 0 where

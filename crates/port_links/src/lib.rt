@@ -16,5 +16,5 @@ mod post;
 mod signals;
 
 pub use links::Links;
-pub use port_model::{Mail, Monitor, NoMemory, Reason, Sender, Signal};
+pub use port_history::{Mail, Monitor, NoMemory, Reason, Sender, Signal};
 pub use post::Post;

@@ -1,6 +1,6 @@
 ghost use Rattle.std.specs.Prelude.{◌≡◌, ◌<◌, true, false, map, All, IfOk, OnOk, OnErr, if◌then◌else◌};
-ghost use Rattle.port_model.specs.port_signal.Links.{has, with_process, without_process, has_monitor, with_monitor, without_monitor, exit_closes, end_closes};
-ghost use Rattle.port_model.specs.port_signal.Reasons.{told_reason};
+ghost use Rattle.port_history.specs.port_model.port_signal.Links.{has, with_process, without_process, has_monitor, with_monitor, without_monitor, exit_closes, end_closes};
+ghost use Rattle.port_history.specs.port_model.port_signal.Reasons.{told_reason};
 ghost use Rattle.port_history.specs.Opening.{Opening, is_process};
 ghost use Rattle.port_history.specs.Ties.{opened, may_own, with_owner, monitor_of, without, untied};
 ghost use Rattle.port_history.specs.Mail.{end_mail};

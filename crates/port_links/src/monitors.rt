@@ -1,5 +1,5 @@
 ghost use Rattle.std.specs.Prelude.{◌≡◌, ◌++◌, [], map, OnOk, OnErr};
-ghost use Rattle.port_model.specs.port_signal.Links.{has_monitor, with_monitor, without_monitor, without_watcher};
+ghost use Rattle.port_history.specs.port_model.port_signal.Links.{has_monitor, with_monitor, without_monitor, without_watcher};
 ghost use Rattle.std.specs.BTreeMap.{keys};
 ghost use Rattle.port_links.specs.Posts.{sent_of, down_of};
 ghost use Rattle.port_links.specs.Indexed.{IsIndexed};
@@ -21,7 +21,7 @@ pub(crate) struct MonitorTable {
 impl Model for MonitorTable {
     ghost use Rattle.std.specs.Prelude.{List};
     ghost use Rattle.std.specs.BTreeMap.{keys};
-    ghost use Rattle.port_model.specs.port_signal.declared.monitor.Monitor.{Monitor as Entry};
+    ghost use Rattle.port_history.specs.port_model.port_signal.declared.monitor.Monitor.{Monitor as Entry};
     ghost use Rattle.port_links.specs.Indexed.{IsIndexed};
 
     ghost Value = { List Entry };

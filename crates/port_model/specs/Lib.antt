@@ -1,5 +1,5 @@
 -- What crates above name of the definitions below.
-pub use Rattle.io_vector.specs as io_vector
+pub use Rattle.port_signal.specs.io_vector as io_vector
 pub use Rattle.port_signal.specs as port_signal
 pub mod Signals
 pub mod Tasks

@@ -1,6 +1,5 @@
 use crate::Dir;
-use io_vector::{Flag, Piece};
-use port_signal::Reason;
+use port_signal::{Flag, Piece, Reason};
 
 /// What a driver's callback did through its context, after the `driver_` functions of the Erlang/OTP manual of
 /// erl_driver. Events are numbers; a status is that of a program which ended.

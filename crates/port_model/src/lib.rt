@@ -13,9 +13,10 @@ mod task;
 
 pub use effect::Effect;
 pub use event::Dir;
-pub use io_vector::{Flag, IoVec, Piece};
 pub use mail::Mail;
-pub use port_signal::{Answer, Items, Log, MarkKind, Monitor, NoMemory, Outside, Reason};
+pub use port_signal::{
+    Answer, Flag, IoVec, Items, Log, MarkKind, Monitor, NoMemory, Outside, Piece, Reason,
+};
 pub use row::{Journal, Row, Rows};
 pub use signal::{Sender, Signal};
 pub use task::Task;

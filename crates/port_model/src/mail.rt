@@ -1,6 +1,5 @@
 use crate::{Answer, Reason};
-use io_vector::{Flag, Piece};
-use port_signal::Fits;
+use port_signal::{Fits, Flag, Piece};
 
 /// What a port sends to a process. Ports go by their place in the order of declaration, from 0.
 #[derive(Drop)]

@@ -2,7 +2,7 @@ ghost use Rattle.std.specs.Prelude.{◌≡◌};
 ghost use Rattle.port_model.specs.Signals.{data_size, is_command};
 
 use crate::{Dir, Reason};
-use io_vector::{IoVec, Piece};
+use port_signal::{IoVec, Piece};
 
 /// Who put a task into a port's queue. A process goes by its place in the order of declaration, a worker by its number, both
 /// from 0.

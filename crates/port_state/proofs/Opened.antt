@@ -1,13 +1,13 @@
 -- The state of a port that was just opened.
 use Rattle.std.proofs.Common.{◌≡◌, ℕ, List, ◌∷◌, [], false, None, sym, ap, ◌∙◌}
-use Rattle.port_driver.specs.port_config.declared.config.Config.{Config}
+use Rattle.port_service.specs.port_driver.port_config.declared.config.Config.{Config}
 use Rattle.port_model.specs.declared.effect.Effect.{Effect}
-use Rattle.port_driver.specs.driver_model.Calls.{Kind}
-use Rattle.port_driver.specs.driver_model.Drivers.{effects_of}
-use Rattle.port_links.specs.Table.{LinkTable}
-use Rattle.port_links.specs.port_history.Opening.{Opening}
-use Rattle.port_links.specs.port_history.Ties.{opened}
-use Rattle.port_links.specs.port_history.State.{start_call, state_at_start}
+use Rattle.port_service.specs.port_driver.driver_model.Calls.{Kind}
+use Rattle.port_service.specs.port_driver.driver_model.Drivers.{effects_of}
+use Rattle.port_mail.specs.port_links.Table.{LinkTable}
+use Rattle.port_mail.specs.port_links.port_history.Opening.{Opening}
+use Rattle.port_mail.specs.port_links.port_history.Ties.{opened}
+use Rattle.port_mail.specs.port_links.port_history.State.{start_call, state_at_start}
 use Rattle.port_service.specs.Opened.{Opened}
 use Rattle.port_state.specs.View.{StateView, IsStateOf, IsOpeningOf, due_marks}
 use Rattle.port_state.proofs.Rows.{stands-held}

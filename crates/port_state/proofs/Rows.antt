@@ -4,26 +4,26 @@ use Rattle.std.specs.Prelude.{◌<◌, not, if◌then◌else◌, IsSomeAnd}
 use Rattle.port_model.specs.port_signal.Reasons.{is_kill}
 use Rattle.port_model.specs.port_signal.declared.mark.MarkKind.{MarkKind}
 use Rattle.port_model.specs.port_signal.declared.mark.MarkKind.TheVariants.{Closed}
-use Rattle.port_driver.specs.driver_model.Calls.{DriverCall}
-use Rattle.port_driver.specs.driver_model.Drivers.{held_events}
-use Rattle.port_driver.specs.driver_model.Same.{same_effects}
-use Rattle.port_driver.specs.Driven.{Stands}
-use Rattle.port_driver.specs.declared.life.Life.{Life}
-use Rattle.port_driver.specs.declared.life.Life.TheVariants.{Fresh, Started, Stopped}
-use Rattle.port_links.specs.port_history.Opening.{Opening, Taken, taken_of}
-use Rattle.port_links.specs.port_history.Marks.{busy_after, busy_marks, closed_marks, is_busy}
-use Rattle.port_links.specs.port_history.Service.{callback_of, caller_of, calls_by, effects_after, first_reason, flush_calls, must_stop, stop_calls}
-use Rattle.port_links.specs.port_history.Ties.{failure, signal_reason, tied, untied, watched_by}
-use Rattle.port_links.specs.port_history.Mail.{closing_mail}
+use Rattle.port_service.specs.port_driver.driver_model.Calls.{DriverCall}
+use Rattle.port_service.specs.port_driver.driver_model.Drivers.{held_events}
+use Rattle.port_service.specs.port_driver.driver_model.Same.{same_effects}
+use Rattle.port_service.specs.port_driver.Driven.{Stands}
+use Rattle.port_service.specs.port_driver.declared.life.Life.{Life}
+use Rattle.port_service.specs.port_driver.declared.life.Life.TheVariants.{Fresh, Started, Stopped}
+use Rattle.port_mail.specs.port_links.port_history.Opening.{Opening, Taken, taken_of}
+use Rattle.port_mail.specs.port_links.port_history.Marks.{busy_after, busy_marks, closed_marks, is_busy}
+use Rattle.port_mail.specs.port_links.port_history.Service.{callback_of, caller_of, calls_by, effects_after, first_reason, flush_calls, must_stop, stop_calls}
+use Rattle.port_mail.specs.port_links.port_history.Ties.{failure, signal_reason, tied, untied, watched_by}
+use Rattle.port_mail.specs.port_links.port_history.Mail.{closing_mail}
 use Rattle.port_model.specs.declared.signal.Sender.{Sender}
 use Rattle.port_model.specs.declared.signal.Sender.TheVariants.{Process, Poller, Worker, Timer}
 use Rattle.port_model.specs.declared.signal.Signal.TheVariants.{Dropped}
 use Rattle.port_model.specs.Tasks.{TaskView}
-use Rattle.port_links.specs.port_history.State.{State, closing_reason, closer_after, closer_of, flushed_calls, row_calls, signal_calls, stops, after_handled}
-use Rattle.port_links.specs.port_history.Laws.{has_effects, is_answered_by}
-use Rattle.port_driver.specs.driver_model.Spawn.{is_none}
-use Rattle.port_driver.specs.Context.{SameEvents}
-use Rattle.port_links.specs.Table.{IsAmong}
+use Rattle.port_mail.specs.port_links.port_history.State.{State, closing_reason, closer_after, closer_of, flushed_calls, row_calls, signal_calls, stops, after_handled}
+use Rattle.port_mail.specs.port_links.port_history.Laws.{has_effects, is_answered_by}
+use Rattle.port_service.specs.port_driver.driver_model.Spawn.{is_none}
+use Rattle.port_service.specs.port_driver.Context.{SameEvents}
+use Rattle.port_mail.specs.port_links.Table.{IsAmong}
 use Rattle.port_service.specs.Callbacks.{is_flagged, is_told_of}
 use Rattle.port_service.specs.Serves.{IsServed, Served, Watches, standing}
 use Rattle.port_state.specs.View.{StateView, IsStateOf, IsNotKilled, change_marks}

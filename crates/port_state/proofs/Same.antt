@@ -9,7 +9,7 @@ use Rattle.port_model.specs.declared.event.Dir.{Dir}
 use Rattle.port_model.specs.declared.event.Dir.TheVariants.{Read, Write}
 use Rattle.port_model.specs.declared.effect.Effect.{Effect}
 use Rattle.port_model.specs.declared.effect.Effect.TheVariants.{Message, Eof, Status, Busy, Select, Unuse, Async, Watch, Reply, ReplyBadarg, Fail}
-use Rattle.port_driver.specs.driver_model.Same.{same_bytes, same_bool, same_flag, same_dir, same_effect, same_effects}
+use Rattle.port_service.specs.port_driver.driver_model.Same.{same_bytes, same_bool, same_flag, same_dir, same_effect, same_effects}
 
 both : {a b : Bool} → a ≡ true → b ≡ true → (a && b) ≡ true
 both e f = rw (e, f) refl

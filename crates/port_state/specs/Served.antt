@@ -1,11 +1,11 @@
 -- What handling a task left, as a history says it.
 use Rattle.std.specs.Prelude.{◌≡◌, ℕ, List, true, Option, is_some, if◌then◌else◌}
 use Rattle.port_model.specs.declared.signal.Signal.{Signal}
-use Rattle.port_links.specs.port_history.Opening.{Opening, Taken}
-use Rattle.port_links.specs.port_history.Ties.{Ties, untied}
-use Rattle.port_links.specs.port_history.Service.{effects_after}
-use Rattle.port_links.specs.port_history.State.{State, closing_reason, row_calls, after_handled}
-use Rattle.port_links.specs.port_history.Laws.{has_effects}
+use Rattle.port_mail.specs.port_links.port_history.Opening.{Opening, Taken}
+use Rattle.port_mail.specs.port_links.port_history.Ties.{Ties, untied}
+use Rattle.port_mail.specs.port_links.port_history.Service.{effects_after}
+use Rattle.port_mail.specs.port_links.port_history.State.{State, closing_reason, row_calls, after_handled}
+use Rattle.port_mail.specs.port_links.port_history.Laws.{has_effects}
 use Rattle.port_mail.specs.Rows.{IsRowOf}
 use Rattle.port_state.specs.declared.served.Served.{Served}
 use Rattle.port_state.specs.View.{StateView, IsStateOf}

@@ -3,20 +3,20 @@ use Rattle.std.specs.Prelude.{◌≡◌, ℕ, List, [], ◌∷◌, ◌++◌, len
 use Rattle.port_model.specs.port_signal.Reasons.{is_kill}
 use Rattle.port_model.specs.port_signal.declared.mark.MarkKind.{MarkKind}
 use Rattle.port_model.specs.port_signal.declared.mark.MarkKind.TheVariants.{Busy, Free, Closed}
-use Rattle.port_links.specs.Table.{LinkTable}
-use Rattle.port_driver.specs.driver_model.Drivers.{held_events}
-use Rattle.port_driver.specs.Driven.{Stands}
-use Rattle.port_driver.specs.declared.life.Life.TheVariants.{Started, Stopped}
-use Rattle.port_driver.specs.port_config.declared.config.Config.{Config}
-use Rattle.port_driver.specs.driver_model.Calls.{Kind}
+use Rattle.port_mail.specs.port_links.Table.{LinkTable}
+use Rattle.port_service.specs.port_driver.driver_model.Drivers.{held_events}
+use Rattle.port_service.specs.port_driver.Driven.{Stands}
+use Rattle.port_service.specs.port_driver.declared.life.Life.TheVariants.{Started, Stopped}
+use Rattle.port_service.specs.port_driver.port_config.declared.config.Config.{Config}
+use Rattle.port_service.specs.port_driver.driver_model.Calls.{Kind}
 use Rattle.port_service.specs.Opened.{IsOpening}
 use Rattle.port_service.specs.Service.{ServiceView}
 use Rattle.port_service.specs.Serves.{Watches, standing}
-use Rattle.port_links.specs.port_history.Opening.{Opening}
-use Rattle.port_links.specs.port_history.Marks.{is_busy}
-use Rattle.port_links.specs.port_history.Service.{first_reason}
-use Rattle.port_links.specs.port_history.State.{State, closer_of}
-use Rattle.port_links.specs.port_history.Ties.{Ties, failure}
+use Rattle.port_mail.specs.port_links.port_history.Opening.{Opening}
+use Rattle.port_mail.specs.port_links.port_history.Marks.{is_busy}
+use Rattle.port_mail.specs.port_links.port_history.Service.{first_reason}
+use Rattle.port_mail.specs.port_links.port_history.State.{State, closer_of}
+use Rattle.port_mail.specs.port_links.port_history.Ties.{Ties, failure}
 use Rattle.port_model.specs.declared.signal.Sender.{Sender}
 use Rattle.port_model.specs.declared.signal.Signal.{Signal}
 use Rattle.port_service.specs.declared.handling.Handled.{Handled}

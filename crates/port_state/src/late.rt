@@ -1,8 +1,8 @@
 //! A task that the port finds late.
 ghost use Rattle.std.specs.Prelude.{◌≡◌};
-ghost use Rattle.port_links.specs.Table.{IsAmong};
-ghost use Rattle.port_links.specs.port_history.Opening.{Opening, Taken};
-ghost use Rattle.port_links.specs.port_history.State.{State, after_late};
+ghost use Rattle.port_mail.specs.port_links.Table.{IsAmong};
+ghost use Rattle.port_mail.specs.port_links.port_history.Opening.{Opening, Taken};
+ghost use Rattle.port_mail.specs.port_links.port_history.State.{State, after_late};
 ghost use Rattle.port_state.specs.View.{IsStateOf};
 
 use crate::{Driver, PortState, Sender, Signal};

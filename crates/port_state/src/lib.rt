@@ -11,7 +11,7 @@ mod served;
 mod serving;
 mod state;
 
-pub use port_driver::{Config, Driver, StartRefusal};
 pub use port_model::{Effect, Items, MarkKind, NoMemory, Outside, Reason, Sender, Signal};
+pub use port_service::{Config, Driver, StartRefusal};
 pub use served::Served;
 pub use state::PortState;

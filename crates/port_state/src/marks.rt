@@ -1,8 +1,8 @@
 //! The marks that are due.
 ghost use Rattle.std.specs.Prelude.{◌≡◌, Option, None, [], IfSome, IfNone, true, false};
-ghost use Rattle.port_links.specs.port_history.State.{State, after};
-ghost use Rattle.port_links.specs.port_history.Opening.{Opening};
-ghost use Rattle.port_links.specs.port_history.Marks.{busy_after, busy_marks, is_due};
+ghost use Rattle.port_mail.specs.port_links.port_history.State.{State, after};
+ghost use Rattle.port_mail.specs.port_links.port_history.Opening.{Opening};
+ghost use Rattle.port_mail.specs.port_links.port_history.Marks.{busy_after, busy_marks, is_due};
 ghost use Rattle.port_model.specs.declared.row.Row.TheVariants.{Mark};
 ghost use Rattle.port_state.specs.View.{IsStateOf, change_marks};
 

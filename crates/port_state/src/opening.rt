@@ -1,17 +1,16 @@
 //! How a port's state begins and ends.
 ghost use Rattle.std.specs.Prelude.{◌≡◌, ◌≢◌, ◌≤◌, ◌<◌, ◌⊎◌, ◌∷◌, [], IfOk, IfErr, OnOk};
-ghost use Rattle.port_driver.specs.driver_model.Drivers.{effects_of, read_event_of, refusal_of, write_event_of};
-ghost use Rattle.port_driver.specs.driver_model.Programs.{TellsOfProgram};
-ghost use Rattle.port_driver.specs.Starting.{Refuses};
-ghost use Rattle.port_links.specs.port_history.Opening.{Opening};
-ghost use Rattle.port_links.specs.port_history.State.{start_call, state_at_start};
+ghost use Rattle.port_service.specs.port_driver.driver_model.Drivers.{effects_of, read_event_of, refusal_of, write_event_of};
+ghost use Rattle.port_service.specs.port_driver.driver_model.Programs.{TellsOfProgram};
+ghost use Rattle.port_service.specs.port_driver.Starting.{Refuses};
+ghost use Rattle.port_mail.specs.port_links.port_history.Opening.{Opening};
+ghost use Rattle.port_mail.specs.port_links.port_history.State.{start_call, state_at_start};
 ghost use Rattle.port_service.specs.Opened.{ended};
 ghost use Rattle.port_state.specs.View.{IsStateOf, IsOpeningOf, IsSamePort};
 
 use crate::{Config, Driver, Effect, Items, NoMemory, PortState, StartRefusal};
-use port_driver::Life;
-use port_links::Links;
-use port_service::Service;
+use port_mail::Links;
+use port_service::{Life, Service};
 use std::alloc::Global;
 
 impl<D: Driver> PortState<D> {

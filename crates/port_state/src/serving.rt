@@ -1,28 +1,26 @@
 //! A task that the port handles.
 ghost use Rattle.std.specs.Prelude.{◌≡◌, ◌≢◌, ◌≤◌, ◌&&◌, true, [], length, map, not, is_some, if◌then◌else◌, IfOk, OnOk};
-ghost use Rattle.port_driver.specs.Context.{SameEvents};
-ghost use Rattle.port_driver.specs.Faults.{failures, RisenBy};
-ghost use Rattle.port_driver.specs.driver_model.Drivers.{held_events};
-ghost use Rattle.port_links.specs.Posts.{sent_of};
-ghost use Rattle.port_links.specs.Table.{IsAmong};
+ghost use Rattle.port_service.specs.port_driver.Context.{SameEvents};
+ghost use Rattle.port_service.specs.port_driver.Faults.{failures, RisenBy};
+ghost use Rattle.port_service.specs.port_driver.driver_model.Drivers.{held_events};
+ghost use Rattle.port_mail.specs.port_links.Posts.{sent_of};
+ghost use Rattle.port_mail.specs.port_links.Table.{IsAmong};
 ghost use Rattle.port_model.specs.Tasks.{TaskView};
 ghost use Rattle.port_model.specs.declared.signal.Sender.TheVariants.{Poller};
 ghost use Rattle.port_model.specs.declared.signal.Signal.TheVariants.{Dropped};
-ghost use Rattle.port_links.specs.port_history.Mail.{closing_mail};
-ghost use Rattle.port_links.specs.port_history.Marks.{busy_after, busy_marks};
-ghost use Rattle.port_links.specs.port_history.Opening.{Opening, is_process, taken_of};
-ghost use Rattle.port_links.specs.port_history.Service.{caller_of, first_reason};
-ghost use Rattle.port_links.specs.port_history.State.{State, closer_of};
-ghost use Rattle.port_links.specs.port_history.Ties.{failure, Ties};
+ghost use Rattle.port_mail.specs.port_links.port_history.Mail.{closing_mail};
+ghost use Rattle.port_mail.specs.port_links.port_history.Marks.{busy_after, busy_marks};
+ghost use Rattle.port_mail.specs.port_links.port_history.Opening.{Opening, is_process, taken_of};
+ghost use Rattle.port_mail.specs.port_links.port_history.Service.{caller_of, first_reason};
+ghost use Rattle.port_mail.specs.port_links.port_history.State.{State, closer_of};
+ghost use Rattle.port_mail.specs.port_links.port_history.Ties.{failure, Ties};
 ghost use Rattle.port_state.specs.View.{IsStateOf, IsSamePort, change_marks, state_after};
 ghost use Rattle.port_state.specs.Served.{IsServed, untied_for};
 
 use crate::marks::{busy_after, change};
 use crate::{Driver, Effect, Items, NoMemory, PortState, Reason, Sender, Served, Signal};
-use port_driver::Life;
-use port_links::{Links, Post};
-use port_mail::{Closing, Handling};
-use port_service::{Caller, Handled, PortStanding};
+use port_mail::{Closing, Handling, Links, Post};
+use port_service::{Caller, Handled, Life, PortStanding};
 use std::alloc::Global;
 
 /// Who calls: the process that sent a task, or else the owner.

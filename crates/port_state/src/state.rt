@@ -1,7 +1,7 @@
 ghost use Rattle.std.specs.Prelude.{◌≡◌, ◌<◌, is_some, not};
 
 use crate::{Driver, Reason};
-use port_links::Links;
+use port_mail::Links;
 use port_service::Service;
 use std::marker::Model;
 

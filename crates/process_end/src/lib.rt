@@ -17,6 +17,7 @@ mod telling;
 
 pub use answers::{Ask, Commanded, NotYet, ProcEnd, ProcParts, SendRefusal, Shown};
 pub use laws::{plain_adds_differ, shown_stats_rise, words_keep_the_bound};
+pub use port_lanes::{LaneKey, Parcel};
 pub use proc::Proc;
 pub use process_receipts::{How, Outcome, Receipt, Receipts};
 pub use stopped::Stopped;

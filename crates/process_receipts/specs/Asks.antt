@@ -2,10 +2,10 @@
 use Rattle.std.specs.Prelude.{ℕ, Bool, true, false, ◌&&◌, nat_lt}
 use Rattle.port_words.specs.declared.busy.view.AddHow.{AddHow}
 use Rattle.port_words.specs.declared.busy.view.AddHow.TheVariants as add
-use Rattle.port_model.specs.declared.signal.Signal.{Signal}
-use Rattle.port_model.specs.declared.signal.Signal.TheVariants.{Gone}
-use Rattle.port_model.specs.Signals.{data_size, is_command}
-use Rattle.port_model.specs.Tasks.{TaskView}
+use Rattle.port_history.specs.port_model.declared.signal.Signal.{Signal}
+use Rattle.port_history.specs.port_model.declared.signal.Signal.TheVariants.{Gone}
+use Rattle.port_history.specs.port_model.Signals.{data_size, is_command}
+use Rattle.port_history.specs.port_model.Tasks.{TaskView}
 use Rattle.process_receipts.specs.declared.how.How.{How}
 use Rattle.process_receipts.specs.declared.how.How.TheVariants.{Plain, Owner, NoSuspend, Force, ForceNoSuspend}
 use Rattle.process_receipts.specs.declared.receipt.Outcome.{Outcome}

@@ -1,7 +1,7 @@
 -- What a report counts in the receipts of a process, beside its calls.
 use Rattle.std.specs.Prelude.{ℕ, ◌+◌, List, [], ◌∷◌, Bool, true, false, ◌&&◌}
 use Rattle.port_words.specs.sums.Counts.{one_if}
-use Rattle.port_model.specs.Signals.{is_command}
+use Rattle.port_history.specs.port_model.Signals.{is_command}
 use Rattle.process_receipts.specs.declared.receipt.Outcome.{Outcome}
 use Rattle.process_receipts.specs.declared.receipt.Outcome.TheVariants.{Dropped}
 use Rattle.process_receipts.specs.declared.receipt.Receipt.{Receipt}

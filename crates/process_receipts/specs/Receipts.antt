@@ -2,8 +2,8 @@
 use Rattle.std.specs.Prelude.{◌≡◌, ℕ, ◌==◌, ◌<◌, ◌≤◌, List, [], ◌∷◌, ◌++◌, length, Bool, true, false, ◌&&◌, ◌||◌, Option, Some, None, if◌then◌else◌, slice_index_or}
 use Rattle.port_words.specs.declared.busy.view.AddHow.{AddHow}
 use Rattle.port_words.specs.busy.Stat.{tells_closed, tells_busy}
-use Rattle.port_model.specs.Signals.{data_size, is_command}
-use Rattle.port_model.specs.Tasks.{TaskView}
+use Rattle.port_history.specs.port_model.Signals.{data_size, is_command}
+use Rattle.port_history.specs.port_model.Tasks.{TaskView}
 use Rattle.port_history.specs.Suspension.{is_queue_busy}
 use Rattle.process_receipts.specs.declared.receipt.Outcome.{Outcome}
 use Rattle.process_receipts.specs.declared.receipt.Outcome.TheVariants.{Accepted, Suspended, Dropped, Closed, NotSupported, TooLong, SentOut}

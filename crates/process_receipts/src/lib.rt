@@ -6,5 +6,5 @@ mod how;
 mod receipt;
 
 pub use how::How;
-pub use port_model::{Items, Log};
+pub use port_history::{Items, Log};
 pub use receipt::{Outcome, Receipt, Receipts};

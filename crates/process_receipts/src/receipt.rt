@@ -1,4 +1,4 @@
-use port_model::Log;
+use port_history::Log;
 
 /// What became of a call by which a process sends a signal to a port.
 #[derive(Clone, Copy, Debug, PartialEq, Eq)]

@@ -5,8 +5,8 @@ use Rattle.std.proofs.lemmas.Bool.{cases_eq}
 use Rattle.std.proofs.lemmas.Bool.Decides.{nat_tests}
 use Rattle.std.proofs.lemmas.List.{append-nil, get_or_default}
 use Rattle.port_model.specs.declared.signal.Sender.{Sender}
-use Rattle.port_lanes.specs.Keys.{sender_at}
-use Rattle.port_lanes.specs.Parcels.{ParcelView}
+use Rattle.process_end.specs.port_lanes.Keys.{sender_at}
+use Rattle.process_end.specs.port_lanes.Parcels.{ParcelView}
 use Rattle.process_end.specs.Views.{LaneEnd}
 use Rattle.run_jobs.specs.Telling.{PortTask, plain_parcel, parcels_for, Sends, AreEndsOf, LeftBy, TellsOf}
 

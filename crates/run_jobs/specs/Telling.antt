@@ -3,8 +3,8 @@ use Rattle.std.specs.Prelude.{◌≡◌, ◌<◌, ◌==◌, ℕ, if◌then◌els
 use Rattle.port_words.specs.declared.home.homes.Ticket.{Ticket}
 use Rattle.port_model.specs.declared.signal.Sender.{Sender}
 use Rattle.port_model.specs.Tasks.{TaskView}
-use Rattle.port_lanes.specs.Keys.{sender_at}
-use Rattle.port_lanes.specs.Parcels.{ParcelView}
+use Rattle.process_end.specs.port_lanes.Keys.{sender_at}
+use Rattle.process_end.specs.port_lanes.Parcels.{ParcelView}
 use Rattle.process_end.specs.Views.{LaneEnd}
 use Rattle.port_sched.specs.declared.body.PortBody.{Ghosts}
 use Rattle.port_sched.specs.declared.waking.JobSeats.{JobSeats}

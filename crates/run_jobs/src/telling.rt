@@ -2,16 +2,16 @@
 ghost use Rattle.std.specs.Prelude.{◌≡◌, ◌<◌, ℕ, true, false, [], ◌∷◌, length, slice_index_or, OnOk, OnErr};
 ghost use Rattle.port_model.specs.declared.signal.Sender.{Sender};
 ghost use Rattle.port_model.specs.Signals.{is_command};
-ghost use Rattle.port_lanes.specs.port_history.Laws.{may_send};
-ghost use Rattle.port_lanes.specs.Parcels.{FitsLane, names_below};
+ghost use Rattle.process_end.specs.port_lanes.port_history.Laws.{may_send};
+ghost use Rattle.process_end.specs.port_lanes.Parcels.{FitsLane, names_below};
 ghost use Rattle.process_end.specs.Views.{LaneEnd};
 ghost use Rattle.port_sched.specs.Homes.{AreHomes};
 ghost use Rattle.run_jobs.specs.Telling.{plain_parcel, AreEndsOf, Sends, TellsOf, WakesBy};
 
 use no_memory::NoMemory;
-use port_lanes::Parcel;
 use port_model::Task;
 use port_sched::{JobSeats, PortBody};
+use process_end::Parcel;
 use std::sync::Wait;
 use task_queue::SendEnd;
 

@@ -4,8 +4,8 @@ use Rattle.std.proofs.lemmas.Bool.{cases_lt}
 use Rattle.std.proofs.lemmas.List.{get_or_append_left, get_or_push, length_push}
 use Rattle.task_queue.specs.Ends.{Taking}
 use Rattle.port_words.specs.busy.Known.{PortKnown}
-use Rattle.port_lanes.specs.Keys.{Key}
-use Rattle.port_lanes.specs.Parcels.{ParcelView}
+use Rattle.process_end.specs.port_lanes.Keys.{Key}
+use Rattle.process_end.specs.port_lanes.Parcels.{ParcelView}
 use Rattle.run_lanes.specs.declared.size.LaneSize.{LaneSize}
 use Rattle.run_lanes.specs.Ends.{IsUntaken}
 use Rattle.run_lanes.specs.Keyed.{key_of, ArePortLanes}

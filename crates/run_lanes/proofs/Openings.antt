@@ -5,8 +5,8 @@ use Rattle.std.proofs.lemmas.List.{get_or_append_left, get_or_at, get_or-append_
 use Rattle.task_queue.specs.Ends.{Sending, Taking}
 use Rattle.async_jobs.specs.Pool.{PoolEnd}
 use Rattle.async_jobs.specs.Turns.{Worker}
-use Rattle.port_lanes.specs.Keys.{Key}
-use Rattle.port_lanes.specs.Parcels.{ParcelView}
+use Rattle.process_end.specs.port_lanes.Keys.{Key}
+use Rattle.process_end.specs.port_lanes.Parcels.{ParcelView}
 use Rattle.port_mail.specs.Ends.{MailEnd}
 use Rattle.port_words.specs.declared.busy.view.QueueLimits.{QueueLimits}
 use Rattle.port_words.specs.busy.Known.{PortKnown, SendKnown}

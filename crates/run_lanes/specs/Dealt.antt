@@ -3,8 +3,8 @@ use Rattle.std.specs.Prelude.{◌≡◌, ◌<◌, ℕ, List, length, slice_index
 use Rattle.task_queue.specs.Ends.{Sending, Taking}
 use Rattle.async_jobs.specs.Pool.{PoolEnd}
 use Rattle.async_jobs.specs.Turns.{Worker}
-use Rattle.port_lanes.specs.Keys.{Key}
-use Rattle.port_lanes.specs.Parcels.{ParcelView}
+use Rattle.process_end.specs.port_lanes.Keys.{Key}
+use Rattle.process_end.specs.port_lanes.Parcels.{ParcelView}
 use Rattle.port_mail.specs.Ends.{MailEnd}
 use Rattle.port_words.specs.busy.Known.{PortKnown, SendKnown}
 use Rattle.process_end.specs.Mailbox.{Mailbox}

@@ -2,8 +2,8 @@
 use Rattle.std.specs.Prelude.{◌≡◌, ◌<◌, ◌+◌, ℕ, List, length, slice_index_or}
 use Rattle.task_queue.specs.Ends.{Taking}
 use Rattle.port_words.specs.busy.Known.{PortKnown}
-use Rattle.port_lanes.specs.Keys.{Key}
-use Rattle.port_lanes.specs.Parcels.{ParcelView}
+use Rattle.process_end.specs.port_lanes.Keys.{Key}
+use Rattle.process_end.specs.port_lanes.Parcels.{ParcelView}
 use Rattle.run_lanes.specs.declared.size.LaneSize.{LaneSize}
 use Rattle.run_lanes.specs.Ends.{IsUntaken}
 

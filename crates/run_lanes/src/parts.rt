@@ -1,8 +1,8 @@
 use async_jobs::{Pool, WorkItem};
-use port_lanes::Parcel;
 use port_mail::Mailboxes;
 use port_model::Mail;
 use port_words::busy::{PortSeat, SendSeat};
+use process_end::Parcel;
 use ready_select::PollAsk;
 use task_queue::{SendEnd, TakeEnd};
 

@@ -4,10 +4,10 @@ use Rattle.std.proofs.lemmas.List.{append-nil, drop_all, take_all, length-map, l
 use Rattle.std.proofs.lemmas.Option.{slice_get-get_or}
 use Rattle.port_sched.specs.declared.body.PortBody.{Ghosts}
 use Rattle.port_sched.specs.Jobs.{WentEach}
-use Rattle.process_job.specs.declared.job.ProcessEnd.{ProcessEnd}
-use Rattle.process_job.specs.declared.job.ProcessJob.{ProcessJob}
-use Rattle.process_job.specs.declared.job.ProcessWork.{ProcessWork}
-use Rattle.process_job.specs.Jobs.{CanMakeSteps, CanRun, EndsAs, HasRun}
+use Rattle.threaded_jobs.specs.process_job.declared.job.ProcessEnd.{ProcessEnd}
+use Rattle.threaded_jobs.specs.process_job.declared.job.ProcessJob.{ProcessJob}
+use Rattle.threaded_jobs.specs.process_job.declared.job.ProcessWork.{ProcessWork}
+use Rattle.threaded_jobs.specs.process_job.Jobs.{CanMakeSteps, CanRun, EndsAs, HasRun}
 use Rattle.port_words.specs.over.Over.{OverKnown}
 use Rattle.port_words.specs.declared.home.homes.Ticket.{Ticket}
 use Rattle.run_jobs.specs.declared.worker.WorkerJob.{WorkerJob}

@@ -1,9 +1,9 @@
 -- The jobs of a run, with their seats.
 use Rattle.std.specs.Prelude.{◌≡◌, ◌<◌, ℕ, List, [], None, IfSome, length, slice_index_or}
 use Rattle.port_sched.specs.declared.body.PortBody.{Ghosts}
-use Rattle.process_job.specs.process_end.Views.{ProcView, proc_view}
-use Rattle.process_job.specs.declared.job.ProcessJob.{ProcessJob}
-use Rattle.process_job.specs.Jobs.{IsWorkOf}
+use Rattle.threaded_jobs.specs.process_job.process_end.Views.{ProcView, proc_view}
+use Rattle.threaded_jobs.specs.process_job.declared.job.ProcessJob.{ProcessJob}
+use Rattle.threaded_jobs.specs.process_job.Jobs.{IsWorkOf}
 use Rattle.run_jobs.specs.declared.worker.WorkerJob.{WorkerJob}
 use Rattle.run_lanes.specs.declared.parts.WorkerLanes.{WorkerLanes}
 use Rattle.run_seats.specs.declared.plans.ProcessPlan.{ProcessPlan}

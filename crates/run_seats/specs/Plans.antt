@@ -1,8 +1,8 @@
 -- What the jobs of a run are made of, and whether they can begin.
 use Rattle.std.specs.Prelude.{◌≡◌, ◌<◌, ℕ, Bool, List, length, slice_index_or}
-use Rattle.process_job.specs.port_model.declared.signal.Sender.TheVariants as sender
-use Rattle.process_job.specs.process_end.Ports.{AreParts}
-use Rattle.process_job.specs.Jobs.{AreAmong, AreWithin}
+use Rattle.threaded_jobs.specs.process_job.port_model.declared.signal.Sender.TheVariants as sender
+use Rattle.threaded_jobs.specs.process_job.process_end.Ports.{AreParts}
+use Rattle.threaded_jobs.specs.process_job.Jobs.{AreAmong, AreWithin}
 use Rattle.run_jobs.specs.Telling.{AreEndsOf}
 use Rattle.run_lanes.specs.declared.parts.ProcessLanes.{ProcessLanes}
 use Rattle.run_lanes.specs.declared.parts.WorkerLanes.{WorkerLanes}

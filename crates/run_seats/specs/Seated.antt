@@ -1,6 +1,6 @@
 -- A run that can begin, and the seats of one that is over.
 use Rattle.std.specs.Prelude.{◌≡◌, ◌+◌, ◌≤◌, ℕ, List, [], ◌∷◌, ◌++◌, None, All, length, map, vec_capacity}
-use Rattle.process_job.specs.port_model.declared.signal.Sender.TheVariants as sender
+use Rattle.threaded_jobs.specs.process_job.port_model.declared.signal.Sender.TheVariants as sender
 use Rattle.port_sched.specs.declared.body.PortBody.{Ghosts}
 use Rattle.port_sched.specs.declared.schedulers.Scheduler.{Scheduler}
 use Rattle.port_sched.specs.declared.waking.JobSeats.{JobSeats}

@@ -2,7 +2,7 @@
 ghost use Rattle.std.specs.Prelude.{◌≡◌, ◌≤◌, ◌+◌, ◌++◌, ℕ, [], length, map, All, vec_capacity};
 ghost use Rattle.std.specs.Vec.Iter.{into_iter_items, into_iter_len};
 ghost use Rattle.atomic_table.specs.Seated.{TableId};
-ghost use Rattle.process_job.specs.Jobs.{CanRun};
+ghost use Rattle.threaded_jobs.specs.process_job.Jobs.{CanRun};
 ghost use Rattle.run_jobs.specs.Working.{CanWork};
 ghost use Rattle.ticket_account.specs.Opening.{IsCounted, IsOther, IsReadyJob};
 ghost use Rattle.run_seats.specs.Dealt.{AreDealtProcesses, AreDealtWorkers, AreReadyWorkers, IsDealtProcess, IsDealtWorker};
@@ -12,11 +12,11 @@ use crate::adding::add;
 use crate::plans::ProcessPlan;
 use port_sched::{JobSeats, PortBody};
 use port_words::over::OverSeat;
-use process_job::{ProcessJob, ProcessSeats};
 use run_jobs::WorkerJob;
 use run_lanes::{WorkerLanes, next_of};
 use std::alloc::Global;
 use std::vec::IntoIter;
+use threaded_jobs::{ProcessJob, ProcessSeats};
 
 // The job of a process.
 fn process_job<B: PortBody>(

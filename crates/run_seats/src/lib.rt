@@ -13,6 +13,8 @@ pub use homing::{HomeRoom, bring_home};
 pub use no_memory::NoMemory;
 pub use plans::{ProcessPlan, ProcessSteps, process_plans};
 pub use rooms::EndRoom;
+pub use run_jobs::Watch;
 pub use run_lanes::{FinishEnds, PollerLanes, ProcessLanes, WorkerLanes};
 pub use running::{RunLeft, run_seated};
 pub use seating::{OtherLanes, SeatedRun, seat_run, seats_stay_of_one_run};
+pub use threaded_jobs::{EndedJobs, EndedProcess, FinishLeft, PollerLeft, Stop, WorkerLeft};

@@ -3,11 +3,11 @@ ghost use Rattle.std.specs.Prelude.{◌≡◌, ◌<◌, ◌≤◌, length, IfOk}
 ghost use Rattle.run_seats.specs.Plans.{ArePlansOf, IsPlanOf};
 
 use no_memory::NoMemory;
-use process_job::ProcParts;
 use run_lanes::{ProcessLanes, next_of};
 use script_plan::{Piece, Step};
 use std::alloc::Global;
 use std::collections::VecDeque;
+use threaded_jobs::ProcParts;
 
 /// What a process does: its steps in order, and the contents of the files that its `file` steps send, one for each such step, in their order.
 #[derive(Drop)]

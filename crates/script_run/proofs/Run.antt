@@ -15,9 +15,9 @@ use Rattle.seated_script.specs.run_setting.Setting.{AreNamedIn}
 use Rattle.seated_script.specs.declared.seating.SeatedScript.{SeatedScript}
 use Rattle.seated_script.specs.Seated.{IsSeatedScript}
 use Rattle.ended_jobs.specs.Ended.{HaveEndedFor, StopComes}
-use Rattle.threaded_jobs.specs.declared.ended.EndedJobs.{EndedJobs}
-use Rattle.threaded_jobs.specs.declared.ended.Stop.{Stop}
-use Rattle.threaded_jobs.specs.declared.ended.Stop.TheVariants as stop
+use Rattle.seated_script.specs.run_setting.run_seats.threaded_jobs.declared.ended.EndedJobs.{EndedJobs}
+use Rattle.seated_script.specs.run_setting.run_seats.threaded_jobs.declared.ended.Stop.{Stop}
+use Rattle.seated_script.specs.run_setting.run_seats.threaded_jobs.declared.ended.Stop.TheVariants as stop
 use Rattle.script_run.specs.declared.running.RunFault.{RunFault}
 use Rattle.script_run.specs.declared.running.RunFault.TheVariants as fault
 use Rattle.script_run.specs.declared.running.ScriptRan.{ScriptRan}

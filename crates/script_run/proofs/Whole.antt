@@ -33,7 +33,7 @@ use Rattle.closed_lanes.specs.closed_ports.Closed.{HaveComeBack}
 use Rattle.closed_lanes.specs.settled_ports.Senders.{IsOfAnEnd}
 use Rattle.closed_lanes.specs.closed_ports.told_jobs.Told.{WorkersTell}
 use Rattle.script_plan.specs.declared.decl.PortDecl.{PortDecl}
-use Rattle.run_end.specs.Ran.{RanProcess, calls_made}
+use Rattle.seated_script.specs.run_setting.run_end.Ran.{RanProcess, calls_made}
 use Rattle.run_lanes.specs.declared.parts.PortLanes.{PortLanes}
 use Rattle.seated_script.specs.run_setting.run_opening.Opened.{room_of}
 use Rattle.seated_script.specs.run_setting.declared.RunScript.{RunScript}
@@ -42,12 +42,12 @@ use Rattle.seated_script.specs.declared.seating.SeatedScript.{SeatedScript}
 use Rattle.seated_script.specs.Seated.{IsSeatedScript}
 use Rattle.closed_lanes.specs.declared.closing.ClosedPort.{ClosedPort}
 use Rattle.closed_lanes.specs.Closed.{IsClosedPort}
-use Rattle.run_end.specs.Shown.{Calls, HasCause, adds_of}
+use Rattle.seated_script.specs.run_setting.run_end.Shown.{Calls, HasCause, adds_of}
 use Rattle.port_words.specs.busy.Queue.{bytes_of, period_of}
 use Rattle.process_end.specs.Bounds.{queue_bound}
 use Rattle.seated_script.specs.run_setting.run_seats.declared.plans.ProcessSteps.{ProcessSteps}
 use Rattle.process_end.specs.Views.{LaneEnd, ProcView}
-use Rattle.process_job.specs.Asks.{made_asks}
+use Rattle.seated_script.specs.run_setting.run_end.process_job.Asks.{made_asks}
 use Rattle.port_model.specs.declared.mail.Mail.{Mail}
 use Rattle.seated_script.specs.run_setting.Setting.{IsSetting}
 use Rattle.seated_script.specs.run_setting.Jobs.{HaveRunIn}
@@ -60,15 +60,15 @@ use Rattle.script_run.specs.Left.{AreProcessesLeft, IsGathered, IsLeft}
 use Rattle.closed_mail.specs.Joined.{rows_of, PortWordsHold as WordsOfPort}
 use Rattle.port_body.specs.recorded_port.Asks.{resumed_words}
 use Rattle.port_mail.specs.Ends.{MailEnd}
-use Rattle.process_job.specs.Mails.{Came, own_mails, readable, AreReplied, HasReply}
-use Rattle.process_job.specs.Waits.{WaitsAreShown}
+use Rattle.seated_script.specs.run_setting.run_end.process_job.Mails.{Came, own_mails, readable, AreReplied, HasReply}
+use Rattle.seated_script.specs.run_setting.run_end.process_job.Waits.{WaitsAreShown}
 use Rattle.process_receipts.specs.Asks.{Asked}
 use Rattle.process_receipts.specs.declared.receipt.Receipt.{Receipt}
 use Rattle.suspended_calls.specs.Listed.{ListedCallsAreInOrder, SuspendedCallsAreListed}
-use Rattle.process_job.specs.declared.job.EndedProcess.{EndedProcess}
-use Rattle.run_end.specs.Merge.{IsFromPort}
-use Rattle.run_end.specs.Tell.{AllCallsTell}
-use Rattle.run_end.specs.Waited.{AllWaitsAreShown}
+use Rattle.seated_script.specs.run_setting.run_end.process_job.declared.job.EndedProcess.{EndedProcess}
+use Rattle.seated_script.specs.run_setting.run_end.Merge.{IsFromPort}
+use Rattle.seated_script.specs.run_setting.run_end.Tell.{AllCallsTell}
+use Rattle.seated_script.specs.run_setting.run_end.Waited.{AllWaitsAreShown}
 use Rattle.seated_script.specs.run_setting.run_opening.Opened.{soft_at}
 use Rattle.run_lanes.specs.declared.size.LaneSize.{LaneSize}
 use Rattle.run_lanes.specs.Keyed.{key_of}
@@ -76,7 +76,7 @@ use Rattle.port_body.specs.recorded_port.View.{stat_marks}
 use Rattle.port_history.specs.State.{state}
 use Rattle.port_words.specs.busy.Known.{PortKnown}
 use Rattle.port_body.specs.Ends.{HaveRows, IsLeftByCalls}
-use Rattle.run_end.specs.Shown.{WordsHold}
+use Rattle.seated_script.specs.run_setting.run_end.Shown.{WordsHold}
 use Rattle.process_receipts.specs.Receipts.{AreReceipts, accepted}
 use Rattle.port_history.specs.Mail.{mails}
 use Rattle.port_body.specs.LanePort.{rows_from}

@@ -5,17 +5,17 @@ use Rattle.driver_model.specs.Programs.{ToldProgram}
 use Rattle.port_model.specs.declared.mail.Mail.{Mail}
 use Rattle.port_body.specs.Body.{BodyName}
 use Rattle.driver_hosts.specs.declared.hosted.Hosted.{Hosted}
-use Rattle.run_end.specs.Ran.{RanProcess}
+use Rattle.seated_script.specs.run_setting.run_end.Ran.{RanProcess}
 use Rattle.seated_script.specs.run_setting.run_seats.declared.plans.ProcessPlan.{ProcessPlan}
 use Rattle.seated_script.specs.run_setting.run_seats.declared.seating.OtherLanes.{OtherLanes}
-use Rattle.threaded_jobs.specs.declared.ended.EndedJobs.{EndedJobs}
+use Rattle.seated_script.specs.run_setting.run_seats.threaded_jobs.declared.ended.EndedJobs.{EndedJobs}
 use Rattle.closed_lanes.specs.declared.closing.ClosedPort.{ClosedPort}
 use Rattle.closed_lanes.specs.declared.closing.LaneEnds.{LaneEnds}
 use Rattle.closed_lanes.specs.Closed.{AreClosedIn, GiveBack, IsClosedPort}
 use Rattle.async_jobs.specs.Pool.{PoolEnd}
 use Rattle.process_end.specs.Views.{LaneEnd}
-use Rattle.process_job.specs.declared.job.EndedProcess.{EndedProcess}
-use Rattle.threaded_jobs.specs.declared.parting.WorkerLeft.{WorkerLeft}
+use Rattle.seated_script.specs.run_setting.run_end.process_job.declared.job.EndedProcess.{EndedProcess}
+use Rattle.seated_script.specs.run_setting.run_seats.threaded_jobs.declared.parting.WorkerLeft.{WorkerLeft}
 use Rattle.closed_mail.specs.declared.joining.ProcessPeers.{ProcessPeers}
 use Rattle.closed_mail.specs.Joined.{AreJoined, AreOfProcesses}
 use Rattle.process_receipts.specs.declared.receipt.Receipt.{Receipt}

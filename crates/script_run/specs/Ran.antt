@@ -15,9 +15,9 @@ use Rattle.port_model.specs.declared.row.Row.TheVariants.{Handled, Late}
 use Rattle.port_model.specs.declared.signal.Sender.{Sender}
 use Rattle.port_model.specs.declared.signal.Sender.TheVariants.{Process, Poller, Worker, Timer}
 use Rattle.process_receipts.specs.Receipts.{accepted, AreReceipts}
-use Rattle.process_job.specs.Asks.{made_asks}
-use Rattle.process_job.specs.Mails.{Came, mail_from, own_mails, readable, AreReplied}
-use Rattle.process_job.specs.Waits.{WaitsAreShown}
+use Rattle.seated_script.specs.run_setting.run_end.process_job.Asks.{made_asks}
+use Rattle.seated_script.specs.run_setting.run_end.process_job.Mails.{Came, mail_from, own_mails, readable, AreReplied}
+use Rattle.seated_script.specs.run_setting.run_end.process_job.Waits.{WaitsAreShown}
 use Rattle.port_body.specs.recorded_port.Asks.{resumed_words}
 use Rattle.port_body.specs.recorded_port.View.{stat_marks}
 use Rattle.port_body.specs.Ends.{HaveRows, IsLeftByCalls}
@@ -25,8 +25,8 @@ use Rattle.port_body.specs.LanePort.{rows_from}
 use Rattle.driver_hosts.specs.declared.hosted.Hosted.{Hosted}
 use Rattle.driver_hosts.specs.Back.{HaveServed}
 use Rattle.driver_hosts.specs.Finding.{Found}
-use Rattle.run_end.specs.Merge.{IsFromPort}
-use Rattle.run_end.specs.Shown.{Calls, QueueWordsHold, WordsHold}
+use Rattle.seated_script.specs.run_setting.run_end.Merge.{IsFromPort}
+use Rattle.seated_script.specs.run_setting.run_end.Shown.{Calls, QueueWordsHold, WordsHold}
 use Rattle.seated_script.specs.run_setting.run_opening.Opened.{limits_of, soft_at}
 use Rattle.seated_script.specs.run_setting.run_seats.declared.plans.ProcessSteps.{ProcessSteps}
 use Rattle.script_plan.specs.declared.decl.PortDecl.{PortDecl}

@@ -9,8 +9,7 @@ ghost use Rattle.ended_jobs.specs.Ended.{HaveEndedFor, StopComes};
 use driver_hosts::Body;
 use ended_jobs::{RunOver, run_to_end};
 use outside::{Gate, PollSet};
-use process_job::EndedProcess;
-use seated_script::{Driver, SeatedRun};
+use seated_script::{Driver, EndedProcess, SeatedRun};
 use std::sync::Wait;
 use std::thread::Threads;
 

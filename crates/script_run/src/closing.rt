@@ -2,7 +2,7 @@
 ghost use Rattle.std.specs.Prelude.{◌≡◌, ◌≢◌, ◌<◌, List, length, map, All, AllPairs, IfOk};
 ghost use Rattle.closed_lanes.specs.closed_ports.Closed.{HaveComeBack};
 ghost use Rattle.port_body.specs.Body.{BodyName, name_of};
-ghost use Rattle.run_end.specs.Ran.{RanProcess};
+ghost use Rattle.seated_script.specs.run_setting.run_end.Ran.{RanProcess};
 ghost use Rattle.seated_script.specs.run_setting.run_seats.declared.plans.ProcessPlan.{ProcessPlan as Plan};
 ghost use Rattle.seated_script.specs.run_setting.Setting.{Setting};
 ghost use Rattle.script_run.specs.Left.{AreJobParts, CanGather, HasEndedIn, HaveJobParts, IsGathered, IsLeft};
@@ -17,14 +17,13 @@ use driver_hosts::{Body, take_back};
 use no_memory::NoMemory;
 use outside::PollSet;
 use port_lanes::Parcel;
-use process_job::EndedProcess;
 use process_receipts::Receipts;
-use run_jobs::Watch;
-use seated_script::{Driver, Hosted};
+use seated_script::{
+    Driver, EndedJobs, EndedProcess, FinishLeft, Hosted, PollerLeft, Watch, WorkerLeft,
+};
 use std::alloc::Global;
 use std::sync::Wait;
 use task_queue::SendEnd;
-use threaded_jobs::{EndedJobs, FinishLeft, PollerLeft, WorkerLeft};
 
 /// Puts together what the ports and the processes leave.
 fn gather<R: Wait>(

@@ -9,9 +9,9 @@ use no_memory::NoMemory;
 use port_lanes::Parcel;
 use port_model::Mail;
 use process_end::ProcEnd;
-use process_job::EndedProcess;
 use process_receipts::Receipts;
 use run_lanes::next_of;
+use seated_script::EndedProcess;
 use std::alloc::Global;
 use task_queue::SendEnd;
 

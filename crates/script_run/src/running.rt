@@ -17,15 +17,14 @@ use port_config::Config;
 use port_lanes::each_sender_has_an_end;
 use port_model::{Journal, Mail};
 use process_receipts::Receipts;
-use run_end::{calls_tell, waits_are_shown};
 use seated_script::{
-    Driver, Hosted, OpenFault, RunScript, SeatedScript, StartRefusal, Unseated, seat_script,
+    Driver, Hosted, OpenFault, RunScript, SeatedScript, StartRefusal, Stop, Unseated, calls_tell,
+    seat_script, waits_are_shown,
 };
 use std::alloc::Global;
 use std::sync::Wait;
 use std::thread::Threads;
 use suspended_calls::{listed_calls_are_in_order, suspended_calls_are_listed};
-use threaded_jobs::Stop;
 
 /// What a port leaves of a run: its options, the events of its program's output and input, 0 and 0 without one, and the history of its driver.
 #[derive(Drop)]

@@ -6,8 +6,8 @@ use Rattle.port_words.specs.declared.busy.view.QueueLimits.{QueueLimits}
 use Rattle.port_lanes.specs.Keys.{Key, EndsAreNumbered, end_of, is_within, sender_at}
 use Rattle.port_model.specs.declared.signal.Sender.{Sender}
 use Rattle.port_model.specs.declared.signal.Sender.TheVariants as sender
-use Rattle.process_job.specs.process_end.Views.{LaneEnd}
-use Rattle.process_job.specs.Jobs.{AreWithin}
+use Rattle.run_setting.specs.run_end.process_job.process_end.Views.{LaneEnd}
+use Rattle.run_setting.specs.run_end.process_job.Jobs.{AreWithin}
 use Rattle.run_setting.specs.run_seats.run_jobs.Telling.{AreEndsOf}
 use Rattle.run_setting.specs.run_opening.run_lanes.declared.parts.PortLanes.{PortLanes}
 use Rattle.run_setting.specs.run_opening.run_lanes.declared.parts.ProcessLanes.{ProcessLanes}

@@ -1,7 +1,7 @@
 -- What the jobs of a run are made of, and a run that is seated with it.
 use Rattle.std.specs.Prelude.{◌≡◌, ℕ, List, All, length}
 use Rattle.port_sched.specs.declared.body.PortBody.{Ghosts}
-use Rattle.process_job.specs.Jobs.{AreWithin}
+use Rattle.run_setting.specs.run_end.process_job.Jobs.{AreWithin}
 use Rattle.run_setting.specs.run_opening.declared.opening.JobLanes.{JobLanes}
 use Rattle.run_setting.specs.run_opening.Opened.{IsPartOf}
 use Rattle.run_setting.specs.run_seats.declared.plans.ProcessPlan.{ProcessPlan}

@@ -6,6 +6,7 @@ mod ending;
 mod seating;
 
 pub use run_setting::{
-    Driver, Hosted, OpenFault, ProcessSteps, RunScript, SeatedRun, StartRefusal,
+    Driver, EndedJobs, EndedProcess, FinishLeft, Hosted, OpenFault, PollerLeft, ProcessSteps,
+    RunScript, SeatedRun, StartRefusal, Stop, Watch, WorkerLeft, calls_tell, waits_are_shown,
 };
 pub use seating::{SeatedScript, Unseated, seat_script};

@@ -10,9 +10,9 @@ use crate::dealing::{JobParts, seat_bodies};
 use crate::ending::end_opened;
 use outside::PollSet;
 use port_sched::PortBody;
-use process_job::EndedProcess;
 use run_setting::{
-    Body, Driver, Hosted, LaneSize, OpenFault, OpenPorts, RunScript, SeatedRun, open_ports_of,
+    Body, Driver, EndedProcess, Hosted, LaneSize, OpenFault, OpenPorts, RunScript, SeatedRun,
+    open_ports_of,
 };
 use std::alloc::Global;
 use std::sync::Wait;

@@ -17,3 +17,4 @@ pub use jobs::{JobRoom, RunJobs, take_apart};
 pub use kinds::RunJob;
 pub use laws::seats_go_on;
 pub use parting::{FinishLeft, PollerLeft, RunEnds, SeatRoom, WorkerLeft};
+pub use process_job::{EndedProcess, ProcParts, ProcessJob, ProcessSeats};

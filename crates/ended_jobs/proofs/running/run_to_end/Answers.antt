@@ -1,6 +1,6 @@
 use Rattle.std.proofs.Common.{arith}
 use Rattle.std.proofs.lemmas.Result.{IfOk-weaker}
-use Rattle.threaded_jobs.specs.Ended.{HaveAllEnded}
+use Rattle.run_seats.specs.threaded_jobs.Ended.{HaveAllEnded}
 use Rattle.ended_jobs.specs.Ended.{HaveEndedFor}
 use Rattle.ended_jobs.proofs.Ends.{ended_for, many_ended, stopped_for}
 use Rattle.ended_jobs.proofs.running.run_to_end.Goals as goal

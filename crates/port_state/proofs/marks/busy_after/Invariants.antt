@@ -1,5 +1,5 @@
 use Rattle.std.proofs.Common.{◌≡◌, drop}
-use Rattle.port_links.specs.port_history.Marks.{busy_after}
+use Rattle.port_mail.specs.port_links.port_history.Marks.{busy_after}
 use Rattle.port_state.proofs.marks.busy_after.Given as goal
 
 -- the rest of the effects makes of what is so far what all make of the beginning

@@ -1,6 +1,6 @@
 use Rattle.std.proofs.Common.{sym, ap, ◌∙◌}
 use Rattle.std.specs.Prelude.{if◌then◌else◌}
-use Rattle.port_links.specs.port_history.State.{closer_of}
+use Rattle.port_mail.specs.port_links.port_history.State.{closer_of}
 use Rattle.port_state.proofs.serving.closer_after.Goals as goal
 
 pub returns-then-asked : goal.returns-then-asked

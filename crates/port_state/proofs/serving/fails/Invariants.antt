@@ -1,5 +1,5 @@
 use Rattle.std.proofs.Common.{◌≡◌, drop}
-use Rattle.port_links.specs.port_history.Ties.{failure}
+use Rattle.port_mail.specs.port_links.port_history.Ties.{failure}
 use Rattle.port_state.proofs.serving.fails.Given as goal
 
 -- the effects so far hold no failure

@@ -1,6 +1,6 @@
 use Rattle.std.proofs.Common.{ap}
 use Rattle.port_model.specs.declared.signal.Sender.TheVariants.{Worker}
-use Rattle.port_lanes.specs.port_history.Laws.{may_send}
+use Rattle.process_end.specs.port_lanes.port_history.Laws.{may_send}
 use Rattle.run_jobs.proofs.worker.answer.Goals as goal
 
 pub tell-requires-clause-sender : goal.tell-requires-clause-sender

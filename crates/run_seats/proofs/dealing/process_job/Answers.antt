@@ -1,5 +1,5 @@
 use Rattle.std.proofs.Common.{sym, subst}
-use Rattle.process_job.specs.Jobs.{AreWithin}
+use Rattle.threaded_jobs.specs.process_job.Jobs.{AreWithin}
 use Rattle.run_seats.proofs.dealing.process_job.Goals as goal
 
 pub new-requires-clause-within : goal.new-requires-clause-within

@@ -1,7 +1,7 @@
 use Rattle.std.proofs.Common.{get_or, sym, subst, arith}
 use Rattle.std.specs.List.{All}
 use Rattle.std.proofs.lemmas.List.Elements.{All-head, All-tail}
-use Rattle.process_job.specs.Jobs.{CanRun}
+use Rattle.threaded_jobs.specs.process_job.Jobs.{CanRun}
 use Rattle.run_lanes.proofs.Places.{rest_some, rest_more, rest_first, placed_more}
 use Rattle.ticket_account.specs.Opening.{IsCounted, IsReadyJob}
 use Rattle.run_seats.specs.declared.plans.ProcessPlan.{ProcessPlan}

@@ -1,7 +1,7 @@
 use Rattle.std.proofs.Common.{◌≡◌, ◌+◌, ◌≤◌, ◌++◌, ℕ, get_or, length, map, vec_capacity}
 use Rattle.std.specs.List.{All}
 use Rattle.atomic_table.specs.Seated.{TableId}
-use Rattle.process_job.specs.Jobs.{CanRun}
+use Rattle.threaded_jobs.specs.process_job.Jobs.{CanRun}
 use Rattle.run_lanes.proofs.Places.{IsRest, ArePlaced}
 use Rattle.ticket_account.specs.Opening.{IsCounted, IsReadyJob}
 use Rattle.run_seats.specs.declared.plans.ProcessPlan.{ProcessPlan}

@@ -1,4 +1,4 @@
-use Rattle.port_model.specs.port_signal.declared.monitor.Monitor.{Monitor}
+use Rattle.port_history.specs.port_model.port_signal.declared.monitor.Monitor.{Monitor}
 use Rattle.port_links.proofs.Flags.{without-kept}
 use Rattle.port_links.proofs.links.Links.demonitor.Goals as goal
 

@@ -1,5 +1,5 @@
 use Rattle.std.proofs.Common.{◌<◌, length}
-use Rattle.port_model.specs.port_signal.declared.monitor.Monitor.{Monitor}
+use Rattle.port_history.specs.port_model.port_signal.declared.monitor.Monitor.{Monitor}
 use Rattle.port_links.proofs.Flags.{with-kept}
 use Rattle.port_links.proofs.links.Links.monitor.Goals as goal
 

@@ -1,7 +1,7 @@
 use Rattle.std.proofs.Common.{◌≡◌, ◌∙◌, sym, ap, true}
 use Rattle.std.specs.Map.{keys_of}
-use Rattle.port_model.specs.port_signal.declared.monitor.Monitor.{Monitor}
-use Rattle.port_model.specs.port_signal.Links.{has_monitor}
+use Rattle.port_history.specs.port_model.port_signal.declared.monitor.Monitor.{Monitor}
+use Rattle.port_history.specs.port_model.port_signal.Links.{has_monitor}
 use Rattle.port_links.proofs.MonitorOrder.{has-entries, with-entries, with-there}
 use Rattle.port_links.proofs.monitors.MonitorTable.add.Goals as goal
 

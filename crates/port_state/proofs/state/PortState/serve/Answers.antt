@@ -1,12 +1,12 @@
 use Rattle.std.proofs.Common.{◌≡◌, ◌≤◌, false, length, is_some, ◌&&◌, refl, sym, ap, ◌∙◌, subst}
 use Rattle.std.specs.Prelude.{not, if◌then◌else◌}
-use Rattle.port_driver.specs.Faults.{failures, RisenBy}
-use Rattle.port_links.specs.port_history.Opening.{is_process, taken_of}
-use Rattle.port_links.specs.port_history.Mail.{closing_mail}
-use Rattle.port_links.specs.port_history.Service.{caller_of}
-use Rattle.port_links.specs.port_history.State.{closer_of, closing_reason}
-use Rattle.port_links.specs.port_history.Ties.{Ties, failure, signal_reason, tied, watched_by}
-use Rattle.port_links.specs.Table.{IsAmong}
+use Rattle.port_service.specs.port_driver.Faults.{failures, RisenBy}
+use Rattle.port_mail.specs.port_links.port_history.Opening.{is_process, taken_of}
+use Rattle.port_mail.specs.port_links.port_history.Mail.{closing_mail}
+use Rattle.port_mail.specs.port_links.port_history.Service.{caller_of}
+use Rattle.port_mail.specs.port_links.port_history.State.{closer_of, closing_reason}
+use Rattle.port_mail.specs.port_links.port_history.Ties.{Ties, failure, signal_reason, tied, watched_by}
+use Rattle.port_mail.specs.port_links.Table.{IsAmong}
 use Rattle.port_service.specs.Callbacks.{is_flagged, is_told_of}
 use Rattle.port_mail.specs.Rows.{IsHandling}
 use Rattle.port_service.specs.Service.{ServiceView}

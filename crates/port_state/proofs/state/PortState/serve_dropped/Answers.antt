@@ -1,8 +1,8 @@
 use Rattle.std.proofs.Common.{◌≡◌, true, is_some, refl, sym, ap, ◌∙◌, subst}
 use Rattle.port_model.specs.declared.signal.Signal.TheVariants.{Dropped}
 use Rattle.std.specs.Prelude.{map}
-use Rattle.port_links.specs.Posts.{sent_of}
-use Rattle.port_links.specs.port_history.Service.{effects_after}
+use Rattle.port_mail.specs.port_links.Posts.{sent_of}
+use Rattle.port_mail.specs.port_links.port_history.Service.{effects_after}
 use Rattle.port_mail.specs.Rows.{IsHandling}
 use Rattle.port_state.proofs.Rows.{quiet, quiet-state, quiet-effects, quiet-exits, quiet-closer}
 use Rattle.port_state.proofs.state.PortState.serve_dropped.Goals as goal
