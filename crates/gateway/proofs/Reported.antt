@@ -77,7 +77,7 @@ module _ {D : Type 0} (kind : D → Kind) (stage : D → Life) (faults : D → �
       → HasRun kind stage faults own program i.script old new answered later left → length (report_of i.names left).processes ≡ length plan.processes
   processes-many words before after plan i old new answered later left h run =
       let names = process-names-many words before after plan i h in
-      paired-many (λ p. process_report p.0 p.1) i.names.processes.items left.processes.items (run.processes_many ∙ h.run.programs.many ∙ sym names) ∙ names
+      paired-many (λ p. process_report p.0 p.1) i.names.processes.items left.processes.items (run.processes_many ∙ h.run.process_steps.many ∙ sym names) ∙ names
 
   pub saves-within : (words : Result AskedRun ℕ) (before after : FilesView) (plan : Plan) (i : RunInput) (old new : List (Hosted D)) (answered : List ℕ) (later : Option (List ℕ)) (left : ScriptRan) → HasInput words before after plan i
       → HasRun kind stage faults own program i.script old new answered later left → All (λ (s : SaveDecl). s.process < length (report_of i.names left).processes) i.writes.saves.items
@@ -93,7 +93,7 @@ module _ {D : Type 0} (kind : D → Kind) (stage : D → Life) (faults : D → �
       let served = run.ports k no-decl p no-host within in
       let holds : PortHolds k (length plan.processes) i.script.workers (kind served.driver) (slice_index_or plan.ports k no-decl) (slice_index_or left.ports.items k p) =
       subst (λ (ports : List PortDecl). PortHolds k (length plan.processes) i.script.workers (kind served.driver) (slice_index_or ports k no-decl) (slice_index_or left.ports.items k p)) h.run.ports
-      (subst (λ n. PortHolds k n i.script.workers (kind served.driver) (slice_index_or i.script.ports.items k no-decl) (slice_index_or left.ports.items k p)) h.run.programs.many served.holds) in
+      (subst (λ n. PortHolds k n i.script.workers (kind served.driver) (slice_index_or i.script.ports.items k no-decl) (slice_index_or left.ports.items k p)) h.run.process_steps.many served.holds) in
       port-ended k (length plan.processes) i.script.workers (kind served.driver) (slice_index_or plan.ports k no-decl) (slice_index_or left.ports.items k p) holds
       (h.loaded.script.is_plan.owners k no-decl lt)
 

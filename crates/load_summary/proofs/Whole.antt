@@ -98,7 +98,7 @@ summary-is kind stage faults own program number script names left r =
     length-map (zip names.processes.items left.processes.items) (λ x. process_report x.0 x.1) ∙ length-zip names.processes.items left.processes.items ∙ (λ i. min (named i) (processes_many i)) in
     let count : (k : ℕ) → k < 4 → Counts (commands_to k steps) (command_bytes k steps) (counts_of 8 (reported k)) = λ k below.
     let whole = port-whole kind stage faults own program number script names left r p q l k below in
-    let same = same_counts (reported_opening 8 (reported k)) (opening_of k (length script.process_steps.items) Echo (get_or script.ports.items k (port_with 0)) (at k)) (reverse (at k).journal.rows) (sym (owner-is kind stage faults own program number script names left r p q l k below)) (sym programs) in
+    let same = same_counts (reported_opening 8 (reported k)) (opening_of k (length script.process_steps.items) Echo (get_or script.ports.items k (port_with 0)) (at k)) (reverse (at k).journal.rows) (sym (owner-is kind stage faults own program number script names left r p q l k below)) (sym process-steps) in
     record {
       commands_are = same.commands ∙ whole.handled;
       late_are = sym (late-reversed (at k).journal.rows) ∙ whole.late;
