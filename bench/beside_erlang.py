@@ -19,7 +19,7 @@ has a name, the project's figure, that of Erlang/OTP, and the project's in perce
   memory_off           the same without limits, so that commands may lie in the lane before they are handled: the two of `growth`
   replay               the journal of 16,000 commands replayed, the whole process, in microseconds
   cat_stream, cat_line 33,554,432 bytes in lines through `cat` in stream mode and as lines, and saved, in microseconds, from the start of `cat` until what came back is
-                       written to a file, on both sides
+                       written to a file that wasn't there, on both sides
   cat_stream_run, cat_line_run
                        of these the time for which the project has threads, from the start of `cat` to the end of the run: without the write of the file
   cat_stream_process, cat_line_process
@@ -183,7 +183,7 @@ def time_cat(program, runs, erlang):
         port = f'process a\nport p a spawn run "cat" {option} msgq off busy 65536 131072\nsave a p "out.txt"\n'
         wait = f"bytes p {SIZE}" if name == "stream" else f"bytes p {SIZE - open('in.txt', 'rb').read().count(10)}"
         script = write(f"{name}.txt", f'{port}a file p 65536 "in.txt"\na {wait}\na close p\n')
-        whole, threads, written = zip(*[(run([program, "run", script])[0], *span.both([program, "run", script])) for _ in range(runs)])
+        whole, threads, written = zip(*[(run(anew(program, script))[0], *span.both(anew(program, script))) for _ in range(runs)])
         theirs = erlang.told(1, "filter", name, "in.txt", min(runs, 5))
         row(f"cat_{name}", statistics.median(written), theirs)
         row(f"cat_{name}_run", statistics.median(threads))
@@ -193,6 +193,13 @@ def time_cat(program, runs, erlang):
     row("cat_memory", statistics.median(most_memory([program, "run", "stream.txt"]) for _ in range(3)) * 100 / SIZE)
     subprocess.run(["gcc", "-O2", "-o", "pump", f"{HERE}/erlang/pump.c"], check=True)
     row("cat_floor", median(runs, ["./pump", "in.txt", "floor.txt"]))
+
+
+def anew(program, script):
+    """The words of a run that saves in a file that isn't there, since to empty one of this size takes longer than to write it."""
+    if os.path.exists("out.txt"):
+        os.remove("out.txt")
+    return [program, "run", script]
 
 
 def time_wait(program):

@@ -1,5 +1,5 @@
 %% A file through `cat` by Erlang/OTP: -extra MODE FILE RUNS, where MODE is stream or line. Prints the median of so many runs, from the start of the
-%% program until what came is written, in microseconds.
+%% program until what came is written to a file that wasn't there, in microseconds.
 -module(filter).
 -export([main/0]).
 
@@ -19,6 +19,7 @@ take(Port, Left, Came) ->
 
 once(Mode, Pieces, Size) ->
     Main = self(),
+    _ = file:delete("erlang_out.txt"),
     spawn_link(fun() ->
         Begun = erlang:monotonic_time(microsecond),
         Port = open_port({spawn, "cat"}, mode(Mode) ++ [binary]),
