@@ -25,27 +25,40 @@ fn add<R: Wait + Abort>(rt: &R, sender: &mut SendSeat, n: u32, how: AddHow) -> (
     }
 }
 
+// The word of the queue at an add without suspension that the queue's limits refuse.
+fn refused<R: Wait + Abort>(rt: &R, sender: &mut SendSeat, n: u32) -> u64
+    requires small { n ≤ 262143 }
+    requires few { length sender.old.sender.ledger.adds < 131072 }
+    ensures sender { (sender.new.table ≡ sender.old.table) × (sender.new.sender.ledger.number ≡ sender.old.sender.ledger.number) }
+    ensures adds { length sender.new.sender.ledger.adds ≤ length sender.old.sender.ledger.adds + 1 }
+{
+    match sender.add_command(rt, n, AddHow::NoSuspend) {
+        Added::Busy { msgq } => msgq,
+        Added::Added { .. } => panic!(rt; "the queue is busy"),
+    }
+}
+
+/// Ends the test where another word was found than the wanted one.
+pub fn same<R: Abort>(rt: &R, found: u64, wanted: u64) {
+    assert_eq!(rt; found, wanted);
+}
+
 #[test]
 fn the_queue_is_busy_between_its_limits(rt: HostRuntime) -> Result<(), Fail> {
     let (mut port, mut seats) = busy_table(rt.alloc(), true, 4, 8, 1)?;
     let mut sender = seats.pop().ok_or("no sender")?;
     let (word, four) = add(&rt, &mut sender, 4, AddHow::Plain);
-    assert_eq!(rt; word, 4);
+    same(&rt, word, 4);
     let (word, one) = add(&rt, &mut sender, 1, AddHow::NoSuspend);
-    assert_eq!(rt; word, 5);
+    same(&rt, word, 5);
     let (word, three) = add(&rt, &mut sender, 3, AddHow::Plain);
-    assert_eq!(rt; word, 1_099_511_627_784);
-    assert_eq!(rt; port.removed(&rt, four), 1_099_511_627_780);
-    match sender.add_command(&rt, 1, AddHow::NoSuspend) {
-        Added::Busy { msgq } => assert_eq!(rt; msgq, 1_099_511_627_780),
-        Added::Added { .. } => panic!(rt; "the queue is busy"),
-    }
-    assert_eq!(rt; port.removed(&rt, one), 2_199_023_255_555);
-    assert_eq!(rt; sender.undo(&rt, three), 2 * PERIOD);
-    assert_eq!(rt;
-        (sender.look_msgq(), port.look_msgq()),
-        (2 * PERIOD, 2 * PERIOD)
-    );
+    same(&rt, word, PERIOD + 8);
+    same(&rt, port.removed(&rt, four), PERIOD + 4);
+    same(&rt, refused(&rt, &mut sender, 1), PERIOD + 4);
+    same(&rt, port.removed(&rt, one), 2 * PERIOD + 3);
+    same(&rt, sender.undo(&rt, three), 2 * PERIOD);
+    same(&rt, sender.look_msgq(), 2 * PERIOD);
+    same(&rt, port.look_msgq(), 2 * PERIOD);
     port.join(sender);
     Ok(())
 }
@@ -54,22 +67,19 @@ fn the_queue_is_busy_between_its_limits(rt: HostRuntime) -> Result<(), Fail> {
 fn senders_see_the_marks_of_the_port(rt: HostRuntime) -> Result<(), Fail> {
     let (mut port, mut seats) = busy_table(rt.alloc(), false, 0, 0, 1)?;
     let mut sender = seats.pop().ok_or("no sender")?;
-    assert_eq!(rt; (port.mark(true), sender.look()), (5, 5));
-    assert_eq!(rt; (port.mark(false), sender.look()), (8, 8));
-    assert_eq!(rt; (port.mark_closed(), sender.look()), (14, 14));
-    assert_eq!(rt;
-        (stat_marks(14), stat_closed(14), stat_busy(14)),
-        (3, true, false)
-    );
-    assert_eq!(rt;
-        (stat_marks(5), stat_closed(5), stat_busy(5)),
-        (1, false, true)
-    );
-    assert_eq!(rt;
-        (msgq_period(PERIOD + 8), msgq_is_busy(PERIOD + 8)),
-        (1, true)
-    );
+    let busy = (port.mark(true), sender.look());
+    let free = (port.mark(false), sender.look());
+    let closed = (port.mark_closed(), sender.look());
+    assert!(rt; busy == (5, 5) && free == (8, 8) && closed == (14, 14));
     Ok(())
+}
+
+#[test]
+fn words_are_read_by_their_parts(rt: HostRuntime) {
+    let closed = (stat_marks(14), stat_closed(14), stat_busy(14));
+    let busy = (stat_marks(5), stat_closed(5), stat_busy(5));
+    let full = (msgq_period(PERIOD + 8), msgq_is_busy(PERIOD + 8));
+    assert!(rt; closed == (3, true, false) && busy == (1, false, true) && full == (1, true));
 }
 
 #[test]
@@ -79,19 +89,16 @@ fn several_senders_fill_one_queue(rt: HostRuntime) -> Result<(), Fail> {
     let mut second = seats.pop().ok_or("no second")?;
     let mut first = seats.pop().ok_or("no first")?;
     let (word, three) = add(&rt, &mut first, 3, AddHow::Plain);
-    assert_eq!(rt; word, 3);
+    same(&rt, word, 3);
     let (word, five) = add(&rt, &mut second, 5, AddHow::NoSuspend);
-    assert_eq!(rt; word, PERIOD + 8);
-    match third.add_command(&rt, 1, AddHow::NoSuspend) {
-        Added::Busy { msgq } => assert_eq!(rt; msgq, PERIOD + 8),
-        Added::Added { .. } => panic!(rt; "the queue is busy"),
-    }
+    same(&rt, word, PERIOD + 8);
+    same(&rt, refused(&rt, &mut third, 1), PERIOD + 8);
     let (word, seven) = add(&rt, &mut third, 7, AddHow::Forced);
-    assert_eq!(rt; word, PERIOD + 15);
-    assert_eq!(rt; first.undo(&rt, three), PERIOD + 12);
-    assert_eq!(rt; port.removed(&rt, seven), PERIOD + 5);
-    assert_eq!(rt; port.removed(&rt, five), 2 * PERIOD);
-    assert_eq!(rt; second.look_msgq(), 2 * PERIOD);
+    same(&rt, word, PERIOD + 15);
+    same(&rt, first.undo(&rt, three), PERIOD + 12);
+    same(&rt, port.removed(&rt, seven), PERIOD + 5);
+    same(&rt, port.removed(&rt, five), 2 * PERIOD);
+    same(&rt, second.look_msgq(), 2 * PERIOD);
     port.join(first);
     port.join(second);
     port.join(third);
@@ -139,9 +146,9 @@ fn what_two_and_four_threads_add_is_in_the_queue(rt: HostRuntime) -> Result<(), 
     let second = seats.pop().ok_or("no second")?;
     let first = seats.pop().ok_or("no first")?;
     let ((first, one), (second, two)) = add_twenty(&rt, first, second);
-    assert_eq!(rt; port.look_msgq(), 20);
+    same(&rt, port.look_msgq(), 20);
     port.removed(&rt, one);
-    assert_eq!(rt; port.removed(&rt, two), 0);
+    same(&rt, port.removed(&rt, two), 0);
     let (left, right) = join(
         &rt,
         || add_twenty(&rt, first, second),
@@ -149,7 +156,7 @@ fn what_two_and_four_threads_add_is_in_the_queue(rt: HostRuntime) -> Result<(), 
     );
     join_all(&mut port, left);
     join_all(&mut port, right);
-    assert_eq!(rt; port.look_msgq(), 40);
+    same(&rt, port.look_msgq(), 40);
     Ok(())
 }
 
@@ -190,6 +197,14 @@ fn look_both<R: Threads + Sync>(
     join(rt, move || look(a), move || look(b))
 }
 
+// Ends the test where neither of two words was found.
+fn one_of<R: Abort>(rt: &R, found: u64, one: u64, other: u64) {
+    assert!(rt;
+        found == one || found == other,
+        "{found} is neither {one} nor {other}"
+    );
+}
+
 #[test]
 fn two_and_four_threads_see_the_marks(rt: HostRuntime) -> Result<(), Fail> {
     let (port, mut seats) = busy_table(rt.alloc(), false, 0, 0, 3)?;
@@ -197,7 +212,7 @@ fn two_and_four_threads_see_the_marks(rt: HostRuntime) -> Result<(), Fail> {
     let second = seats.pop().ok_or("no second")?;
     let first = seats.pop().ok_or("no first")?;
     let (port, (first, found)) = close_and_look(&rt, port, first);
-    assert!(rt; found == 0 || found == 6);
+    one_of(&rt, found, 0, 6);
     let (left, right) = join(
         &rt,
         || close_and_look(&rt, port, first),
@@ -205,8 +220,9 @@ fn two_and_four_threads_see_the_marks(rt: HostRuntime) -> Result<(), Fail> {
     );
     let (mut port, (mut first, found)) = left;
     let ((second, also_found), (third, _)) = right;
-    assert!(rt; (found == 6 || found == 10) && (also_found == 6 || also_found == 10));
-    assert_eq!(rt; first.look(), 10);
+    one_of(&rt, found, 6, 10);
+    one_of(&rt, also_found, 6, 10);
+    same(&rt, first.look(), 10);
     port.join(first);
     port.join(second);
     port.join(third);

@@ -1,6 +1,8 @@
 ghost use Rattle.std.specs.Prelude.{◌≡◌, ℕ, None};
 
-use port_words::home::{HomeSeat, Lodged, home};
+use crate::busy::same;
+use port_words::home::{HomeSeat, Lodged, Ticket, home};
+use std::process::Abort;
 use std::test::Fail;
 use std::thread::{Threads, join};
 
@@ -17,6 +19,18 @@ impl Lodged for CountedBody {
     ghost name = { λ lodger. lodger.name };
 }
 
+// Counts a turn of the body.
+fn count_turn(body: &mut CountedBody)
+    ensures { body.new.name ≡ body.old.name }
+{
+    body.turns = body.turns.wrapping_add(1);
+}
+
+// Ends the test where this isn't the ticket of the first turn of port 7, or where the turn could be queued once more.
+fn is_queued<R: Abort>(rt: &R, ticket: Ticket, again: Result<Ticket, u64>) {
+    assert!(rt; ticket.port == 7 && ticket.turn == 0 && matches!(again, Err(1)));
+}
+
 #[test]
 fn a_ticket_runs_its_turn_once(rt: HostRuntime) -> Result<(), Fail> {
     let Ok(mut seats) = home(rt.alloc(), 7, CountedBody { name: 3, turns: 0 }, 2) else {
@@ -27,13 +41,12 @@ fn a_ticket_runs_its_turn_once(rt: HostRuntime) -> Result<(), Fail> {
     let Ok(ticket) = seat.schedule() else {
         panic!(rt; "the port is idle")
     };
-    assert!(rt; ticket.port == 7 && ticket.turn == 0);
-    assert!(rt; matches!(other.schedule(), Err(1)));
+    is_queued(&rt, ticket, other.schedule());
     match other.claim(ticket) {
         Ok(mut running) => {
-            running.body().turns += 1;
+            count_turn(running.body());
             match seat.claim_idle() {
-                Err(found) => assert_eq!(rt; found, 2),
+                Err(found) => same(&rt, found, 2),
                 Ok(taken) => seat.put_home(taken),
             }
             other.put_home(running);
@@ -41,7 +54,7 @@ fn a_ticket_runs_its_turn_once(rt: HostRuntime) -> Result<(), Fail> {
         Err(_) => panic!(rt; "the turn is queued"),
     }
     match seat.claim(ticket) {
-        Err(found) => assert_eq!(rt; found, 4),
+        Err(found) => same(&rt, found, 4),
         Ok(again) => seat.put_home(again),
     }
     match seat.claim_idle() {
@@ -49,8 +62,8 @@ fn a_ticket_runs_its_turn_once(rt: HostRuntime) -> Result<(), Fail> {
         Err(_) => panic!(rt; "the port is idle"),
     }
     other.join(seat);
-    assert_eq!(rt; other.look(), 8);
-    assert_eq!(rt; other.close_home().turns, 1);
+    same(&rt, other.look(), 8);
+    same(&rt, u64::from(other.close_home().turns), 1);
     Ok(())
 }
 
@@ -64,8 +77,7 @@ fn run_one(mut seat: HomeSeat<CountedBody>) -> HomeSeat<CountedBody>
     };
     match seat.claim(ticket) {
         Ok(mut running) => {
-            let lodger = running.body();
-            lodger.turns = lodger.turns.wrapping_add(1);
+            count_turn(running.body());
             seat.put_home(running);
             seat
         }
@@ -83,6 +95,11 @@ fn run_two<R: Threads + Sync>(
     ensures b { (result.1.home ≡ b.home) × (result.1.known.running ≡ None) × (result.1.known.shares ≡ b.known.shares) × (result.1.known.seats ≡ b.known.seats) }
 {
     join(rt, move || run_one(a), move || run_one(b))
+}
+
+// Ends the test where this word of an idle home doesn't tell the turns that the body counted.
+fn counts_turns<R: Abort>(rt: &R, run: u64, body: CountedBody) {
+    assert!(rt; run == 4 * u64::from(body.turns) && run > 0);
 }
 
 #[test]
@@ -106,8 +123,6 @@ fn two_and_four_threads_run_one_body(rt: HostRuntime) -> Result<(), Fail> {
     all.join(third);
     all.join(fourth);
     let run = all.look();
-    assert!(rt; run % 4 == 0 && run > 0);
-    let lodger = all.close_home();
-    assert_eq!(rt; u64::from(lodger.turns), run / 4);
+    counts_turns(&rt, run, all.close_home());
     Ok(())
 }

@@ -1,6 +1,7 @@
 ghost use Rattle.std.specs.Prelude.{◌≡◌};
 ghost use Rattle.port_words.specs.over.Over.{HasToFinish, HasNotStopped};
 
+use crate::busy::same;
 use port_words::over::{OverSeat, over_word};
 use std::test::Fail;
 use std::thread::{Threads, join};
@@ -10,18 +11,17 @@ const STOP: u64 = 1 << 32;
 #[test]
 fn counts_who_finished_and_who_stopped(rt: HostRuntime) -> Result<(), Fail> {
     let mut seats = over_word(rt.alloc(), 2, 1)?;
-    assert_eq!(rt; seats.len(), 3);
     let mut job = seats.pop().ok_or("no job")?;
     let mut process = seats.pop().ok_or("no process")?;
     let mut port = seats.pop().ok_or("no port")?;
-    assert_eq!(rt; port.counted(), 2);
-    assert_eq!(rt; port.finished(), 0);
-    assert_eq!(rt; job.stop(), 1);
-    assert_eq!(rt; process.finished(), STOP + 1);
-    assert_eq!(rt; process.stop(), STOP + 2);
+    assert!(rt; seats.is_empty() && port.counted() == 2);
+    same(&rt, port.finished(), 0);
+    same(&rt, job.stop(), 1);
+    same(&rt, process.finished(), STOP + 1);
+    same(&rt, process.stop(), STOP + 2);
     job.join(process);
     job.join(port);
-    assert_eq!(rt; job.look(), 2 * STOP + 2);
+    same(&rt, job.look(), 2 * STOP + 2);
     Ok(())
 }
 
@@ -75,6 +75,6 @@ fn two_threads_and_then_four_are_all_counted(rt: HostRuntime) -> Result<(), Fail
     all.join(other);
     all.join(finished.0);
     all.join(finished.1);
-    assert_eq!(rt; all.look(), 2 * STOP + 4);
+    same(&rt, all.look(), 2 * STOP + 4);
     Ok(())
 }
