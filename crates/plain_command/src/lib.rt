@@ -8,8 +8,6 @@ mod causes;
 mod checking;
 mod command;
 mod replaying;
-#[cfg(test)]
-mod tests;
 mod words;
 
 pub use command::{PlainEnd, plain_command};

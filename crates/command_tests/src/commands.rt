@@ -1,7 +1,7 @@
 //! Commands over files and a sink of memory. That a journal has at most 268,435,456 bytes is left to the contract: the row would need as many.
 
-use crate::{Cause, PlainEnd, ScriptFault, is_plain, plain_command};
 use outside::{MemFiles, MemSink};
+use plain_command::{Cause, PlainEnd, ScriptFault, is_plain, plain_command};
 use std::alloc::Global;
 use std::test::Fail;
 
