@@ -1,8 +1,8 @@
+use crate::checks::{is_right, none_is_wrong};
 use port_terms::{IoList, Term, encode, flatten, term_depth};
 use script_text::{PartFault, read_io_list, read_number, read_term, read_text, read_text_content};
 use std::alloc::{AllocError, Global};
 use std::borrow::CowSlice;
-use std::test::Fail;
 
 /// The NUMBER in front and the length of what stands behind it.
 fn number_of(text: &str) -> Option<(u64, usize)> {
@@ -100,119 +100,185 @@ fn shown_form(alloc: Global, term: &Term, rest: &[u8]) -> Result<String, AllocEr
     }
 }
 
-/// So many of one text, another one, and so many of a third.
-fn nested(
-    alloc: Global,
-    levels: usize,
-    open: &str,
-    inner: &str,
-    close: &str,
-) -> Result<String, AllocError> {
-    let mut text = open.repeat(alloc, levels)?;
+/// The place of the first text with another NUMBER in front, if there is one.
+fn first_other_number(cases: &[(&str, Option<(u64, usize)>)]) -> Option<usize> {
+    for (at, case) in cases.iter().enumerate() {
+        let (text, wanted) = *case;
+        if number_of(text) != wanted {
+            return Some(at);
+        }
+    }
+    None
+}
+
+/// Texts, and the NUMBER in front of each with the number of bytes behind it.
+const NUMBERS: [(&str, Option<(u64, usize)>); 8] = [
+    ("0", Some((0, 0))),
+    ("0000000255,", Some((255, 1))),
+    ("9999999999 x", Some((9_999_999_999, 2))),
+    ("12345678901", None),
+    ("", None),
+    (" 1", None),
+    ("-1", None),
+    ("a", None),
+];
+
+#[test]
+fn a_number_has_one_to_ten_digits(rt: HostRuntime) {
+    none_is_wrong(&rt, first_other_number(&NUMBERS));
+}
+
+/// The place of the first text that has other bytes, if there is one.
+fn first_other_text(alloc: Global, cases: &[(&[u8], &[u8], usize)]) -> Option<usize> {
+    for (at, case) in cases.iter().enumerate() {
+        let (text, wanted, behind) = *case;
+        if !is_text(alloc, text, wanted, behind) {
+            return Some(at);
+        }
+    }
+    None
+}
+
+/// The place of the first text that isn't refused, if there is one.
+fn first_not_refused(alloc: Global, texts: &[&str]) -> Option<usize> {
+    for (at, text) in texts.iter().enumerate() {
+        if text_fault(alloc, text) != Some(PartFault::Bad) {
+            return Some(at);
+        }
+    }
+    None
+}
+
+/// TEXTs, each with its bytes and the number of bytes behind it.
+const TEXTS: [(&[u8], &[u8], usize); 3] = [
+    (b"\"\"", b"", 0),
+    (b"\"a #~\" force", b"a #~", 6),
+    (
+        b"\"\\n\\r\\t\\\\\\\"\\x00\\x7f\\xff\\x9a0\"\"",
+        b"\n\r\t\\\"\x00\x7f\xff\x9a0",
+        1,
+    ),
+];
+
+const NO_TEXTS: [&str; 9] = [
+    "",
+    "a",
+    "\"",
+    "\"a",
+    "\"\\\"",
+    "\"\\q\"",
+    "\"\\x1\"",
+    "\"\\xFF\"",
+    "\"\\xg0\"",
+];
+
+#[test]
+fn a_text_has_its_escapes(rt: HostRuntime) {
+    none_is_wrong(&rt, first_other_text(rt.alloc(), &TEXTS));
+    none_is_wrong(&rt, first_not_refused(rt.alloc(), &NO_TEXTS));
+}
+
+/// The parts of a long text: what stands in front, what opens each level, what is in the last one, and what closes each.
+type LongParts<'a> = [&'a str; 4];
+
+/// A text of so many levels.
+fn nested(alloc: Global, levels: usize, parts: LongParts<'_>) -> Result<String, AllocError> {
+    let [head, open, inner, close] = parts;
+    let mut text = String::from_str(alloc, head)?;
+    text.push_str(open.repeat(alloc, levels)?.as_str())?;
     text.push_str(inner)?;
     text.push_str(close.repeat(alloc, levels)?.as_str())?;
     Ok(text)
 }
 
-#[test]
-fn a_number_has_one_to_ten_digits(rt: HostRuntime) -> Result<(), Fail> {
-    for (text, wanted) in [
-        ("0", Some((0, 0))),
-        ("0000000255,", Some((255, 1))),
-        ("9999999999 x", Some((9_999_999_999, 2))),
-        ("12345678901", None),
-        ("", None),
-        (" 1", None),
-        ("-1", None),
-        ("a", None),
-    ] {
-        assert!(rt; number_of(text) == wanted, "at {text:?}");
+/// Whether a TEXT of so many bytes is read.
+fn reads_text_of(alloc: Global, len: usize) -> Option<bool> {
+    match &nested(alloc, len, ["\"", "x", "\"", ""]) {
+        Ok(text) => Some(text_fault(alloc, text.as_str()).is_none()),
+        Err(_) => None,
     }
-    Ok(())
 }
 
 #[test]
-fn a_text_has_its_escapes(rt: HostRuntime) -> Result<(), Fail> {
-    let alloc = rt.alloc();
-    assert!(rt; is_text(alloc, b"\"\"", b"", 0));
-    assert!(rt; is_text(alloc, b"\"a #~\" force", b"a #~", 6));
-    let escapes: &[u8] = b"\"\\n\\r\\t\\\\\\\"\\x00\\x7f\\xff\\x9a0\"\"";
-    let bytes: &[u8] = b"\n\r\t\\\"\x00\x7f\xff\x9a0";
-    assert!(rt; is_text(alloc, escapes, bytes, 1));
-    for bad in [
-        "",
-        "a",
-        "\"",
-        "\"a",
-        "\"\\\"",
-        "\"\\q\"",
-        "\"\\x1\"",
-        "\"\\xFF\"",
-        "\"\\xg0\"",
-    ] {
-        assert!(rt;
-            text_fault(alloc, bad) == Some(PartFault::Bad),
-            "at {bad:?}"
-        );
-    }
-    Ok(())
+fn a_text_has_at_most_262143_bytes(rt: HostRuntime) {
+    is_right(&rt, reads_text_of(rt.alloc(), 262_143) == Some(true));
+    is_right(&rt, reads_text_of(rt.alloc(), 262_144) == Some(false));
 }
 
-#[test]
-fn a_text_has_at_most_262143_bytes(rt: HostRuntime) -> Result<(), Fail> {
-    let alloc = rt.alloc();
-    for (len, is_read) in [(262_143, true), (262_144, false)] {
-        let text = nested(alloc, len, "x", "\"", "")?;
-        let quoted = format!(in alloc; "\"{text}")?;
-        let fault = text_fault(alloc, quoted.as_str());
-        assert!(rt; fault.is_none() == is_read, "at {len}");
-    }
-    Ok(())
+/// What is read of a text.
+#[derive(Clone, Copy)]
+enum ReadPart {
+    IoList,
+    Content,
+    Term,
 }
 
-#[test]
-fn an_io_list_is_read_from_left_to_right(rt: HostRuntime) -> Result<(), Fail> {
-    let alloc = rt.alloc();
-    for (text, wanted) in [
-        ("\"abc\"", "[97, 98, 99] 0"),
-        ("[97, \"b\", [\"c\"]] ", "[97, 98, 99] 1"),
-        ("[]x", "[] 1"),
-        ("[  ]", "[] 0"),
-        ("[ 1 ,[ 2,003 ] ,\"\\n\",[] ]", "[1, 2, 3, 10] 0"),
-        ("1", "bad"),
-        ("[1,]", "bad"),
-        ("[,1]", "bad"),
-        ("[1 2]", "bad"),
-        ("[1", "bad"),
-        ("[255, 256]", "bad"),
-        ("[00000000001]", "bad"),
-        ("[-0]", "bad"),
-        ("[a]", "bad"),
-        ("{1}", "bad"),
-        (" \"a\"", "bad"),
-    ] {
-        let shown = shown_io_list(alloc, text)?;
-        assert_eq!(rt; shown.as_str(), wanted, "at {text:?}");
-    }
-    Ok(())
+/// Whether a part that is read is shown so.
+fn is_shown(alloc: Global, part: ReadPart, text: &str, wanted: &str) -> bool {
+    let shown = match part {
+        ReadPart::IoList => shown_io_list(alloc, text),
+        ReadPart::Content => shown_content(alloc, text),
+        ReadPart::Term => shown_term(alloc, text),
+    };
+    matches!(&shown, Ok(shown) if shown.as_str() == wanted)
 }
 
-#[test]
-fn only_a_text_without_escapes_is_borrowed(rt: HostRuntime) -> Result<(), Fail> {
-    let alloc = rt.alloc();
-    for (text, wanted) in [
-        ("\"ab\" c", "borrowed [97, 98] 2"),
-        ("\"\"", "borrowed [] 0"),
-        ("\"a\\n\",", "owned [97, 10] 1"),
-        ("\"\\\\\"", "owned [92] 0"),
-        ("ab\"", "bad"),
-        ("\"ab", "bad"),
-        ("\"\\q\"", "bad"),
-    ] {
-        let shown = shown_content(alloc, text)?;
-        assert_eq!(rt; shown.as_str(), wanted, "at {text:?}");
+/// The place of the first text of which a part is shown otherwise, if there is one.
+fn first_shown_otherwise(alloc: Global, part: ReadPart, cases: &[(&str, &str)]) -> Option<usize> {
+    for (at, case) in cases.iter().enumerate() {
+        let (text, wanted) = *case;
+        if !is_shown(alloc, part, text, wanted) {
+            return Some(at);
+        }
     }
-    Ok(())
+    None
+}
+
+/// Texts of IOLISTs, each with its bytes and the number of bytes behind it, or `bad` where it isn't an IOLIST.
+const IO_LISTS: [(&str, &str); 16] = [
+    ("\"abc\"", "[97, 98, 99] 0"),
+    ("[97, \"b\", [\"c\"]] ", "[97, 98, 99] 1"),
+    ("[]x", "[] 1"),
+    ("[  ]", "[] 0"),
+    ("[ 1 ,[ 2,003 ] ,\"\\n\",[] ]", "[1, 2, 3, 10] 0"),
+    ("1", "bad"),
+    ("[1,]", "bad"),
+    ("[,1]", "bad"),
+    ("[1 2]", "bad"),
+    ("[1", "bad"),
+    ("[255, 256]", "bad"),
+    ("[00000000001]", "bad"),
+    ("[-0]", "bad"),
+    ("[a]", "bad"),
+    ("{1}", "bad"),
+    (" \"a\"", "bad"),
+];
+
+#[test]
+fn an_io_list_is_read_from_left_to_right(rt: HostRuntime) {
+    none_is_wrong(
+        &rt,
+        first_shown_otherwise(rt.alloc(), ReadPart::IoList, &IO_LISTS),
+    );
+}
+
+/// TEXTs, each with how its bytes are lent and the number of bytes behind it, or `bad` where it isn't a TEXT.
+const CONTENTS: [(&str, &str); 7] = [
+    ("\"ab\" c", "borrowed [97, 98] 2"),
+    ("\"\"", "borrowed [] 0"),
+    ("\"a\\n\",", "owned [97, 10] 1"),
+    ("\"\\\\\"", "owned [92] 0"),
+    ("ab\"", "bad"),
+    ("\"ab", "bad"),
+    ("\"\\q\"", "bad"),
+];
+
+#[test]
+fn only_a_text_without_escapes_is_borrowed(rt: HostRuntime) {
+    none_is_wrong(
+        &rt,
+        first_shown_otherwise(rt.alloc(), ReadPart::Content, &CONTENTS),
+    );
 }
 
 /// Texts of TERMs, each with its external form and the number of bytes behind it, or `bad` where it isn't a TERM.
@@ -257,45 +323,61 @@ const TERMS: [(&str, &str); 22] = [
 ];
 
 #[test]
-fn a_term_is_written_in_its_external_form(rt: HostRuntime) -> Result<(), Fail> {
-    let alloc = rt.alloc();
-    for (text, wanted) in TERMS {
-        let shown = shown_term(alloc, text)?;
-        assert_eq!(rt; shown.as_str(), wanted, "at {text:?}");
-    }
-    Ok(())
+fn a_term_is_written_in_its_external_form(rt: HostRuntime) {
+    none_is_wrong(
+        &rt,
+        first_shown_otherwise(rt.alloc(), ReadPart::Term, &TERMS),
+    );
 }
 
-#[test]
-fn data_has_at_most_64_levels(rt: HostRuntime) -> Result<(), Fail> {
-    let alloc = rt.alloc();
-    for (levels, inner, is_read) in [
-        (64, "", true),
-        (65, "", false),
-        (63, "7", true),
-        (64, "7", false),
-        (63, "\"\"", true),
-    ] {
-        let text = nested(alloc, levels, "[", inner, "]")?;
-        assert!(rt; is_io_list(alloc, text.as_str()) == is_read, "at {levels}");
-        assert!(rt; is_term(alloc, text.as_str()) == is_read, "at {levels}");
+/// Whether a text is read as an IOLIST, and whether as a TERM.
+fn reads(alloc: Global, levels: usize, parts: LongParts<'_>) -> Option<(bool, bool)> {
+    match &nested(alloc, levels, parts) {
+        Ok(text) => Some((
+            is_io_list(alloc, text.as_str()),
+            is_term(alloc, text.as_str()),
+        )),
+        Err(_) => None,
     }
-    // The items of a TEXT in a TERM are one level deeper.
-    let text = nested(alloc, 63, "{", "\"a\"", "}")?;
-    assert!(rt; !is_term(alloc, text.as_str()));
-    let text = nested(alloc, 63, "[", "\"a\"", "]")?;
-    assert!(rt; is_io_list(alloc, text.as_str()));
-    Ok(())
 }
 
-#[test]
-fn a_list_has_at_most_262143_items(rt: HostRuntime) -> Result<(), Fail> {
-    let alloc = rt.alloc();
-    for (more, is_read) in [(262_142, true), (262_143, false)] {
-        let items = nested(alloc, more, "1,", "1]", "")?;
-        let text = format!(in alloc; "[{items}")?;
-        assert!(rt; is_io_list(alloc, text.as_str()) == is_read, "at {more}");
-        assert!(rt; is_term(alloc, text.as_str()) == is_read, "at {more}");
+/// A text of so many levels, and whether it is read as an IOLIST and as a TERM.
+type LongCase = (usize, LongParts<'static>, (bool, bool));
+
+/// The place of the first text that is read otherwise, if there is one.
+fn first_read_otherwise(alloc: Global, cases: &[LongCase]) -> Option<usize> {
+    for (at, case) in cases.iter().enumerate() {
+        let (levels, parts, wanted) = *case;
+        if reads(alloc, levels, parts) != Some(wanted) {
+            return Some(at);
+        }
     }
-    Ok(())
+    None
+}
+
+/// Deep texts. The items of a TEXT in a TERM are one level deeper than the TEXT.
+const DEEP_TEXTS: [LongCase; 7] = [
+    (64, ["", "[", "", "]"], (true, true)),
+    (65, ["", "[", "", "]"], (false, false)),
+    (63, ["", "[", "7", "]"], (true, true)),
+    (64, ["", "[", "7", "]"], (false, false)),
+    (63, ["", "[", "\"\"", "]"], (true, true)),
+    (63, ["", "{", "\"a\"", "}"], (false, false)),
+    (63, ["", "[", "\"a\"", "]"], (true, false)),
+];
+
+#[test]
+fn data_has_at_most_64_levels(rt: HostRuntime) {
+    none_is_wrong(&rt, first_read_otherwise(rt.alloc(), &DEEP_TEXTS));
+}
+
+/// Lists of so many items and one more.
+const LONG_LISTS: [LongCase; 2] = [
+    (262_142, ["[", "1,", "1]", ""], (true, true)),
+    (262_143, ["[", "1,", "1]", ""], (false, false)),
+];
+
+#[test]
+fn a_list_has_at_most_262143_items(rt: HostRuntime) {
+    none_is_wrong(&rt, first_read_otherwise(rt.alloc(), &LONG_LISTS));
 }
