@@ -1,6 +1,7 @@
 //! What a context records, in its order.
 ghost use Rattle.std.specs.Prelude.{◌<◌, IsTrue, length};
 
+use crate::checks::is_right;
 use crate::port::context;
 use crate::shown::{ShownEffect, are_shown};
 use driver_queue::DriverQueue;
@@ -105,7 +106,7 @@ const TOLD: [ShownEffect; 3] = [
 
 #[test]
 fn what_is_told_to_the_owner_stands_in_order(rt: HostRuntime) {
-    assert!(rt; leaves(rt.alloc(), &TELLING, &TOLD));
+    is_right(&rt, leaves(rt.alloc(), &TELLING, &TOLD));
 }
 
 const CONCERNING: [ContextCall; 3] = [
@@ -122,7 +123,7 @@ const CONCERNED: [ShownEffect; 3] = [
 
 #[test]
 fn what_concerns_the_port_stands_in_order(rt: HostRuntime) {
-    assert!(rt; leaves(rt.alloc(), &CONCERNING, &CONCERNED));
+    is_right(&rt, leaves(rt.alloc(), &CONCERNING, &CONCERNED));
 }
 
 const REPLYING: [ContextCall; 2] = [ContextCall::Reply(b"ab"), ContextCall::ReplyBadarg];
@@ -131,7 +132,7 @@ const REPLIED: [ShownEffect; 2] = [ShownEffect::Reply(b"ab"), ShownEffect::Reply
 
 #[test]
 fn answers_of_a_driver_stand_in_order(rt: HostRuntime) {
-    assert!(rt; leaves(rt.alloc(), &REPLYING, &REPLIED));
+    is_right(&rt, leaves(rt.alloc(), &REPLYING, &REPLIED));
 }
 
 /// A context in which the outside took two bytes and then ended.
@@ -158,7 +159,7 @@ fn answers(alloc: Global) -> bool {
 
 #[test]
 fn answers_of_the_outside_stand_in_order(rt: HostRuntime) {
-    assert!(rt; answers(rt.alloc()));
+    is_right(&rt, answers(rt.alloc()));
 }
 
 /// The number of a new job of code 1.
@@ -187,7 +188,7 @@ fn numbers(alloc: Global) -> Option<(u64, u64, u64)> {
 
 #[test]
 fn jobs_are_numbered_on(rt: HostRuntime) {
-    assert!(rt; numbers(rt.alloc()) == Some((4, 5, 6)));
+    is_right(&rt, numbers(rt.alloc()) == Some((4, 5, 6)));
 }
 
 const SELECTING: [ContextCall; 2] = [ContextCall::SelectRead(5), ContextCall::Unuse(5)];
@@ -196,7 +197,7 @@ const SELECTED: [ShownEffect; 2] = [ShownEffect::SelectsRead(5), ShownEffect::Un
 
 #[test]
 fn an_event_is_selected_and_given_up(rt: HostRuntime) {
-    assert!(rt; leaves(rt.alloc(), &SELECTING, &SELECTED));
+    is_right(&rt, leaves(rt.alloc(), &SELECTING, &SELECTED));
 }
 
 /// The events 1 to 64.
@@ -227,5 +228,5 @@ fn faults(alloc: Global) -> Option<(Option<SelectFault>, Option<SelectFault>)> {
 #[test]
 fn event_65_is_one_too_many(rt: HostRuntime) {
     let full = Some(SelectFault::Full { held: 64 });
-    assert!(rt; faults(rt.alloc()) == Some((None, full)));
+    is_right(&rt, faults(rt.alloc()) == Some((None, full)));
 }

@@ -1,9 +1,11 @@
 //! The other kinds, by what each call shows.
 
+use crate::checks::{is_right, none_is_wrong};
 use crate::port::{DriverCallback, DriverSight, DriverStep, first_wrong, is_named, refuses};
 use crate::shown::ShownEffect;
 use port_driver::{Driver, StartRefusal};
 use sample_drivers::{Digest, Echo, Refuse, Refused, Tally, Valve};
+use std::alloc::Global;
 
 /// A command of two segments, of three bytes.
 const TWO_SEGMENTS: DriverStep = DriverStep::Make(DriverCallback::Command(&[b"ab", b"c"]));
@@ -20,7 +22,7 @@ const ECHO_SENDS: [DriverStep; 4] = [
 
 #[test]
 fn echo_sends_the_segments_of_a_command_as_one(rt: HostRuntime) {
-    assert_eq!(rt; first_wrong(rt.alloc(), Echo::new(), &ECHO_SENDS), None);
+    none_is_wrong(&rt, first_wrong(rt.alloc(), Echo::new(), &ECHO_SENDS));
 }
 
 const ECHO_ANSWERS: [DriverStep; 6] = [
@@ -34,7 +36,7 @@ const ECHO_ANSWERS: [DriverStep; 6] = [
 
 #[test]
 fn echo_answers_operation_1_with_its_bytes(rt: HostRuntime) {
-    assert_eq!(rt; first_wrong(rt.alloc(), Echo::new(), &ECHO_ANSWERS), None);
+    none_is_wrong(&rt, first_wrong(rt.alloc(), Echo::new(), &ECHO_ANSWERS));
 }
 
 const TALLY_NUMBERS: [DriverStep; 4] = [
@@ -46,7 +48,7 @@ const TALLY_NUMBERS: [DriverStep; 4] = [
 
 #[test]
 fn tally_answers_two_numbers_of_8_bytes(rt: HostRuntime) {
-    assert_eq!(rt; first_wrong(rt.alloc(), Tally::new(), &TALLY_NUMBERS), None);
+    none_is_wrong(&rt, first_wrong(rt.alloc(), Tally::new(), &TALLY_NUMBERS));
 }
 
 const TALLY_TERM: [DriverStep; 4] = [
@@ -58,7 +60,7 @@ const TALLY_TERM: [DriverStep; 4] = [
 
 #[test]
 fn tally_answers_a_term(rt: HostRuntime) {
-    assert_eq!(rt; first_wrong(rt.alloc(), Tally::new(), &TALLY_TERM), None);
+    none_is_wrong(&rt, first_wrong(rt.alloc(), Tally::new(), &TALLY_TERM));
 }
 
 const TALLY_WATCHES: [DriverStep; 7] = [
@@ -73,7 +75,7 @@ const TALLY_WATCHES: [DriverStep; 7] = [
 
 #[test]
 fn tally_watches_the_caller_and_tells_its_end(rt: HostRuntime) {
-    assert_eq!(rt; first_wrong(rt.alloc(), Tally::new(), &TALLY_WATCHES), None);
+    none_is_wrong(&rt, first_wrong(rt.alloc(), Tally::new(), &TALLY_WATCHES));
 }
 
 const VALVE_SENDS: [DriverStep; 3] = [
@@ -84,15 +86,14 @@ const VALVE_SENDS: [DriverStep; 3] = [
 
 #[test]
 fn valve_sends_the_segments_of_a_command_as_one(rt: HostRuntime) {
-    assert_eq!(rt; first_wrong(rt.alloc(), Valve::new(), &VALVE_SENDS), None);
+    none_is_wrong(&rt, first_wrong(rt.alloc(), Valve::new(), &VALVE_SENDS));
 }
 
 #[test]
 fn a_soft_valve_says_so_by_its_name(rt: HostRuntime) {
-    let valve = Valve::soft();
-    assert!(rt; valve.soft_busy());
-    assert!(rt; is_named(&valve, b"valve_soft"));
-    assert!(rt; is_named(&Valve::new(), b"valve"));
+    is_right(&rt, Valve::soft().soft_busy());
+    is_right(&rt, is_named(&Valve::soft(), b"valve_soft"));
+    is_right(&rt, is_named(&Valve::new(), b"valve"));
 }
 
 const SOFT_VALVE: [DriverStep; 7] = [
@@ -107,7 +108,7 @@ const SOFT_VALVE: [DriverStep; 7] = [
 
 #[test]
 fn a_soft_valve_is_set_busy_and_freed(rt: HostRuntime) {
-    assert_eq!(rt; first_wrong(rt.alloc(), Valve::soft(), &SOFT_VALVE), None);
+    none_is_wrong(&rt, first_wrong(rt.alloc(), Valve::soft(), &SOFT_VALVE));
 }
 
 const DIGEST_JOBS: [DriverStep; 6] = [
@@ -121,7 +122,7 @@ const DIGEST_JOBS: [DriverStep; 6] = [
 
 #[test]
 fn digest_makes_a_job_of_two_segments(rt: HostRuntime) {
-    assert_eq!(rt; first_wrong(rt.alloc(), Digest::new(), &DIGEST_JOBS), None);
+    none_is_wrong(&rt, first_wrong(rt.alloc(), Digest::new(), &DIGEST_JOBS));
 }
 
 const DIGEST_FAILS: [DriverStep; 2] = [
@@ -131,13 +132,26 @@ const DIGEST_FAILS: [DriverStep; 2] = [
 
 #[test]
 fn digest_fails_where_a_command_makes_no_job(rt: HostRuntime) {
-    assert_eq!(rt; first_wrong(rt.alloc(), Digest::new(), &DIGEST_FAILS), None);
+    none_is_wrong(&rt, first_wrong(rt.alloc(), Digest::new(), &DIGEST_FAILS));
+}
+
+/// Whether a refuser refuses so.
+fn is_refused(alloc: Global, refused: Refused, wanted: StartRefusal) -> bool {
+    refuses(alloc, Refuse::new(refused), wanted)
 }
 
 #[test]
 fn each_refuser_has_its_refusal(rt: HostRuntime) {
-    let alloc = rt.alloc();
-    assert!(rt; refuses(alloc, Refuse::new(Refused::General), StartRefusal::General));
-    assert!(rt; refuses(alloc, Refuse::new(Refused::Errno), StartRefusal::Errno));
-    assert!(rt; refuses(alloc, Refuse::new(Refused::Badarg), StartRefusal::Badarg));
+    is_right(
+        &rt,
+        is_refused(rt.alloc(), Refused::General, StartRefusal::General),
+    );
+    is_right(
+        &rt,
+        is_refused(rt.alloc(), Refused::Errno, StartRefusal::Errno),
+    );
+    is_right(
+        &rt,
+        is_refused(rt.alloc(), Refused::Badarg, StartRefusal::Badarg),
+    );
 }

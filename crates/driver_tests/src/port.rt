@@ -100,6 +100,97 @@ pub(crate) fn refuses<D: Driver>(alloc: Global, driver: D, wanted: StartRefusal)
     start(alloc, &mut driver) == Err(wanted) && driver.life() == Life::Stopped
 }
 
+/// Hands a command to a driver.
+fn command<D: Driver>(
+    alloc: Global,
+    driver: &mut D,
+    ctx: &mut DriverCtx,
+    segments: &[&[u8]],
+) -> bool
+    requires { MayCall (D.stage driver.old) ctx.old }
+{
+    match &vector(alloc, segments) {
+        Some(payload) => driver.outputv(alloc, ctx, payload).is_ok(),
+        None => false,
+    }
+}
+
+/// What a driver answers to an operation on some bytes.
+fn control<D: Driver>(
+    alloc: Global,
+    driver: &mut D,
+    ctx: &mut DriverCtx,
+    op: u32,
+    bytes: &[u8],
+) -> Option<ReplyTo>
+    requires { MayCall (D.stage driver.old) ctx.old }
+{
+    match &Piece::of_slice(alloc, bytes) {
+        Ok(piece) => driver.control(alloc, ctx, op, piece).ok(),
+        Err(_) => None,
+    }
+}
+
+/// What a driver answers to an operation on the external form of a term.
+fn call<D: Driver>(
+    alloc: Global,
+    driver: &mut D,
+    ctx: &mut DriverCtx,
+    op: u32,
+    bytes: &[u8],
+) -> Option<ReplyTo>
+    requires { MayCall (D.stage driver.old) ctx.old }
+{
+    match &Piece::of_slice(alloc, bytes) {
+        Ok(piece) => driver.call(alloc, ctx, op, piece).ok(),
+        Err(_) => None,
+    }
+}
+
+/// Tells a driver that its job of this number is done.
+fn job_done<D: Driver>(
+    alloc: Global,
+    driver: &mut D,
+    ctx: &mut DriverCtx,
+    number: u64,
+    output: &[u8],
+) -> bool
+    requires { MayCall (D.stage driver.old) ctx.old }
+{
+    match &Piece::of_slice(alloc, output) {
+        Ok(piece) => driver.ready_async(alloc, ctx, number, piece).is_ok(),
+        Err(_) => false,
+    }
+}
+
+/// Whether an operation was made, and what it answered.
+fn answered(answer: Option<ReplyTo>) -> (bool, Option<ReplyTo>) {
+    (answer.is_some(), answer)
+}
+
+/// Makes a callback of a driver. Whether it was made, and what it answered.
+fn call_back<D: Driver>(
+    alloc: Global,
+    driver: &mut D,
+    ctx: &mut DriverCtx,
+    callback: DriverCallback,
+) -> (bool, Option<ReplyTo>)
+    requires { MayCall (D.stage driver.old) ctx.old }
+{
+    match callback {
+        DriverCallback::Command(segments) => (command(alloc, driver, ctx, segments), None),
+        DriverCallback::Control(op, bytes) => answered(control(alloc, driver, ctx, op, bytes)),
+        DriverCallback::Call(op, bytes) => answered(call(alloc, driver, ctx, op, bytes)),
+        DriverCallback::JobDone(number, output) => {
+            (job_done(alloc, driver, ctx, number, output), None)
+        }
+        DriverCallback::ProcessEnded(process) => {
+            (driver.process_exit(alloc, ctx, process).is_ok(), None)
+        }
+        DriverCallback::Flush => (driver.flush(alloc, ctx).is_ok(), None),
+    }
+}
+
 impl<D: Driver> DrivenPort<D> {
     /// A port that this driver serves.
     fn open(alloc: Global, mut driver: D) -> Option<DrivenPort<D>> {
@@ -146,92 +237,14 @@ impl<D: Driver> DrivenPort<D> {
         self.effects = effects;
     }
 
-    /// Hands a command to the driver.
-    fn command(&mut self, segments: &[&[u8]]) -> bool {
-        let Some(payload) = vector(self.alloc, segments) else {
-            return false;
-        };
-        let Some(mut ctx) = self.begin() else {
-            return false;
-        };
-        let made = self.driver.outputv(self.alloc, &mut ctx, &payload);
-        self.end(ctx, None);
-        made.is_ok()
-    }
-
-    /// Has the driver make an operation on some bytes.
-    fn control(&mut self, op: u32, bytes: &[u8]) -> bool {
-        let Ok(piece) = Piece::of_slice(self.alloc, bytes) else {
-            return false;
-        };
-        let Some(mut ctx) = self.begin() else {
-            return false;
-        };
-        let answer = self.driver.control(self.alloc, &mut ctx, op, &piece).ok();
-        let made = answer.is_some();
-        self.end(ctx, answer);
-        made
-    }
-
-    /// Has the driver make an operation on the external form of a term.
-    fn call(&mut self, op: u32, bytes: &[u8]) -> bool {
-        let Ok(piece) = Piece::of_slice(self.alloc, bytes) else {
-            return false;
-        };
-        let Some(mut ctx) = self.begin() else {
-            return false;
-        };
-        let answer = self.driver.call(self.alloc, &mut ctx, op, &piece).ok();
-        let made = answer.is_some();
-        self.end(ctx, answer);
-        made
-    }
-
-    /// Tells the driver that its job of this number is done.
-    fn job_done(&mut self, number: u64, output: &[u8]) -> bool {
-        let Ok(piece) = Piece::of_slice(self.alloc, output) else {
-            return false;
-        };
-        let Some(mut ctx) = self.begin() else {
-            return false;
-        };
-        let made = self
-            .driver
-            .ready_async(self.alloc, &mut ctx, number, &piece);
-        self.end(ctx, None);
-        made.is_ok()
-    }
-
-    /// Tells the driver that this process has ended.
-    fn process_ended(&mut self, process: u32) -> bool {
-        let Some(mut ctx) = self.begin() else {
-            return false;
-        };
-        let made = self.driver.process_exit(self.alloc, &mut ctx, process);
-        self.end(ctx, None);
-        made.is_ok()
-    }
-
-    /// Has the driver flushed.
-    fn flush(&mut self) -> bool {
-        let Some(mut ctx) = self.begin() else {
-            return false;
-        };
-        let made = self.driver.flush(self.alloc, &mut ctx);
-        self.end(ctx, None);
-        made.is_ok()
-    }
-
     /// Makes a callback.
     fn make(&mut self, callback: DriverCallback) -> bool {
-        match callback {
-            DriverCallback::Command(segments) => self.command(segments),
-            DriverCallback::Control(op, bytes) => self.control(op, bytes),
-            DriverCallback::Call(op, bytes) => self.call(op, bytes),
-            DriverCallback::JobDone(number, output) => self.job_done(number, output),
-            DriverCallback::ProcessEnded(process) => self.process_ended(process),
-            DriverCallback::Flush => self.flush(),
-        }
+        let Some(mut ctx) = self.begin() else {
+            return false;
+        };
+        let (made, answer) = call_back(self.alloc, &mut self.driver, &mut ctx, callback);
+        self.end(ctx, answer);
+        made
     }
 
     /// Whether the driver's port shows this.

@@ -1,6 +1,7 @@
 //! The queue of a driver, by the calls of its context.
 ghost use Rattle.std.specs.Prelude.{◌≡◌, ◌+◌, ◌^◌, ◌<◌, ◌++◌, length, OnOk, OnErr};
 
+use crate::checks::{is_right, none_is_wrong};
 use crate::port::{context, vector};
 use driver_queue::{DeqPast, DriverQueue, EnqFault};
 use port_driver::DriverCtx;
@@ -186,7 +187,7 @@ const BEHIND: [DriverQueueStep; 5] = [
 
 #[test]
 fn a_vector_is_put_behind_but_for_what_is_skipped(rt: HostRuntime) {
-    assert_eq!(rt; first_wrong(rt.alloc(), &BEHIND), None);
+    none_is_wrong(&rt, first_wrong(rt.alloc(), &BEHIND));
 }
 
 const BOTH_ENDS: [DriverQueueStep; 4] = [
@@ -198,7 +199,7 @@ const BOTH_ENDS: [DriverQueueStep; 4] = [
 
 #[test]
 fn pieces_are_put_behind_and_in_front(rt: HostRuntime) {
-    assert_eq!(rt; first_wrong(rt.alloc(), &BOTH_ENDS), None);
+    none_is_wrong(&rt, first_wrong(rt.alloc(), &BOTH_ENDS));
 }
 
 const IN_FRONT: [DriverQueueStep; 3] = [
@@ -209,7 +210,7 @@ const IN_FRONT: [DriverQueueStep; 3] = [
 
 #[test]
 fn a_vector_is_put_in_front_in_its_order(rt: HostRuntime) {
-    assert_eq!(rt; first_wrong(rt.alloc(), &IN_FRONT), None);
+    none_is_wrong(&rt, first_wrong(rt.alloc(), &IN_FRONT));
 }
 
 /// Whether reserved room takes two pieces.
@@ -222,7 +223,7 @@ fn takes_two(alloc: Global) -> bool {
 
 #[test]
 fn reserved_room_takes_two_pieces(rt: HostRuntime) {
-    assert!(rt; takes_two(rt.alloc()));
+    is_right(&rt, takes_two(rt.alloc()));
 }
 
 const DROPPED: [DriverQueueStep; 6] = [
@@ -236,7 +237,7 @@ const DROPPED: [DriverQueueStep; 6] = [
 
 #[test]
 fn first_bytes_are_dropped(rt: HostRuntime) {
-    assert_eq!(rt; first_wrong(rt.alloc(), &DROPPED), None);
+    none_is_wrong(&rt, first_wrong(rt.alloc(), &DROPPED));
 }
 
 const JOINED: [DriverQueueStep; 5] = [
@@ -249,7 +250,7 @@ const JOINED: [DriverQueueStep; 5] = [
 
 #[test]
 fn the_whole_queue_becomes_one_piece(rt: HostRuntime) {
-    assert_eq!(rt; first_wrong(rt.alloc(), &JOINED), None);
+    none_is_wrong(&rt, first_wrong(rt.alloc(), &JOINED));
 }
 
 const CLEARED: [DriverQueueStep; 4] = [
@@ -261,5 +262,5 @@ const CLEARED: [DriverQueueStep; 4] = [
 
 #[test]
 fn a_cleared_queue_is_drained(rt: HostRuntime) {
-    assert_eq!(rt; first_wrong(rt.alloc(), &CLEARED), None);
+    none_is_wrong(&rt, first_wrong(rt.alloc(), &CLEARED));
 }

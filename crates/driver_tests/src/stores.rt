@@ -1,5 +1,6 @@
 //! The kind `store`, by what its queue has after each call.
 
+use crate::checks::none_is_wrong;
 use crate::port::{DriverCallback, DriverSight, DriverStep, first_wrong};
 use crate::shown::ShownEffect;
 use sample_drivers::Store;
@@ -16,7 +17,7 @@ const SIZE: [DriverStep; 4] = [
 
 #[test]
 fn control_2_answers_how_many_bytes_are_queued(rt: HostRuntime) {
-    assert_eq!(rt; first_wrong(rt.alloc(), Store::new(), &SIZE), None);
+    none_is_wrong(&rt, first_wrong(rt.alloc(), Store::new(), &SIZE));
 }
 
 const JOINED_ONCE: [DriverStep; 5] = [
@@ -29,7 +30,7 @@ const JOINED_ONCE: [DriverStep; 5] = [
 
 #[test]
 fn control_3_joins_the_segments_once(rt: HostRuntime) {
-    assert_eq!(rt; first_wrong(rt.alloc(), Store::new(), &JOINED_ONCE), None);
+    none_is_wrong(&rt, first_wrong(rt.alloc(), Store::new(), &JOINED_ONCE));
 }
 
 const JOINED_AGAIN: [DriverStep; 5] = [
@@ -42,7 +43,7 @@ const JOINED_AGAIN: [DriverStep; 5] = [
 
 #[test]
 fn control_3_answers_the_same_bytes_again(rt: HostRuntime) {
-    assert_eq!(rt; first_wrong(rt.alloc(), Store::new(), &JOINED_AGAIN), None);
+    none_is_wrong(&rt, first_wrong(rt.alloc(), Store::new(), &JOINED_AGAIN));
 }
 
 const IN_FRONT: [DriverStep; 5] = [
@@ -55,7 +56,7 @@ const IN_FRONT: [DriverStep; 5] = [
 
 #[test]
 fn control_4_puts_its_bytes_in_front(rt: HostRuntime) {
-    assert_eq!(rt; first_wrong(rt.alloc(), Store::new(), &IN_FRONT), None);
+    none_is_wrong(&rt, first_wrong(rt.alloc(), Store::new(), &IN_FRONT));
 }
 
 const BEHIND: [DriverStep; 5] = [
@@ -68,7 +69,7 @@ const BEHIND: [DriverStep; 5] = [
 
 #[test]
 fn control_5_skips_bytes_and_puts_the_others_behind(rt: HostRuntime) {
-    assert_eq!(rt; first_wrong(rt.alloc(), Store::new(), &BEHIND), None);
+    none_is_wrong(&rt, first_wrong(rt.alloc(), Store::new(), &BEHIND));
 }
 
 const SKIPPED_PAST: [DriverStep; 7] = [
@@ -83,7 +84,7 @@ const SKIPPED_PAST: [DriverStep; 7] = [
 
 #[test]
 fn control_5_refuses_to_skip_past_its_bytes(rt: HostRuntime) {
-    assert_eq!(rt; first_wrong(rt.alloc(), Store::new(), &SKIPPED_PAST), None);
+    none_is_wrong(&rt, first_wrong(rt.alloc(), Store::new(), &SKIPPED_PAST));
 }
 
 const TAKEN: [DriverStep; 6] = [
@@ -97,7 +98,7 @@ const TAKEN: [DriverStep; 6] = [
 
 #[test]
 fn control_1_takes_bytes_of_two_segments(rt: HostRuntime) {
-    assert_eq!(rt; first_wrong(rt.alloc(), Store::new(), &TAKEN), None);
+    none_is_wrong(&rt, first_wrong(rt.alloc(), Store::new(), &TAKEN));
 }
 
 const FLUSHED: [DriverStep; 4] = [
@@ -109,5 +110,5 @@ const FLUSHED: [DriverStep; 4] = [
 
 #[test]
 fn a_flush_sends_all_and_empties_the_queue(rt: HostRuntime) {
-    assert_eq!(rt; first_wrong(rt.alloc(), Store::new(), &FLUSHED), None);
+    none_is_wrong(&rt, first_wrong(rt.alloc(), Store::new(), &FLUSHED));
 }
