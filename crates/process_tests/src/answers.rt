@@ -1,114 +1,166 @@
-use crate::rig::{WatchedPort, no_limits, small_limits};
-use crate::sender::{PERIOD, SendAnswer, sent, set_up};
+use crate::rig::{TakenTask, no_limits, small_limits};
+use crate::sender::{PERIOD, PortSender, SendAnswer, set_up, set_up_busy};
+use crate::steps::{Step, follow};
 use process_end::{How, Outcome, Receipt, SendRefusal, Shown};
+use std::alloc::Global;
 use std::sync::Wait;
-use std::test::Fail;
 
-/// The MSGQ word that the next task of the port leaves, where that is a command.
-fn take<R: Wait>(rt: &R, port: &mut WatchedPort) -> Option<u64> {
-    match port.take(rt) {
-        Some(taken) => taken.msgq,
-        None => None,
-    }
+/// A sender whose command was dropped, since its port was busy, and whose port is free again.
+fn freed<R: Wait>(rt: &R, alloc: Global) -> Option<PortSender> {
+    let mut sender = set_up_busy(alloc, no_limits(), false)?;
+    let is_freed = sender.send(rt, 1, 1, How::NoSuspend) == SendAnswer::Dropped(Shown::Stat(5))
+        && sender.port.marks_free();
+    is_freed.then_some(sender)
 }
 
-/// The receipt of a command that wasn't put, of line 1.
-fn refused(stat: Option<u64>, outcome: Outcome) -> Receipt {
-    Receipt {
+const FREED: [Step; 3] = [
+    Step::Send(2, 1, How::NoSuspend, SendAnswer::Accepted(0)),
+    Step::Look(8),
+    Step::Begin(Receipt {
         line: 1,
         port: 0,
         seq: None,
-        stat,
+        stat: Some(5),
         msgq: None,
-        outcome,
-    }
-}
+        outcome: Outcome::Dropped,
+    }),
+];
 
 #[test]
-fn without_suspension_a_busy_port_drops(rt: HostRuntime) -> Result<(), Fail> {
-    let mut sender = set_up(rt.alloc(), no_limits(), false)?;
-    assert!(rt; sender.port.marks_busy());
-    assert!(rt;
-        sender.send(&rt, sent(1, 1, How::NoSuspend)) == SendAnswer::Dropped(Shown::Stat(5))
-    );
-    assert!(rt; sender.port.marks_free());
-    assert!(rt; sender.send(&rt, sent(2, 1, How::NoSuspend)) == SendAnswer::Accepted(0));
-    assert!(rt; sender.look() == Some(8));
-    assert!(rt; sender.begins(&rt, &refused(Some(5), Outcome::Dropped)));
-    Ok(())
+fn without_suspension_a_busy_port_drops(rt: HostRuntime) {
+    let sender = freed(&rt, rt.alloc());
+    follow(&rt, sender, &FREED);
 }
 
-#[test]
-fn without_suspension_a_busy_queue_drops(rt: HostRuntime) -> Result<(), Fail> {
-    let mut sender = set_up(rt.alloc(), small_limits(), true)?;
-    assert!(rt; sender.send(&rt, sent(1, 4, How::Plain)) == SendAnswer::Accepted(0));
-    assert!(rt; sender.send(&rt, sent(2, 4, How::Force)) == SendAnswer::Accepted(1));
-    assert!(rt; take(&rt, &mut sender.port) == Some(PERIOD + 4));
-    let dropped = SendAnswer::Dropped(Shown::Msgq(1_099_511_627_780));
-    assert!(rt; sender.send(&rt, sent(3, 1, How::NoSuspend)) == dropped);
-    assert!(rt; take(&rt, &mut sender.port) == Some(2 * PERIOD));
-    assert!(rt; sender.send(&rt, sent(4, 1, How::NoSuspend)) == SendAnswer::Accepted(2));
-    Ok(())
-}
+const BUSY_QUEUE: [Step; 6] = [
+    Step::Send(1, 4, How::Plain, SendAnswer::Accepted(0)),
+    Step::Send(2, 4, How::Force, SendAnswer::Accepted(1)),
+    Step::Take(Some(TakenTask {
+        seq: 0,
+        suspends: false,
+        is_end: false,
+        msgq: Some(PERIOD + 4),
+    })),
+    Step::Send(
+        3,
+        1,
+        How::NoSuspend,
+        SendAnswer::Dropped(Shown::Msgq(1_099_511_627_780)),
+    ),
+    Step::Take(Some(TakenTask {
+        seq: 1,
+        suspends: false,
+        is_end: false,
+        msgq: Some(2 * PERIOD),
+    })),
+    Step::Send(4, 1, How::NoSuspend, SendAnswer::Accepted(2)),
+];
 
 #[test]
-fn a_driver_that_takes_no_force_refuses_it_busy_or_not(rt: HostRuntime) -> Result<(), Fail> {
-    let mut sender = set_up(rt.alloc(), no_limits(), false)?;
-    let refusal = SendAnswer::Refused(SendRefusal::NotSupported);
-    assert!(rt; sender.send(&rt, sent(1, 1, How::Force)) == refusal);
-    assert!(rt; sender.port.marks_busy());
-    assert!(rt; sender.send(&rt, sent(2, 1, How::ForceNoSuspend)) == refusal);
-    Ok(())
+fn without_suspension_a_busy_queue_drops(rt: HostRuntime) {
+    let sender = set_up(rt.alloc(), small_limits(), true);
+    follow(&rt, sender, &BUSY_QUEUE);
 }
 
+const NOT_SUPPORTED: SendAnswer = SendAnswer::Refused(SendRefusal::NotSupported);
+
+/// A sender whose forced command was refused, and whose port is busy since then.
+fn refused_and_busy<R: Wait>(rt: &R, alloc: Global) -> Option<PortSender> {
+    let mut sender = set_up(alloc, no_limits(), false)?;
+    let is_busy = sender.send(rt, 1, 1, How::Force) == NOT_SUPPORTED && sender.port.marks_busy();
+    is_busy.then_some(sender)
+}
+
+const FORCED_TO_BUSY: [Step; 1] = [Step::Send(2, 1, How::ForceNoSuspend, NOT_SUPPORTED)];
+
 #[test]
-fn a_busy_port_takes_force_where_its_driver_allows_it(rt: HostRuntime) -> Result<(), Fail> {
-    let mut sender = set_up(rt.alloc(), no_limits(), true)?;
-    assert!(rt; sender.port.marks_busy());
-    assert!(rt; sender.send(&rt, sent(1, 1, How::Force)) == SendAnswer::Accepted(0));
-    let forced = Receipt {
+fn a_driver_that_takes_no_force_refuses_it_busy_or_not(rt: HostRuntime) {
+    let sender = refused_and_busy(&rt, rt.alloc());
+    follow(&rt, sender, &FORCED_TO_BUSY);
+}
+
+const FORCED: [Step; 2] = [
+    Step::Send(1, 1, How::Force, SendAnswer::Accepted(0)),
+    Step::Begin(Receipt {
         line: 1,
         port: 0,
         seq: Some(0),
         stat: Some(5),
         msgq: Some(1),
         outcome: Outcome::Accepted,
-    };
-    assert!(rt; sender.begins(&rt, &forced));
-    Ok(())
-}
+    }),
+];
 
 #[test]
-fn a_closed_port_refuses_and_tells_how_many_marks_it_made(rt: HostRuntime) -> Result<(), Fail> {
-    let mut sender = set_up(rt.alloc(), no_limits(), false)?;
-    assert!(rt; sender.port.marks_busy());
-    assert!(rt; sender.port.marks_closed(11));
-    let refusal = SendAnswer::Refused(SendRefusal::Closed { mark: 2 });
-    assert!(rt; sender.send(&rt, sent(1, 1, How::Plain)) == refusal);
-    assert!(rt; sender.begins(&rt, &refused(Some(11), Outcome::Closed)));
-    assert!(rt; sender.port.take(&rt).is_none());
-    Ok(())
+fn a_busy_port_takes_force_where_its_driver_allows_it(rt: HostRuntime) {
+    let sender = set_up_busy(rt.alloc(), no_limits(), true);
+    follow(&rt, sender, &FORCED);
 }
 
+/// A sender whose port was busy and is closed.
+fn closed(alloc: Global) -> Option<PortSender> {
+    let mut sender = set_up_busy(alloc, no_limits(), false)?;
+    let is_closed = sender.port.marks_closed(11);
+    is_closed.then_some(sender)
+}
+
+const CLOSED: [Step; 3] = [
+    Step::Send(
+        1,
+        1,
+        How::Plain,
+        SendAnswer::Refused(SendRefusal::Closed { mark: 2 }),
+    ),
+    Step::Begin(Receipt {
+        line: 1,
+        port: 0,
+        seq: None,
+        stat: Some(11),
+        msgq: None,
+        outcome: Outcome::Closed,
+    }),
+    Step::Take(None),
+];
+
 #[test]
-fn a_refused_command_has_a_receipt(rt: HostRuntime) -> Result<(), Fail> {
-    for (bytes, how, refusal, outcome) in [
-        (
+fn a_closed_port_refuses_and_tells_how_many_marks_it_made(rt: HostRuntime) {
+    follow(&rt, closed(rt.alloc()), &CLOSED);
+}
+
+const REFUSED: [[Step; 2]; 2] = [
+    [
+        Step::Send(1, 1, How::Force, NOT_SUPPORTED),
+        Step::Begin(Receipt {
+            line: 1,
+            port: 0,
+            seq: None,
+            stat: None,
+            msgq: None,
+            outcome: Outcome::NotSupported,
+        }),
+    ],
+    [
+        Step::Send(
             1,
-            How::Force,
-            SendRefusal::NotSupported,
-            Outcome::NotSupported,
-        ),
-        (
             262_144,
             How::Plain,
-            SendRefusal::TooLong { len: 262_144 },
-            Outcome::TooLong,
+            SendAnswer::Refused(SendRefusal::TooLong { len: 262_144 }),
         ),
-    ] {
-        let mut sender = set_up(rt.alloc(), no_limits(), false)?;
-        assert!(rt; sender.send(&rt, sent(1, bytes, how)) == SendAnswer::Refused(refusal));
-        assert!(rt; sender.begins(&rt, &refused(None, outcome)));
+        Step::Begin(Receipt {
+            line: 1,
+            port: 0,
+            seq: None,
+            stat: None,
+            msgq: None,
+            outcome: Outcome::TooLong,
+        }),
+    ],
+];
+
+#[test]
+fn a_refused_command_has_a_receipt(rt: HostRuntime) {
+    for steps in &REFUSED {
+        let sender = set_up(rt.alloc(), no_limits(), false);
+        follow(&rt, sender, steps);
     }
-    Ok(())
 }

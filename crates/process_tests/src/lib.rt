@@ -12,4 +12,6 @@ mod rig;
 #[cfg(test)]
 mod sender;
 #[cfg(test)]
+mod steps;
+#[cfg(test)]
 mod suspending;

@@ -5,14 +5,13 @@ ghost use Rattle.port_words.specs.busy.Known.{InRange};
 ghost use Rattle.process_tests.specs.Sides.{AreFreshSeats, IsFresh};
 
 use port_lanes::{LaneKey, Parcel};
-use port_model::{Mail, Reason, Task};
+use port_model::{Mail, Reason, Signal, Task};
 use port_words::busy::{PortSeat, QueueLimits, SendSeat, busy_table};
 use process_end::{Proc, ProcEnd, ProcParts};
 use std::alloc::Global;
 use std::snapshot::Snapshot;
 use std::sync::Wait;
-use std::test::Fail;
-use task_queue::{Item, SendEnd, TakeEnd, lane};
+use task_queue::{Item, NoMemory, SendEnd, TakeEnd, lane};
 
 pub(crate) fn no_limits() -> QueueLimits
     ensures { InRange result.on result.low result.high }
@@ -51,12 +50,18 @@ pub(crate) struct WatchedPort {
     ghost tables: { lane.key.table ≡ seat.table },
 }
 
-/// A task that a port took, its number, and the MSGQ word that was left where it was a command.
-#[derive(Drop)]
+/// Of a task that a port took its number, whether it suspends its sender, whether it tells the normal end of process 0, and the MSGQ word
+/// that was left where it was a command.
+#[derive(Clone, Copy, PartialEq, Eq)]
 pub(crate) struct TakenTask {
     pub(crate) seq: u64,
-    pub(crate) task: Task,
+    pub(crate) suspends: bool,
+    pub(crate) is_end: bool,
     pub(crate) msgq: Option<u64>,
+}
+
+fn is_end(task: &Task) -> bool {
+    matches!(task.signal(), Signal::Gone(reason) if reason.is_normal())
 }
 
 impl WatchedPort {
@@ -90,7 +95,12 @@ impl WatchedPort {
             Some(weight) => Some(self.seat.removed(rt, weight)),
             None => None,
         };
-        Some(TakenTask { seq, task, msgq })
+        Some(TakenTask {
+            seq,
+            suspends: task.suspends(),
+            is_end: is_end(&task),
+            msgq,
+        })
     }
 }
 
@@ -99,7 +109,7 @@ fn table(
     alloc: Global,
     limits: QueueLimits,
     senders: u32,
-) -> Result<(PortSeat, Vec<SendSeat>), Fail>
+) -> Result<(PortSeat, Vec<SendSeat>), NoMemory>
     requires senders { (0 < senders) × (senders ≤ 32) }
     requires limits { InRange limits.on limits.low limits.high }
     ensures seats { IfOk result (λ r. AreFreshSeats r.0.table r.1.items) }
@@ -114,14 +124,15 @@ pub(crate) fn one_port(
     alloc: Global,
     limits: QueueLimits,
     soft: bool,
-) -> Result<(Side, WatchedPort), Fail>
+) -> Result<(Side, WatchedPort), NoMemory>
     requires { InRange limits.on limits.low limits.high }
     ensures number { IfOk result (λ r. r.0.lane.number ≡ 0) }
     ensures marks { IfOk result (λ r. r.1.seat.known.marks ≡ []) }
 {
     let (seat, mut seats) = table(alloc, limits, 1)?;
+    // There is a seat, since there is one sender.
     let Some(sender) = seats.pop() else {
-        return Err("no seat".into());
+        return Err(NoMemory);
     };
     let key = LaneKey::new(1, 0, &seat);
     let (put, take) = lane::<Parcel>(alloc, Snapshot::of(&key))?;
@@ -134,39 +145,54 @@ pub(crate) fn one_port(
 }
 
 /// The mailbox of a process, of which nothing was taken, and the end that puts mail there.
-pub(crate) fn mailbox(alloc: Global) -> Result<(SendEnd<Mail>, TakeEnd<Mail>), Fail>
+pub(crate) fn mailbox(alloc: Global) -> Result<(SendEnd<Mail>, TakeEnd<Mail>), NoMemory>
     ensures { IfOk result (λ r. r.1.taken ≡ []) }
 {
     let (put, take) = lane::<Mail>(alloc, Snapshot::of(&()))?;
     Ok((put, take))
 }
 
+/// A list of one.
+fn one_of<T: Drop>(alloc: Global, one: T) -> Result<Vec<T>, NoMemory>
+    ensures { IfOk result (λ list. list.items ≡ one ∷ []) }
+{
+    let mut list = Vec::new(alloc);
+    list.reserve(1)?;
+    list.push_reserved(one);
+    Ok(list)
+}
+
 /// Process 0 with one port.
-#[tactic(auto, using(crate::proofs::Parts::one_part))]
-pub(crate) fn process(alloc: Global, mailbox: TakeEnd<Mail>, side: Side) -> Result<Proc, Fail>
+fn process(alloc: Global, mailbox: TakeEnd<Mail>, side: Side) -> Result<Proc, NoMemory>
     requires number { side.lane.number ≡ 0 }
     requires untaken { mailbox.taken ≡ [] }
     ensures { IfOk result (λ proc. length proc.lanes ≡ 1) }
 {
-    let Side { lane, seat, soft } = side;
-    let mut lanes = Vec::new(alloc);
-    let mut seats = Vec::new(alloc);
-    lanes.reserve(1)?;
-    seats.reserve(1)?;
-    lanes.push_reserved(lane);
-    seats.push_reserved(seat);
+    let lanes = one_of(alloc, side.lane)?;
+    let seats = one_of(alloc, side.seat)?;
+    let soft = one_of(alloc, side.soft)?;
     let parts = ProcParts {
         number: 0,
         mailbox,
         lanes,
         seats,
-        soft: vec![in alloc; soft]?,
+        soft,
     };
     Ok(Proc::new(alloc, parts))
 }
 
+/// Process 0 with one port, and the end that puts mail for it.
+pub(crate) fn mailed_process(alloc: Global, side: Side) -> Result<(Proc, SendEnd<Mail>), NoMemory>
+    requires { side.lane.number ≡ 0 }
+    ensures { IfOk result (λ r. length r.0.lanes ≡ 1) }
+{
+    let (mail, mailbox) = mailbox(alloc)?;
+    let proc = process(alloc, mailbox, side)?;
+    Ok((proc, mail))
+}
+
 /// A list of three.
-fn three_of<T: Drop>(alloc: Global, one: T, two: T, three: T) -> Result<Vec<T>, Fail>
+fn three_of<T: Drop>(alloc: Global, one: T, two: T, three: T) -> Result<Vec<T>, NoMemory>
     ensures { IfOk result (λ list. list.items ≡ one ∷ two ∷ three ∷ []) }
 {
     let mut list = Vec::new(alloc);
@@ -184,7 +210,7 @@ pub(crate) fn process_of_three(
     one: Side,
     two: Side,
     three: Side,
-) -> Result<Proc, Fail>
+) -> Result<Proc, NoMemory>
     requires numbers { (one.lane.number ≡ 0) × (two.lane.number ≡ 0) × (three.lane.number ≡ 0) }
     requires untaken { mailbox.taken ≡ [] }
 {

@@ -1,17 +1,15 @@
 // A process with one port, which may send or is suspended, and its calls.
-ghost use Rattle.std.specs.Prelude.{◌≡◌, [], length, IfOk};
+ghost use Rattle.std.specs.Prelude.{◌≡◌, [], ◌∷◌, length, IfSome};
+ghost use Rattle.port_words.specs.declared.busy.view.StatMark.TheVariants.{Busy};
 ghost use Rattle.port_words.specs.busy.Known.{InRange};
 
-use crate::rig::{WatchedPort, end, mailbox, one_port, process};
+use crate::rig::{WatchedPort, end, mailed_process, one_port};
 use port_model::{IoVec, Mail, Piece};
 use port_words::busy::QueueLimits;
-use process_end::{
-    Ask, Commanded, How, NotYet, Proc, ProcEnd, Receipt, SendRefusal, Shown, Stopped,
-};
+use process_end::{Ask, Commanded, How, NotYet, Proc, ProcEnd, SendRefusal, Shown, Stopped};
 use std::alloc::Global;
 use std::mem;
 use std::sync::Wait;
-use std::test::Fail;
 use suspend_list::StopNote;
 use task_queue::SendEnd;
 
@@ -36,9 +34,12 @@ impl RunningProcess {
         self.proc.look(0)
     }
 
-    /// The next mail.
-    fn mail<R: Wait>(&mut self, rt: &R) -> Option<Mail> {
-        self.proc.mail(rt)
+    /// The number of the command whose resume is the next mail.
+    fn next_resume<R: Wait>(&mut self, rt: &R) -> Option<u64> {
+        match &self.proc.mail(rt) {
+            Some(Mail::Resume { seq, .. }) => Some(*seq),
+            _ => None,
+        }
     }
 }
 
@@ -57,6 +58,27 @@ enum Process {
     Ended,
 }
 
+/// Why a suspended process waits on.
+#[derive(Clone, Copy, PartialEq, Eq)]
+pub(crate) enum Why {
+    /// Its mailbox was empty.
+    Empty,
+    /// The resume of the command of this number came.
+    OtherResume(u64),
+    OtherMail,
+    /// The period of its command goes on, with this word.
+    SamePeriod(u64),
+}
+
+fn why_of(why: &NotYet) -> Why {
+    match why {
+        NotYet::Empty => Why::Empty,
+        NotYet::Other(Mail::Resume { seq, .. }) => Why::OtherResume(*seq),
+        NotYet::Other(_) => Why::OtherMail,
+        NotYet::SamePeriod { word } => Why::SamePeriod(*word),
+    }
+}
+
 /// What a call of a process that may send answers, or that the process may not send.
 #[derive(Clone, Copy, PartialEq, Eq)]
 pub(crate) enum SendAnswer {
@@ -67,65 +89,49 @@ pub(crate) enum SendAnswer {
     MayNotSend,
 }
 
-/// A command of so many bytes for port 0, of this line.
-#[derive(Clone, Copy)]
-pub(crate) struct SentCommand {
-    line: u32,
-    bytes: usize,
-    how: How,
-}
-
-pub(crate) fn sent(line: u32, bytes: usize, how: How) -> SentCommand {
-    SentCommand { line, bytes, how }
-}
-
 /// A payload of so many bytes.
 fn payload(alloc: Global, bytes: usize) -> Option<IoVec> {
     let piece = Piece::of_vec(vec![in alloc; 0u8; bytes].ok()?).ok()?;
     Some(IoVec::of_piece(alloc, piece))
 }
 
-/// The process after a command, and what the command answers.
+/// A process that may send on, and what its command answers.
+fn runs(proc: Proc, answer: SendAnswer) -> (Process, SendAnswer)
+    requires { length proc.lanes ≡ 1 }
+{
+    (Process::Runs(RunningProcess { proc }), answer)
+}
+
+/// The process after a command of this line, and what the command answers.
 fn command<R: Wait>(
     rt: &R,
     running: RunningProcess,
+    line: u32,
     payload: IoVec,
-    sent: SentCommand,
+    how: How,
 ) -> (Process, SendAnswer) {
-    match running.proc.command(rt, sent.line, 0, payload, sent.how) {
-        Commanded::Accepted(proc, number) => {
-            (
-                Process::Runs(RunningProcess { proc }),
-                SendAnswer::Accepted(number),
-            )
-        }
+    match running.proc.command(rt, line, 0, payload, how) {
+        Commanded::Accepted(proc, number) => runs(proc, SendAnswer::Accepted(number)),
         Commanded::Suspended(stopped) => {
             (
                 Process::Waits(StoppedProcess { stopped }),
                 SendAnswer::Suspended,
             )
         }
-        Commanded::Dropped(proc, shown) => {
-            (
-                Process::Runs(RunningProcess { proc }),
-                SendAnswer::Dropped(shown),
-            )
-        }
-        Commanded::Refused(proc, refusal) => {
-            (
-                Process::Runs(RunningProcess { proc }),
-                SendAnswer::Refused(refusal),
-            )
-        }
+        Commanded::Dropped(proc, shown) => runs(proc, SendAnswer::Dropped(shown)),
+        Commanded::Refused(proc, refusal) => runs(proc, SendAnswer::Refused(refusal)),
     }
 }
 
 /// A suspended process after it tried to go on, and why it waits on, if it does.
 #[tactic(auto, using(crate::proofs::Ports::waited_ports))]
-fn try_resume<R: Wait>(rt: &R, waiting: StoppedProcess) -> (Process, Option<NotYet>) {
+fn try_resume<R: Wait>(rt: &R, waiting: StoppedProcess) -> (Process, Option<Why>) {
     match waiting.stopped.try_resume(rt) {
         Ok(proc) => (Process::Runs(RunningProcess { proc }), None),
-        Err((stopped, why)) => (Process::Waits(StoppedProcess { stopped }), Some(why)),
+        Err((stopped, why)) => (
+            Process::Waits(StoppedProcess { stopped }),
+            Some(why_of(&why)),
+        ),
     }
 }
 
@@ -148,14 +154,14 @@ pub(crate) struct PortSender {
     mail: SendEnd<Mail>,
 }
 
-pub(crate) fn set_up(alloc: Global, limits: QueueLimits, soft: bool) -> Result<PortSender, Fail>
+/// A sender whose port is free, where there is memory for it.
+pub(crate) fn set_up(alloc: Global, limits: QueueLimits, soft: bool) -> Option<PortSender>
     requires { InRange limits.on limits.low limits.high }
-    ensures { IfOk result (λ sender. sender.port.seat.known.marks ≡ []) }
+    ensures { IfSome result (λ sender. sender.port.seat.known.marks ≡ []) }
 {
-    let (side, port) = one_port(alloc, limits, soft)?;
-    let (mail, mailbox) = mailbox(alloc)?;
-    let proc = process(alloc, mailbox, side)?;
-    Ok(PortSender {
+    let (side, port) = one_port(alloc, limits, soft).ok()?;
+    let (proc, mail) = mailed_process(alloc, side).ok()?;
+    Some(PortSender {
         alloc,
         process: Process::Runs(RunningProcess { proc }),
         port,
@@ -163,24 +169,36 @@ pub(crate) fn set_up(alloc: Global, limits: QueueLimits, soft: bool) -> Result<P
     })
 }
 
+/// A sender whose port is busy, where there is memory for it.
+pub(crate) fn set_up_busy(alloc: Global, limits: QueueLimits, soft: bool) -> Option<PortSender>
+    requires { InRange limits.on limits.low limits.high }
+    ensures { IfSome result (λ sender. sender.port.seat.known.marks ≡ Busy ∷ []) }
+{
+    let mut sender = set_up(alloc, limits, soft)?;
+    if sender.port.marks_busy() {
+        Some(sender)
+    } else {
+        None
+    }
+}
+
 impl PortSender {
-    /// Sends a command.
-    pub(crate) fn send<R: Wait>(&mut self, rt: &R, sent: SentCommand) -> SendAnswer
+    /// Sends a command of this line, of so many bytes.
+    pub(crate) fn send<R: Wait>(&mut self, rt: &R, line: u32, bytes: usize, how: How) -> SendAnswer
         ensures { self.new.port.seat.known.marks ≡ self.old.port.seat.known.marks }
     {
-        let Some(payload) = payload(self.alloc, sent.bytes) else {
+        let Some(payload) = payload(self.alloc, bytes) else {
             return SendAnswer::MayNotSend;
         };
         let Process::Runs(running) = mem::replace(&mut self.process, Process::Ended) else {
             return SendAnswer::MayNotSend;
         };
-        let (process, answer) = command(rt, running, payload, sent);
+        let (process, answer) = command(rt, running, line, payload, how);
         self.process = process;
         answer
     }
 
-    /// Sends a link.
-    pub(crate) fn link<R: Wait>(&mut self, rt: &R) -> SendAnswer {
+    fn link<R: Wait>(&mut self, rt: &R) -> SendAnswer {
         let Process::Runs(running) = &mut self.process else {
             return SendAnswer::MayNotSend;
         };
@@ -188,6 +206,18 @@ impl PortSender {
             Ok(number) => SendAnswer::Accepted(number),
             Err(refusal) => SendAnswer::Refused(refusal),
         }
+    }
+
+    /// Sends so many links. What the last one answers, or the first one that isn't accepted.
+    pub(crate) fn links<R: Wait>(&mut self, rt: &R, times: u32) -> SendAnswer {
+        let mut answer = SendAnswer::MayNotSend;
+        for _ in 0..times {
+            answer = self.link(rt);
+            if !matches!(answer, SendAnswer::Accepted(_)) {
+                return answer;
+            }
+        }
+        answer
     }
 
     /// The STAT word of the port, as the process finds it.
@@ -212,7 +242,7 @@ impl PortSender {
     }
 
     /// Tries to go on. Why the process waits on, if it does.
-    pub(crate) fn try_resume<R: Wait>(&mut self, rt: &R) -> Option<NotYet> {
+    pub(crate) fn try_resume<R: Wait>(&mut self, rt: &R) -> Option<Why> {
         let Process::Waits(waiting) = mem::replace(&mut self.process, Process::Ended) else {
             return None;
         };
@@ -226,10 +256,10 @@ impl PortSender {
         self.try_resume(rt).is_none() && matches!(&self.process, Process::Runs(_))
     }
 
-    /// The next mail of the process.
-    pub(crate) fn mail<R: Wait>(&mut self, rt: &R) -> Option<Mail> {
+    /// The number of the command whose resume the process takes next.
+    pub(crate) fn next_resume<R: Wait>(&mut self, rt: &R) -> Option<u64> {
         match &mut self.process {
-            Process::Runs(running) => running.mail(rt),
+            Process::Runs(running) => running.next_resume(rt),
             _ => None,
         }
     }
@@ -240,10 +270,5 @@ impl PortSender {
             Process::Runs(running) => end(rt, running.proc),
             _ => None,
         }
-    }
-
-    /// Whether this is the first receipt of the process, which ends now.
-    pub(crate) fn begins<R: Wait>(&mut self, rt: &R, receipt: &Receipt) -> bool {
-        matches!(&self.end(rt), Some(end) if end.receipts.as_slice().first() == Some(receipt))
     }
 }
