@@ -1,5 +1,4 @@
 //! Frames and lines that are found in streams of bytes.
-use crate::work::ROUNDS;
 use anyhow::{Result, bail};
 use io_vector::{IoVec, Piece};
 use packet_framing::{Mode, Unframer, frame};
@@ -26,21 +25,21 @@ fn unit_of(alloc: Global, mode: Mode, bytes: u32) -> Result<Vec<u8>> {
         Mode::Packet2 => 65_535,
         Mode::Packet4 | Mode::Line(_) | Mode::Stream => 262_143,
     };
-    let mut content = Vec::new(alloc);
-    for _ in 0..longest.min(bytes / 2) {
-        content.push(b'a')?;
-    }
+    let mut content = vec![in alloc; b'a'; longest.min(bytes / 2) as usize]?;
     if let Mode::Line(_) = mode {
         content.push(b'\n')?;
     }
-    let Ok(piece) = Piece::of_vec(content) else {
-        bail!("no memory");
-    };
-    let sent = frame(alloc, mode, &IoVec::of_piece(alloc, piece))?;
-    let Ok(unit) = sent.to_vec() else {
-        bail!("no memory");
-    };
-    Ok(unit)
+    framed(alloc, mode, content)
+}
+
+/// The frame of a message.
+fn framed(alloc: Global, mode: Mode, content: Vec<u8>) -> Result<Vec<u8>> {
+    let sent = frame(
+        alloc,
+        mode,
+        &IoVec::of_piece(alloc, Piece::of_vec(content)?),
+    )?;
+    Ok(sent.to_vec()?)
 }
 
 /// Feeds a text in chunks of so many bytes, which share its bytes, and counts the messages.
@@ -63,7 +62,7 @@ fn feed_all(alloc: Global, mode: Mode, text: &Piece, chunk_len: usize) -> Result
     Ok(messages.saturating_add(unframer.end()?.len()))
 }
 
-/// The shortest time of some rounds to feed so many bytes in the longest frames or lines of the mode, in large chunks or byte by byte.
+/// How long it takes to feed so many bytes in the longest frames or lines of the mode, in large chunks or byte by byte.
 pub(crate) fn feed_time<R: Clock + AllocGlobal>(
     rt: &R,
     mode: Mode,
@@ -72,11 +71,7 @@ pub(crate) fn feed_time<R: Clock + AllocGlobal>(
 ) -> Result<Duration> {
     let text = Piece::of_vec(text_of(rt.alloc(), mode, bytes)?)?;
     let chunk = if bytewise { 1 } else { LARGE_CHUNK };
-    let mut best = Duration::MAX;
-    for _ in 0..ROUNDS {
-        let start = Instant::now(rt)?;
-        feed_all(rt.alloc(), mode, &text, chunk)?;
-        best = best.min(start.elapsed(rt)?);
-    }
-    Ok(best)
+    let start = Instant::now(rt)?;
+    feed_all(rt.alloc(), mode, &text, chunk)?;
+    Ok(start.elapsed(rt)?)
 }

@@ -15,35 +15,64 @@ mod work;
 use crate::rows::{print_all, print_rows};
 use crate::work::{WORKS, Work, time_of};
 use anyhow::{Context, Result, bail};
-use std::env;
+use std::env::{self, Env};
+use std::io;
+use std::rt::Clock;
 
 /// How many parts a work has that is only tried.
 const FEW: u32 = 10;
 
 fn main(rt: HostRuntime) -> Result<()> {
-    let name = env::args(&rt)?.nth(1);
-    let count = env::args(&rt)?.nth(2);
-    let Some(name) = &name else {
-        for work in WORKS {
-            time_of(&rt, work, FEW)?;
-            println!(rt; "{}: {FEW} made", work.name())?;
-        }
-        return Ok(());
-    };
-    if name.as_str() == "all" {
-        return print_all(&rt);
+    let (name, count) = words(&rt)?;
+    match &name {
+        Some(name) => make(&rt, name.as_str(), &count),
+        None => try_all(&rt),
     }
-    let Some(work) = work_named(name.as_str()) else {
-        bail!("no work has this name");
-    };
-    let parts = match &count {
-        Some(text) => text.as_str().parse::<u32>().context("a number of parts")?,
-        None => work.parts(),
-    };
-    print_rows(&rt, work, parts)
+}
+
+/// The first two words behind the program's name.
+fn words<R: AllocGlobal + Env>(rt: &R) -> io::Result<(Option<String>, Option<String>)> {
+    let mut words = env::args(rt)?;
+    let name = words.nth(1);
+    let count = words.next();
+    Ok((name, count))
+}
+
+/// Makes each work once with a few parts.
+fn try_all<R: Clock + AllocGlobal + Print>(rt: &R) -> Result<()> {
+    for work in WORKS {
+        try_work(rt, work)?;
+    }
+    Ok(())
+}
+
+fn try_work<R: Clock + AllocGlobal + Print>(rt: &R, work: Work) -> Result<()> {
+    time_of(rt, work, FEW)?;
+    println!(rt; "{}: {FEW} made", work.name())?;
+    Ok(())
+}
+
+/// Makes the work of this name, or each, and prints the rows.
+fn make<R: Clock + AllocGlobal + Print>(rt: &R, name: &str, count: &Option<String>) -> Result<()> {
+    if name == "all" {
+        return print_all(rt);
+    }
+    let work = work_named(name)?;
+    print_rows(rt, work, parts(work, count)?)
+}
+
+/// How many parts a work gets: as many as the word says, or as it has of itself.
+fn parts(work: Work, count: &Option<String>) -> Result<u32> {
+    match count {
+        Some(text) => text.as_str().parse::<u32>().context("a number of parts"),
+        None => Ok(work.parts()),
+    }
 }
 
 /// The work of this name.
-fn work_named(name: &str) -> Option<Work> {
-    WORKS.into_iter().find(|work| work.name() == name)
+fn work_named(name: &str) -> Result<Work> {
+    match WORKS.into_iter().find(|work| work.name() == name) {
+        Some(work) => Ok(work),
+        None => bail!("no work has this name"),
+    }
 }

@@ -1,5 +1,4 @@
 //! Scripts that are read.
-use crate::work::ROUNDS;
 use anyhow::Result;
 use gateway_script::{Piece, read_script};
 use std::alloc::Global;
@@ -37,7 +36,7 @@ const STEPS: [(&str, &str); 14] = [
 ];
 
 /// A script of about so many bytes: declarations, rounds of steps, and the end of each process.
-pub(crate) fn script_text(alloc: Global, size: usize) -> Result<String> {
+fn script_text(alloc: Global, size: usize) -> Result<String> {
     let mut text = String::new(alloc);
     declare(&mut text)?;
     for round in 0..u32::MAX {
@@ -67,39 +66,60 @@ fn declare(text: &mut String) -> Result<()> {
 fn write_round(text: &mut String, round: u32) -> Result<()> {
     let process = round % NAMED;
     let port = (process + round / NAMED) % NAMED;
-    for (before, behind) in STEPS {
-        writeln!(text, "worker_{process} {before} port_{port}{behind}")?;
+    for step in STEPS {
+        write_step(text, process, port, step)?;
     }
     Ok(())
 }
 
+fn write_step(text: &mut String, process: u32, port: u32, step: (&str, &str)) -> Result<()> {
+    let (before, behind) = step;
+    writeln!(text, "worker_{process} {before} port_{port}{behind}")?;
+    Ok(())
+}
+
 /// A script of about so many bytes: declarations and commands, in which the processes and the ports take turns.
-pub(crate) fn commands_text(alloc: Global, size: usize) -> Result<String> {
+fn commands_text(alloc: Global, size: usize) -> Result<String> {
     let mut text = String::new(alloc);
+    declare_senders(&mut text)?;
+    for number in 0..u32::MAX {
+        if text.len() >= size {
+            break;
+        }
+        write_command(&mut text, number % SENDERS, number % RECEIVERS)?;
+    }
+    Ok(text)
+}
+
+/// Declares the processes and the ports of a script of commands.
+fn declare_senders(text: &mut String) -> Result<()> {
     for process in 0..SENDERS {
         writeln!(text, "process p{process}")?;
     }
     for port in 0..RECEIVERS {
         writeln!(text, "port q{port} p{port} echo")?;
     }
-    for number in 0..u32::MAX {
-        if text.len() >= size {
-            break;
-        }
-        let (process, port) = (number % SENDERS, number % RECEIVERS);
-        writeln!(text, "p{process} command q{port} \"{DATA}\"")?;
-    }
-    Ok(text)
+    Ok(())
 }
 
-/// The shortest time of some rounds to read a script.
-pub(crate) fn read_time<R: Clock + AllocGlobal>(rt: &R, text: String) -> Result<Duration> {
+fn write_command(text: &mut String, process: u32, port: u32) -> Result<()> {
+    writeln!(text, "p{process} command q{port} \"{DATA}\"")?;
+    Ok(())
+}
+
+/// How long it takes to read a script of about so many bytes in all kinds of steps.
+pub(crate) fn script_time<R: Clock + AllocGlobal>(rt: &R, size: u32) -> Result<Duration> {
+    read_time(rt, script_text(rt.alloc(), size as usize)?)
+}
+
+/// How long it takes to read a script of about so many bytes in commands.
+pub(crate) fn commands_time<R: Clock + AllocGlobal>(rt: &R, size: u32) -> Result<Duration> {
+    read_time(rt, commands_text(rt.alloc(), size as usize)?)
+}
+
+fn read_time<R: Clock + AllocGlobal>(rt: &R, text: String) -> Result<Duration> {
     let text = Piece::of_vec(text.into_bytes())?;
-    let mut best = Duration::MAX;
-    for _ in 0..ROUNDS {
-        let start = Instant::now(rt)?;
-        let _script = read_script(rt.alloc(), &text)?;
-        best = best.min(start.elapsed(rt)?);
-    }
-    Ok(best)
+    let start = Instant::now(rt)?;
+    let _script = read_script(rt.alloc(), &text)?;
+    Ok(start.elapsed(rt)?)
 }

@@ -1,5 +1,4 @@
 //! Terms of the External Term Format that are written and read.
-use crate::work::ROUNDS;
 use anyhow::{Result, ensure};
 use port_terms::{
     MAX_DEPTH, MAX_ITEMS, Term, atom, decode, encode, octets, term_depth, term_size, terms,
@@ -30,31 +29,41 @@ fn tuple(alloc: Global, i: u32) -> Result<Term> {
     Ok(Term::Tuple(terms(items)))
 }
 
-/// The shortest time of some rounds to write the list.
+/// How long it takes to write the list.
 pub(crate) fn encode_time<R: Clock + AllocGlobal>(rt: &R, n: u32) -> Result<Duration> {
-    let term = list_of_tuples(rt.alloc(), n)?;
-    let mut best = Duration::MAX;
-    for _ in 0..ROUNDS {
-        ensure!(term_depth(&term) <= u64::from(MAX_DEPTH), "a term too deep");
-        let start = Instant::now(rt)?;
-        let bytes = encode(rt.alloc(), &term)?;
-        best = best.min(start.elapsed(rt)?);
-        ensure!(term_size(&term) == bytes.len() as u64, "another length");
-    }
-    Ok(best)
+    write_time(rt, &list_of_tuples(rt.alloc(), n)?)
 }
 
-/// The shortest time of some rounds to read the list.
+/// How long it takes to read the list.
 pub(crate) fn decode_time<R: Clock + AllocGlobal>(rt: &R, n: u32) -> Result<Duration> {
-    let term = list_of_tuples(rt.alloc(), n)?;
+    read_time(rt, &written_list(rt.alloc(), n)?)
+}
+
+fn write_time<R: Clock + AllocGlobal>(rt: &R, term: &Term) -> Result<Duration> {
+    ensure!(term_depth(term) <= u64::from(MAX_DEPTH), "a term too deep");
+    let start = Instant::now(rt)?;
+    let bytes = encode(rt.alloc(), term)?;
+    let time = start.elapsed(rt)?;
+    ensure!(has_length(term, bytes.as_slice()), "another length");
+    Ok(time)
+}
+
+fn read_time<R: Clock + AllocGlobal>(rt: &R, bytes: &[u8]) -> Result<Duration> {
+    let start = Instant::now(rt)?;
+    let term = decode(rt.alloc(), bytes)?;
+    let time = start.elapsed(rt)?;
+    ensure!(has_length(&term, bytes), "another term");
+    Ok(time)
+}
+
+/// Whether the term's external form has as many bytes as these.
+fn has_length(term: &Term, bytes: &[u8]) -> bool {
+    term_size(term) == bytes.len() as u64
+}
+
+/// The external form of the list.
+fn written_list(alloc: Global, n: u32) -> Result<Vec<u8>> {
+    let term = list_of_tuples(alloc, n)?;
     ensure!(term_depth(&term) <= u64::from(MAX_DEPTH), "a term too deep");
-    let bytes = encode(rt.alloc(), &term)?;
-    let mut best = Duration::MAX;
-    for _ in 0..ROUNDS {
-        let start = Instant::now(rt)?;
-        let read = decode(rt.alloc(), &bytes)?;
-        best = best.min(start.elapsed(rt)?);
-        ensure!(term_size(&read) == bytes.len() as u64, "another term");
-    }
-    Ok(best)
+    Ok(encode(alloc, &term)?)
 }

@@ -1,6 +1,5 @@
 //! Vectors that are skipped.
-use crate::work::ROUNDS;
-use anyhow::{Result, bail, ensure};
+use anyhow::{Result, ensure};
 use io_vector::{IoVec, Piece};
 use std::alloc::Global;
 use std::rt::Clock;
@@ -8,15 +7,10 @@ use std::time::{Duration, Instant};
 
 /// A vector of so many segments of 16 bytes, which share their bytes.
 fn vector_of(alloc: Global, n: u32) -> Result<IoVec> {
-    let Ok(piece) = Piece::of_slice(alloc, b"0123456789abcdef") else {
-        bail!("no memory");
-    };
+    let piece = Piece::of_slice(alloc, b"0123456789abcdef")?;
     let mut vector = IoVec::new(alloc);
     for _ in 0..n {
-        let Ok(shared) = piece.share() else {
-            bail!("no memory");
-        };
-        ensure!(vector.push(shared).is_ok(), "no memory");
+        ensure!(vector.push(piece.share()?).is_ok(), "no memory");
     }
     Ok(vector)
 }
@@ -29,15 +23,12 @@ fn skip_all(vector: &mut IoVec) -> Result<()> {
     Ok(())
 }
 
-/// The shortest time of some rounds to skip all bytes.
+/// How long it takes to skip all bytes.
 pub(crate) fn skip_time<R: Clock + AllocGlobal>(rt: &R, n: u32) -> Result<Duration> {
-    let mut best = Duration::MAX;
-    for _ in 0..ROUNDS {
-        let mut vector = vector_of(rt.alloc(), n)?;
-        let start = Instant::now(rt)?;
-        skip_all(&mut vector)?;
-        best = best.min(start.elapsed(rt)?);
-        ensure!(vector.size() == 0, "bytes are left");
-    }
-    Ok(best)
+    let mut vector = vector_of(rt.alloc(), n)?;
+    let start = Instant::now(rt)?;
+    skip_all(&mut vector)?;
+    let time = start.elapsed(rt)?;
+    ensure!(vector.size() == 0, "bytes are left");
+    Ok(time)
 }
