@@ -2,14 +2,13 @@
 ghost use Rattle.std.specs.Prelude.{◌≡◌};
 ghost use Rattle.outside.specs.Programs.{shown};
 
-use crate::port::{ProgramPort, options, spawner, start};
+use crate::checks::{is_right, none_is_wrong};
+use crate::port::{ProgramPort, ProgramStep, first_wrong, options, running, spawner, start};
 use outside::{MemChild, MemProgram, MemSpawner, NoMemory, SpawnFault, Spawner};
 use packet_framing::Mode;
-use port_driver::{Driver, StartRefusal};
-use port_model::Piece;
-use spawn_driver::spawn_driver;
+use port_driver::{Config, Driver, StartRefusal};
+use spawn_driver::{SpawnDriver, spawn_driver};
 use std::alloc::Global;
-use std::test::Fail;
 
 /// The call of a program that is to fail, the first time that it is made.
 #[derive(Clone, Copy)]
@@ -53,99 +52,104 @@ impl Spawner for FaultySpawner {
 }
 
 /// What starts a program that ends at once with the status 3. The planned call is to fail.
-fn faulty_spawner(alloc: Global, planned: Planned) -> Result<FaultySpawner, Fail> {
+fn faulty_spawner(alloc: Global, planned: Planned) -> Option<FaultySpawner> {
     let mut program = MemProgram::new(alloc, 2);
     program.end(3);
     let spawner = spawner(alloc, program)?;
-    Ok(FaultySpawner { spawner, planned })
+    Some(FaultySpawner { spawner, planned })
 }
 
-/// A port that this fresh driver of a program serves, in whose queue is `abc`.
-fn filled<D: Driver>(alloc: Global, driver: D) -> Result<ProgramPort<D>, Fail> {
+/// The options of a port that tells the status of its program.
+fn telling_status(alloc: Global) -> Option<Config> {
     let mut config = options(alloc, Mode::Stream)?;
     config.exit_status = true;
-    let mut port = ProgramPort::open(alloc, driver, &config)?;
-    port.takes(b"abc", b"write on;")?;
-    Ok(port)
+    Some(config)
 }
 
-/// Whether a call because there is room to write is recorded so, and leaves nothing queued.
-fn writes_last<D: Driver>(alloc: Global, driver: D, wanted: &[u8]) -> Result<bool, Fail> {
-    let mut port = filled(alloc, driver)?;
-    let shows = port.writes(wanted)?;
-    Ok(shows && port.is_drained())
-}
-
-/// Whether a call because there is something to read is recorded so, and leaves nothing queued.
-fn reads_last<D: Driver>(alloc: Global, driver: D, wanted: &[u8]) -> Result<bool, Fail> {
-    let mut port = filled(alloc, driver)?;
-    let shows = port.reads(wanted)?;
-    Ok(shows && port.is_drained())
-}
-
-/// Whether an offer that fails is recorded so.
-fn a_failing_offer_shows(alloc: Global, wanted: &[u8]) -> Result<bool, Fail> {
-    let spawner = faulty_spawner(alloc, Planned::Offer)?;
-    writes_last(alloc, spawn_driver(spawner), wanted)
-}
-
-/// Whether a fetch or a status that fails is recorded so.
-fn a_failing_read_shows(alloc: Global, planned: Planned, wanted: &[u8]) -> Result<bool, Fail> {
+/// A port of that program, with those options.
+fn faulty(alloc: Global, planned: Planned) -> Option<ProgramPort<SpawnDriver<FaultySpawner>>> {
     let spawner = faulty_spawner(alloc, planned)?;
-    reads_last(alloc, spawn_driver(spawner), wanted)
+    match &telling_status(alloc) {
+        Some(config) => ProgramPort::open(alloc, spawn_driver(spawner), config),
+        None => None,
+    }
+}
+
+/// The number of the first step that goes otherwise in that port, if one does, or of the step behind the last where there is no port.
+fn first_wrong_faulty(alloc: Global, planned: Planned, steps: &[ProgramStep<'_>]) -> Option<usize> {
+    first_wrong(faulty(alloc, planned), steps)
 }
 
 #[test]
-fn an_offer_that_fails_empties_the_queue(rt: HostRuntime) -> Result<(), Fail> {
-    assert!(rt; a_failing_offer_shows(rt.alloc(), b"failed;fail eio;")?);
-    Ok(())
+fn an_offer_that_fails_empties_the_queue(rt: HostRuntime) {
+    let steps = [
+        ProgramStep::Takes(b"abc", b"write on;"),
+        ProgramStep::Writes(b"failed;fail eio;"),
+        ProgramStep::HasQueued(b""),
+    ];
+    none_is_wrong(&rt, first_wrong_faulty(rt.alloc(), Planned::Offer, &steps));
 }
 
 #[test]
-fn a_fetch_that_fails_empties_the_queue(rt: HostRuntime) -> Result<(), Fail> {
-    assert!(rt; a_failing_read_shows(rt.alloc(), Planned::Fetch, b"failed;fail eio;")?);
-    Ok(())
+fn a_fetch_that_fails_empties_the_queue(rt: HostRuntime) {
+    let steps = [
+        ProgramStep::Takes(b"abc", b"write on;"),
+        ProgramStep::Reads(b"failed;fail eio;"),
+        ProgramStep::HasQueued(b""),
+    ];
+    none_is_wrong(&rt, first_wrong_faulty(rt.alloc(), Planned::Fetch, &steps));
 }
 
 #[test]
-fn a_status_that_fails_is_not_sent(rt: HostRuntime) -> Result<(), Fail> {
-    let wanted = b"end;failed;fail eio;read off;";
-    assert!(rt; a_failing_read_shows(rt.alloc(), Planned::Status, wanted)?);
-    Ok(())
+fn a_status_that_fails_is_not_sent(rt: HostRuntime) {
+    let steps = [
+        ProgramStep::Takes(b"abc", b"write on;"),
+        ProgramStep::Reads(b"end;failed;fail eio;read off;"),
+        ProgramStep::HasQueued(b""),
+    ];
+    none_is_wrong(&rt, first_wrong_faulty(rt.alloc(), Planned::Status, &steps));
 }
 
 /// How a fresh driver refuses to start with this command text, if it does.
-fn refusal<D: Driver>(
-    alloc: Global,
-    mut driver: D,
-    run: &[u8],
-) -> Result<Option<StartRefusal>, Fail> {
-    let mut config = options(alloc, Mode::Stream)?;
-    config.run = Piece::of_slice(alloc, run)?;
-    Ok(start(alloc, &mut driver, &config)?.err())
+fn refusal<D: Driver>(alloc: Global, mut driver: D, run: &[u8]) -> Option<StartRefusal> {
+    match &running(alloc, run) {
+        Some(config) => start(alloc, &mut driver, config).err(),
+        None => None,
+    }
+}
+
+/// What starts a program, the first time in vain.
+fn failing_spawner(alloc: Global) -> Option<MemSpawner> {
+    let mut spawner = spawner(alloc, MemProgram::new(alloc, 1))?;
+    let is_planned = spawner.fail_start(0).is_ok();
+    is_planned.then_some(spawner)
+}
+
+/// How the driver of a program refuses to start with this command text, if it does.
+fn spawn_refusal(alloc: Global, spawner: Option<MemSpawner>, run: &[u8]) -> Option<StartRefusal> {
+    match spawner {
+        Some(spawner) => refusal(alloc, spawn_driver(spawner), run),
+        None => None,
+    }
 }
 
 /// Whether a start that fails is told as a fault.
-fn a_failing_start_is_told(alloc: Global) -> Result<bool, Fail> {
-    let mut failing = spawner(alloc, MemProgram::new(alloc, 1))?;
-    failing.fail_start(0)?;
-    Ok(refusal(alloc, spawn_driver(failing), b"program")? == Some(StartRefusal::StartFault))
+fn a_failing_start_is_told(alloc: Global) -> bool {
+    spawn_refusal(alloc, failing_spawner(alloc), b"program") == Some(StartRefusal::StartFault)
 }
 
 #[test]
-fn a_start_that_fails_is_a_fault(rt: HostRuntime) -> Result<(), Fail> {
-    assert!(rt; a_failing_start_is_told(rt.alloc())?);
-    Ok(())
+fn a_start_that_fails_is_a_fault(rt: HostRuntime) {
+    is_right(&rt, a_failing_start_is_told(rt.alloc()));
 }
 
 /// Whether a command text of spaces is refused.
-fn a_blank_text_is_refused(alloc: Global) -> Result<bool, Fail> {
-    let blank = spawner(alloc, MemProgram::new(alloc, 1))?;
-    Ok(refusal(alloc, spawn_driver(blank), b"  ")? == Some(StartRefusal::Badarg))
+fn a_blank_text_is_refused(alloc: Global) -> bool {
+    let spawner = spawner(alloc, MemProgram::new(alloc, 1));
+    spawn_refusal(alloc, spawner, b"  ") == Some(StartRefusal::Badarg)
 }
 
 #[test]
-fn a_command_text_without_a_word_is_refused(rt: HostRuntime) -> Result<(), Fail> {
-    assert!(rt; a_blank_text_is_refused(rt.alloc())?);
-    Ok(())
+fn a_command_text_without_a_word_is_refused(rt: HostRuntime) {
+    is_right(&rt, a_blank_text_is_refused(rt.alloc()));
 }

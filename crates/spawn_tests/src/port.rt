@@ -1,5 +1,6 @@
 //! A port of a program of memory, to whose driver callbacks are made one after another, and what they show.
-ghost use Rattle.std.specs.Prelude.{◌≡◌, [], IfOk};
+ghost use Rattle.std.specs.Prelude.{◌≡◌, [], IfSome};
+ghost use Rattle.port_driver.specs.Driven.{MayCall};
 
 use crate::shown::shows;
 use driver_queue::DriverQueue;
@@ -10,7 +11,6 @@ use port_model::{IoVec, Piece};
 use spawn_driver::{SpawnDriver, spawn_driver};
 use std::alloc::Global;
 use std::mem;
-use std::test::Fail;
 
 /// The read event of the program.
 const READ: u32 = 10;
@@ -18,91 +18,57 @@ const READ: u32 = 10;
 /// The write event of the program.
 const WRITE: u32 = 11;
 
+/// What is done with a port of a program and recorded, or seen of it.
+#[derive(Clone, Copy)]
+pub(crate) enum ProgramStep<'a> {
+    /// A command of the first bytes is recorded as the second ones.
+    Takes(&'a [u8], &'a [u8]),
+    /// A call because there is something to read is recorded so.
+    Reads(&'a [u8]),
+    /// A call because there is room to write is recorded so.
+    Writes(&'a [u8]),
+    /// These bytes are queued.
+    HasQueued(&'a [u8]),
+}
+
+/// A call of the driver of a program.
+#[derive(Clone, Copy)]
+enum ProgramCall<'a> {
+    /// A command of these bytes is handed to it.
+    Take(&'a [u8]),
+    /// There is something to read.
+    Read,
+    /// There is room to write.
+    Write,
+}
+
+/// The options of a port with this command text, and else none.
+pub(crate) fn running(alloc: Global, run: &[u8]) -> Option<Config> {
+    let run = Piece::of_slice(alloc, run).ok()?;
+    let mut config = Config::plain(alloc).ok()?;
+    config.run = run;
+    Some(config)
+}
+
 /// The options of a port of a program, with this framing.
-pub(crate) fn options(alloc: Global, mode: Mode) -> Result<Config, Fail> {
-    let mut config = Config::plain(alloc)?;
-    config.run = Piece::of_slice(alloc, b"program")?;
+pub(crate) fn options(alloc: Global, mode: Mode) -> Option<Config> {
+    let mut config = running(alloc, b"program")?;
     config.mode = mode;
-    Ok(config)
+    Some(config)
 }
 
 /// What starts this program.
-pub(crate) fn spawner(alloc: Global, program: MemProgram) -> Result<MemSpawner, Fail> {
+pub(crate) fn spawner(alloc: Global, program: MemProgram) -> Option<MemSpawner> {
     let mut spawner = MemSpawner::new(alloc, READ);
-    spawner.add(program)?;
-    Ok(spawner)
+    let is_added = spawner.add(program).is_ok();
+    is_added.then_some(spawner)
 }
 
 /// A context for the start of a driver.
-fn fresh_context(alloc: Global) -> Result<DriverCtx, Fail>
-    ensures { IfOk result (λ ctx. ctx ≡ record { caller = 7; next_job = 0; held = []; queue = []; outside = []; effects = [] }) }
+fn fresh_context(alloc: Global) -> Option<DriverCtx>
+    ensures { IfSome result (λ ctx. ctx ≡ record { caller = 7; next_job = 0; held = []; queue = []; outside = []; effects = [] }) }
 {
-    match DriverCtx::new(alloc, 7, 0, &[], DriverQueue::new(alloc)) {
-        Ok(ctx) => Ok(ctx),
-        Err((_, refusal)) => Err(refusal.into()),
-    }
-}
-
-/// Starts a fresh driver. What it recorded, or how it refuses.
-pub(crate) fn start<D: Driver>(
-    alloc: Global,
-    driver: &mut D,
-    config: &Config,
-) -> Result<Result<DriverCtx, StartRefusal>, Fail> {
-    let mut ctx = fresh_context(alloc)?;
-    if driver.life() != Life::Fresh {
-        return Err("the driver isn't fresh".into());
-    }
-    match driver.start(alloc, &mut ctx, config) {
-        Ok(()) => Ok(Ok(ctx)),
-        Err(refusal) => Ok(Err(refusal)),
-    }
-}
-
-/// The context of a callback, which has this queue.
-fn context(alloc: Global, queue: DriverQueue) -> Result<DriverCtx, Fail>
-    ensures outside { IfOk result (λ ctx. ctx.outside ≡ []) }
-    ensures effects { IfOk result (λ ctx. ctx.effects ≡ []) }
-{
-    match DriverCtx::new(alloc, 7, 0, &[READ, WRITE], queue) {
-        Ok(ctx) => Ok(ctx),
-        Err((_, refusal)) => Err(refusal.into()),
-    }
-}
-
-/// What a started driver records of a command.
-fn take<D: Driver>(
-    alloc: Global,
-    driver: &mut D,
-    queue: DriverQueue,
-    payload: &IoVec,
-) -> Result<DriverCtx, Fail> {
-    let mut ctx = context(alloc, queue)?;
-    if driver.life() != Life::Started {
-        return Err("the driver isn't started".into());
-    }
-    driver.outputv(alloc, &mut ctx, payload)?;
-    Ok(ctx)
-}
-
-/// What a started driver records as there is something to read.
-fn read<D: Driver>(alloc: Global, driver: &mut D, queue: DriverQueue) -> Result<DriverCtx, Fail> {
-    let mut ctx = context(alloc, queue)?;
-    if driver.life() != Life::Started {
-        return Err("the driver isn't started".into());
-    }
-    driver.ready_input(alloc, &mut ctx, READ)?;
-    Ok(ctx)
-}
-
-/// What a started driver records as there is room to write.
-fn write<D: Driver>(alloc: Global, driver: &mut D, queue: DriverQueue) -> Result<DriverCtx, Fail> {
-    let mut ctx = context(alloc, queue)?;
-    if driver.life() != Life::Started {
-        return Err("the driver isn't started".into());
-    }
-    driver.ready_output(alloc, &mut ctx, WRITE)?;
-    Ok(ctx)
+    DriverCtx::new(alloc, 7, 0, &[], DriverQueue::new(alloc)).ok()
 }
 
 /// The queue of a callback that has ended.
@@ -111,15 +77,64 @@ fn queue_of(ctx: DriverCtx) -> DriverQueue {
     queue
 }
 
-/// The payload of a command of these bytes.
-fn payload(alloc: Global, bytes: &[u8]) -> Result<IoVec, Fail> {
-    Ok(IoVec::of_piece(alloc, Piece::of_slice(alloc, bytes)?))
+/// Starts a driver, which is refused for no reason of its own where it isn't fresh. The queue after its start.
+pub(crate) fn start<D: Driver>(
+    alloc: Global,
+    driver: &mut D,
+    config: &Config,
+) -> Result<DriverQueue, StartRefusal> {
+    if driver.life() != Life::Fresh {
+        return Err(StartRefusal::General);
+    }
+    let Some(mut ctx) = fresh_context(alloc) else {
+        return Err(StartRefusal::NoMemory);
+    };
+    match driver.start(alloc, &mut ctx, config) {
+        Ok(()) => Ok(queue_of(ctx)),
+        Err(refusal) => Err(refusal),
+    }
 }
 
-/// Whether these bytes are queued.
-fn is_queued(queue: &DriverQueue, bytes: &[u8]) -> Result<bool, Fail> {
-    let queued = queue.to_piece()?;
-    Ok(queued.as_slice() == bytes)
+/// The context of a callback, which has this queue.
+fn context(alloc: Global, queue: DriverQueue) -> Option<DriverCtx>
+    ensures outside { IfSome result (λ ctx. ctx.outside ≡ []) }
+    ensures effects { IfSome result (λ ctx. ctx.effects ≡ []) }
+{
+    DriverCtx::new(alloc, 7, 0, &[READ, WRITE], queue).ok()
+}
+
+/// The payload of a command of these bytes.
+fn payload(alloc: Global, bytes: &[u8]) -> Option<IoVec> {
+    match Piece::of_slice(alloc, bytes) {
+        Ok(piece) => Some(IoVec::of_piece(alloc, piece)),
+        Err(_) => None,
+    }
+}
+
+/// Hands a command of these bytes to a driver.
+fn take<D: Driver>(alloc: Global, driver: &mut D, ctx: &mut DriverCtx, bytes: &[u8]) -> bool
+    requires { MayCall (D.stage driver.old) ctx.old }
+{
+    match &payload(alloc, bytes) {
+        Some(payload) => driver.outputv(alloc, ctx, payload).is_ok(),
+        None => false,
+    }
+}
+
+/// Makes a call of a driver.
+fn call_back<D: Driver>(
+    alloc: Global,
+    driver: &mut D,
+    ctx: &mut DriverCtx,
+    call: ProgramCall<'_>,
+) -> bool
+    requires { MayCall (D.stage driver.old) ctx.old }
+{
+    match call {
+        ProgramCall::Take(bytes) => take(alloc, driver, ctx, bytes),
+        ProgramCall::Read => driver.ready_input(alloc, ctx, READ).is_ok(),
+        ProgramCall::Write => driver.ready_output(alloc, ctx, WRITE).is_ok(),
+    }
 }
 
 /// A driver and its queue.
@@ -132,96 +147,108 @@ pub(crate) struct ProgramPort<D: Driver> {
 
 impl<D: Driver> ProgramPort<D> {
     /// A port that this driver serves.
-    pub(crate) fn open(
-        alloc: Global,
-        mut driver: D,
-        config: &Config,
-    ) -> Result<ProgramPort<D>, Fail> {
-        match start(alloc, &mut driver, config)? {
-            Ok(ctx) => {
-                Ok(ProgramPort {
-                    alloc,
-                    driver,
-                    queue: queue_of(ctx),
-                })
-            }
-            Err(_) => Err("the driver refused".into()),
-        }
+    pub(crate) fn open(alloc: Global, mut driver: D, config: &Config) -> Option<ProgramPort<D>> {
+        let Ok(queue) = start(alloc, &mut driver, config) else {
+            return None;
+        };
+        Some(ProgramPort {
+            alloc,
+            driver,
+            queue,
+        })
     }
 
     /// Whether these bytes are queued.
-    pub(crate) fn has_queued(&self, bytes: &[u8]) -> Result<bool, Fail> {
-        is_queued(&self.queue, bytes)
+    fn has_queued(&self, bytes: &[u8]) -> bool {
+        matches!(&self.queue.to_piece(), Ok(queued) if queued.as_slice() == bytes)
     }
 
-    /// Whether nothing is queued.
-    pub(crate) fn is_drained(&self) -> bool {
-        self.queue.is_empty()
+    /// The context of the next call, which has the queue, where the driver is started.
+    fn begin(&mut self) -> Option<DriverCtx>
+        ensures { IfSome result (λ ctx. MayCall (D.stage self.new.driver) ctx) }
+    {
+        if self.driver.life() != Life::Started {
+            return None;
+        }
+        let queue = mem::replace(&mut self.queue, DriverQueue::new(self.alloc));
+        context(self.alloc, queue)
     }
 
-    /// Takes the queue away, for a callback.
-    fn begin(&mut self) -> DriverQueue {
-        mem::replace(&mut self.queue, DriverQueue::new(self.alloc))
-    }
-
-    /// Whether a callback, once it has ended, is recorded so. The queue comes back.
-    fn end(&mut self, ctx: DriverCtx, wanted: &[u8]) -> Result<bool, Fail> {
+    /// Whether a call, once it has ended, is recorded so. The queue comes back.
+    fn end(&mut self, ctx: DriverCtx, wanted: &[u8]) -> bool {
         let (queue, answers, effects) = ctx.finish();
         self.queue = queue;
         shows(self.alloc, answers.as_slice(), effects.as_slice(), wanted)
     }
 
-    /// Whether a command of these bytes is recorded so.
-    pub(crate) fn takes(&mut self, bytes: &[u8], wanted: &[u8]) -> Result<bool, Fail> {
-        let payload = payload(self.alloc, bytes)?;
-        let queue = self.begin();
-        let ctx = take(self.alloc, &mut self.driver, queue, &payload)?;
-        self.end(ctx, wanted)
+    /// Whether a call is made, and recorded so.
+    fn records(&mut self, call: ProgramCall<'_>, wanted: &[u8]) -> bool {
+        let Some(mut ctx) = self.begin() else {
+            return false;
+        };
+        let is_made = call_back(self.alloc, &mut self.driver, &mut ctx, call);
+        let is_shown = self.end(ctx, wanted);
+        is_made && is_shown
     }
 
-    /// Whether a call because there is something to read is recorded so.
-    pub(crate) fn reads(&mut self, wanted: &[u8]) -> Result<bool, Fail> {
-        let queue = self.begin();
-        let ctx = read(self.alloc, &mut self.driver, queue)?;
-        self.end(ctx, wanted)
-    }
-
-    /// Whether one call because there is something to read is recorded so.
-    pub(crate) fn reads_once(mut self, wanted: &[u8]) -> Result<bool, Fail> {
-        self.reads(wanted)
-    }
-
-    /// Whether two calls because there is something to read are recorded so.
-    pub(crate) fn reads_twice(mut self, first: &[u8], second: &[u8]) -> Result<bool, Fail> {
-        if !self.reads(first)? {
-            return Ok(false);
+    /// Whether a step goes so.
+    fn goes(&mut self, step: ProgramStep<'_>) -> bool {
+        match step {
+            ProgramStep::Takes(bytes, wanted) => self.records(ProgramCall::Take(bytes), wanted),
+            ProgramStep::Reads(wanted) => self.records(ProgramCall::Read, wanted),
+            ProgramStep::Writes(wanted) => self.records(ProgramCall::Write, wanted),
+            ProgramStep::HasQueued(bytes) => self.has_queued(bytes),
         }
-        self.reads(second)
     }
+}
 
-    /// Whether a call because there is room to write is recorded so.
-    pub(crate) fn writes(&mut self, wanted: &[u8]) -> Result<bool, Fail> {
-        let queue = self.begin();
-        let ctx = write(self.alloc, &mut self.driver, queue)?;
-        self.end(ctx, wanted)
+/// The number of the first step that goes otherwise, if one does, or of the step behind the last where there is no port.
+pub(crate) fn first_wrong<D: Driver>(
+    port: Option<ProgramPort<D>>,
+    steps: &[ProgramStep<'_>],
+) -> Option<usize> {
+    let Some(mut port) = port else {
+        return Some(steps.len());
+    };
+    for (at, step) in steps.iter().enumerate() {
+        if !port.goes(*step) {
+            return Some(at);
+        }
     }
+    None
 }
 
 /// A port of this program, with these options.
-pub(crate) fn serve(
+fn serve(
     alloc: Global,
     program: MemProgram,
     config: &Config,
-) -> Result<ProgramPort<SpawnDriver<MemSpawner>>, Fail> {
-    ProgramPort::open(alloc, spawn_driver(spawner(alloc, program)?), config)
+) -> Option<ProgramPort<SpawnDriver<MemSpawner>>> {
+    match spawner(alloc, program) {
+        Some(spawner) => ProgramPort::open(alloc, spawn_driver(spawner), config),
+        None => None,
+    }
 }
 
-/// A port of this program, with this framing.
-pub(crate) fn framed(
+/// The same as `first_wrong` of a port of this program, with these options.
+pub(crate) fn first_wrong_served(
+    alloc: Global,
+    program: MemProgram,
+    config: &Config,
+    steps: &[ProgramStep<'_>],
+) -> Option<usize> {
+    first_wrong(serve(alloc, program, config), steps)
+}
+
+/// The same with this framing, and else no options.
+pub(crate) fn first_wrong_framed(
     alloc: Global,
     program: MemProgram,
     mode: Mode,
-) -> Result<ProgramPort<SpawnDriver<MemSpawner>>, Fail> {
-    let config = options(alloc, mode)?;
-    serve(alloc, program, &config)
+    steps: &[ProgramStep<'_>],
+) -> Option<usize> {
+    match &options(alloc, mode) {
+        Some(config) => first_wrong_served(alloc, program, config, steps),
+        None => Some(steps.len()),
+    }
 }

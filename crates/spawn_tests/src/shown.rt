@@ -1,10 +1,9 @@
 //! What a callback recorded, as text: each answer of the program, then each effect of the driver, and behind each a `;`.
 use port_model::{Dir, Effect, Flag, Outside};
-use std::alloc::Global;
-use std::test::Fail;
+use std::alloc::{AllocError, Global};
 
 /// Puts these words behind the text, and the bytes behind them.
-fn put(text: &mut Vec<u8>, words: &[u8], bytes: &[u8]) -> Result<(), Fail> {
+fn put(text: &mut Vec<u8>, words: &[u8], bytes: &[u8]) -> Result<(), AllocError> {
     text.extend_from_slice(words)?;
     text.extend_from_slice(bytes)?;
     text.push(b';')?;
@@ -44,7 +43,7 @@ fn select_words(dir: Dir, on: bool) -> &'static [u8] {
     }
 }
 
-fn put_effect(text: &mut Vec<u8>, effect: &Effect) -> Result<(), Fail> {
+fn put_effect(text: &mut Vec<u8>, effect: &Effect) -> Result<(), AllocError> {
     match effect {
         Effect::Message { flag, bytes } => put(text, flag_words(*flag), bytes.as_slice()),
         Effect::Eof => put(text, b"eof", b""),
@@ -57,7 +56,7 @@ fn put_effect(text: &mut Vec<u8>, effect: &Effect) -> Result<(), Fail> {
     }
 }
 
-fn put_answer(text: &mut Vec<u8>, answer: &Outside) -> Result<(), Fail> {
+fn put_answer(text: &mut Vec<u8>, answer: &Outside) -> Result<(), AllocError> {
     match answer {
         Outside::Took(count) => put(text, b"took ", &[digit(*count)]),
         Outside::Got(bytes) => put(text, b"got ", bytes.as_slice()),
@@ -68,13 +67,8 @@ fn put_answer(text: &mut Vec<u8>, answer: &Outside) -> Result<(), Fail> {
     }
 }
 
-/// Whether these answers and effects have this text.
-pub(crate) fn shows(
-    alloc: Global,
-    answers: &[Outside],
-    effects: &[Effect],
-    wanted: &[u8],
-) -> Result<bool, Fail> {
+/// The text of these answers and effects.
+fn text_of(alloc: Global, answers: &[Outside], effects: &[Effect]) -> Result<Vec<u8>, AllocError> {
     let mut text = Vec::new(alloc);
     for answer in answers {
         put_answer(&mut text, answer)?;
@@ -82,5 +76,10 @@ pub(crate) fn shows(
     for effect in effects {
         put_effect(&mut text, effect)?;
     }
-    Ok(text.as_slice() == wanted)
+    Ok(text)
+}
+
+/// Whether these answers and effects have this text.
+pub(crate) fn shows(alloc: Global, answers: &[Outside], effects: &[Effect], wanted: &[u8]) -> bool {
+    matches!(&text_of(alloc, answers, effects), Ok(text) if text.as_slice() == wanted)
 }
