@@ -2,10 +2,20 @@ use outside::MemPoll;
 use port_model::Dir;
 use ready_select::{Delivered, NotUsed, PollAsk, PollTable, Polled, Selector, Unused, poll_round};
 use std::alloc::Global;
+use std::process::Abort;
 use std::snapshot::Snapshot;
 use std::sync::Wait;
 use std::test::Fail;
 use task_queue::{NoMemory, SendEnd, TakeEnd, lane};
+
+/// What a port asks or a poller does, and what has to come of it.
+#[derive(Clone, Copy)]
+enum PollStep {
+    /// The port asks this.
+    Put(&'static [PollAsk]),
+    /// A round ends so, and the rounds until then found these.
+    Round(Polled, &'static [PollAsk]),
+}
 
 const READ_OF_0: PollAsk = PollAsk::Arm {
     port: 3,
@@ -70,26 +80,74 @@ impl MemPoller {
     fn finds<R: Wait>(&mut self, rt: &R, polled: Polled, found: &[PollAsk]) -> bool {
         self.round(rt) == polled && self.found.as_slice() == found
     }
+
+    /// Whether a step goes so.
+    fn goes<R: Wait>(&mut self, rt: &R, step: &PollStep) -> bool {
+        match step {
+            PollStep::Put(asks) => self.puts(rt, asks),
+            PollStep::Round(polled, found) => self.finds(rt, *polled, found),
+        }
+    }
+
+    /// The number of the first step that goes otherwise, if one does.
+    fn first_wrong<R: Wait>(&mut self, rt: &R, steps: &[PollStep]) -> Option<usize> {
+        for (at, step) in steps.iter().enumerate() {
+            if !self.goes(rt, step) {
+                return Some(at);
+            }
+        }
+        None
+    }
 }
+
+/// Ends the test where a step of a poller goes otherwise.
+fn follow<R: Wait + Abort>(rt: &R, poller: MemPoller, steps: &[PollStep]) {
+    let mut poller = poller;
+    assert_eq!(rt; poller.first_wrong(rt, steps), None);
+}
+
+const ANSWERED: [PollStep; 2] = [
+    PollStep::Put(&[READ_OF_0]),
+    PollStep::Round(Polled::Round, &[READ_OF_0]),
+];
 
 #[test]
 fn an_answered_event_is_found(rt: HostRuntime) -> Result<(), Fail> {
-    let mut poller = MemPoller::new(rt.alloc())?;
-    assert!(rt; poller.puts(&rt, &[READ_OF_0]));
-    assert!(rt; poller.finds(&rt, Polled::Round, &[READ_OF_0]));
+    follow(&rt, MemPoller::new(rt.alloc())?, &ANSWERED);
     Ok(())
 }
 
+const DROPPED: PollAsk = PollAsk::Drop { port: 3, event: 7 };
+
+const FAILED: [PollStep; 5] = [
+    PollStep::Put(&[READ_OF_0, DROPPED]),
+    PollStep::Round(Polled::Failed, &[DROPPED]),
+    PollStep::Round(Polled::Round, &[DROPPED, READ_OF_0]),
+    PollStep::Put(&[PollAsk::Finish]),
+    PollStep::Round(Polled::Finished, &[DROPPED, READ_OF_0]),
+];
+
 #[test]
 fn nothing_is_lost_where_a_wait_fails(rt: HostRuntime) -> Result<(), Fail> {
-    let mut poller = MemPoller::that_fails(rt.alloc())?;
-    let dropped = PollAsk::Drop { port: 3, event: 7 };
-    assert!(rt; poller.puts(&rt, &[READ_OF_0, dropped]));
-    assert!(rt; poller.finds(&rt, Polled::Failed, &[dropped]));
-    assert!(rt; poller.finds(&rt, Polled::Round, &[dropped, READ_OF_0]));
-    assert!(rt; poller.puts(&rt, &[PollAsk::Finish]));
-    assert!(rt; poller.round(&rt) == Polled::Finished);
+    follow(&rt, MemPoller::that_fails(rt.alloc())?, &FAILED);
     Ok(())
+}
+
+/// What is done with a selector, or seen of it, and what has to come of it.
+#[derive(Clone, Copy)]
+enum SelectStep {
+    /// The arming of an event answers this.
+    Arm(u32, Dir, Result<(), NotUsed>),
+    /// Event 0 is delivered for reading as this.
+    Deliver(Delivered),
+    /// This event is given up as this.
+    GiveUp(u32, Unused),
+    /// The drop of event 0 is told as this.
+    Drop(Delivered),
+    /// Event 0 waits for the poller: it is armed for reading, and is no longer selected.
+    Wait,
+    /// These events are held.
+    Hold(&'static [u32]),
 }
 
 /// A selector of which event 0 is selected for reading.
@@ -97,26 +155,6 @@ fn reading_of_0() -> Selector {
     let mut events = Selector::new();
     events.select(0, Dir::Read, true);
     events
-}
-
-/// What the arming of an event answers.
-fn arm(events: &mut Selector, event: u32, dir: Dir) -> Result<(), NotUsed> {
-    events.arm(event, dir)
-}
-
-/// Whether event 0 is delivered for reading as this.
-fn delivers(events: &mut Selector, wanted: Delivered) -> bool {
-    events.deliver(0, Dir::Read) == wanted
-}
-
-/// Whether an event is given up as this.
-fn gives_up(events: &mut Selector, event: u32, wanted: Unused) -> bool {
-    events.unuse(event) == wanted
-}
-
-/// Whether the drop of event 0 is told as this.
-fn drops(events: &mut Selector, wanted: Delivered) -> bool {
-    events.dropped(0) == wanted
 }
 
 /// Whether event 0 waits for the poller: it is armed for reading, and is no longer selected.
@@ -129,19 +167,44 @@ fn holds(events: &Selector, wanted: &[u32]) -> bool {
     events.held() == wanted
 }
 
+/// Whether a step of a selector goes so.
+fn goes(events: &mut Selector, step: &SelectStep) -> bool {
+    match step {
+        SelectStep::Arm(event, dir, answer) => events.arm(*event, *dir) == *answer,
+        SelectStep::Deliver(wanted) => events.deliver(0, Dir::Read) == *wanted,
+        SelectStep::GiveUp(event, wanted) => events.unuse(*event) == *wanted,
+        SelectStep::Drop(wanted) => events.dropped(0) == *wanted,
+        SelectStep::Wait => waits(events),
+        SelectStep::Hold(wanted) => holds(events, wanted),
+    }
+}
+
+/// The number of the first step that goes otherwise, if one does.
+fn first_wrong(events: &mut Selector, steps: &[SelectStep]) -> Option<usize> {
+    for (at, step) in steps.iter().enumerate() {
+        if !goes(events, step) {
+            return Some(at);
+        }
+    }
+    None
+}
+
+const GIVEN_UP: [SelectStep; 12] = [
+    SelectStep::Arm(0, Dir::Read, Ok(())),
+    SelectStep::Arm(1, Dir::Write, Err(NotUsed { event: 1 })),
+    SelectStep::Deliver(Delivered::Call),
+    SelectStep::Deliver(Delivered::Stale),
+    SelectStep::Arm(0, Dir::Read, Ok(())),
+    SelectStep::GiveUp(1, Unused::Now),
+    SelectStep::GiveUp(0, Unused::Later),
+    SelectStep::Wait,
+    SelectStep::Hold(&[0]),
+    SelectStep::Drop(Delivered::Stopped),
+    SelectStep::Drop(Delivered::Stale),
+    SelectStep::Hold(&[]),
+];
+
 #[test]
-fn a_program_with_two_events_gives_one_up(rt: HostRuntime) -> Result<(), Fail> {
-    let mut events = reading_of_0();
-    assert!(rt; arm(&mut events, 0, Dir::Read) == Ok(()));
-    assert!(rt; arm(&mut events, 1, Dir::Write) == Err(NotUsed { event: 1 }));
-    assert!(rt; delivers(&mut events, Delivered::Call));
-    assert!(rt; delivers(&mut events, Delivered::Stale));
-    assert!(rt; arm(&mut events, 0, Dir::Read) == Ok(()));
-    assert!(rt; gives_up(&mut events, 1, Unused::Now));
-    assert!(rt; gives_up(&mut events, 0, Unused::Later));
-    assert!(rt; waits(&events) && holds(&events, &[0]));
-    assert!(rt; drops(&mut events, Delivered::Stopped));
-    assert!(rt; drops(&mut events, Delivered::Stale));
-    assert!(rt; holds(&events, &[]));
-    Ok(())
+fn a_program_with_two_events_gives_one_up(rt: HostRuntime) {
+    assert_eq!(rt; first_wrong(&mut reading_of_0(), &GIVEN_UP), None);
 }

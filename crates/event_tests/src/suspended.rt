@@ -1,32 +1,52 @@
 use std::test::Fail;
 use suspend_list::{Entry, StopNote, SuspendList, may_go};
 
+const NOTE: StopNote = StopNote {
+    port: 0,
+    seq: 3,
+    msgq: 1_099_511_627_784,
+};
+
+/// The words MSGQ and STAT, and whether the process of the note may go on by them.
+const WORDS: [(u64, u64, bool); 3] = [
+    (1_099_511_627_780, 0, false),
+    (2_199_023_255_555, 0, true),
+    (1_099_511_627_780, 6, true),
+];
+
 #[test]
 fn a_suspended_process_goes_on_in_the_next_period_or_at_the_close(rt: HostRuntime) {
-    let note = StopNote {
-        port: 0,
-        seq: 3,
-        msgq: 1_099_511_627_784,
-    };
-    assert!(rt; !may_go(&note, 1_099_511_627_780, 0));
-    assert!(rt; may_go(&note, 2_199_023_255_555, 0));
-    assert!(rt; may_go(&note, 1_099_511_627_780, 6));
+    for (msgq, stat, wanted) in &WORDS {
+        assert!(rt; may_go(&NOTE, *msgq, *stat) == *wanted);
+    }
+}
+
+const ZERO: Entry = Entry { process: 0, seq: 5 };
+
+const ONE: Entry = Entry { process: 1, seq: 0 };
+
+const ONE_AGAIN: Entry = Entry { process: 1, seq: 1 };
+
+/// What a list answers that is empty once two entries were dropped.
+fn last_entries(list: &mut SuspendList) -> [Option<Entry>; 5] {
+    [
+        list.drop_first(),
+        list.first(),
+        list.drop_first(),
+        list.drop_first(),
+        list.first(),
+    ]
 }
 
 #[test]
 fn processes_are_resumed_in_the_order_of_their_suspension(rt: HostRuntime) -> Result<(), Fail> {
     let mut list = SuspendList::new(rt.alloc(), 2)?;
-    let one = Entry { process: 1, seq: 0 };
-    let zero = Entry { process: 0, seq: 5 };
-    list.list(one);
-    list.list(zero);
-    assert!(rt; list.first() == Some(one) && list.drop_first() == Some(one));
-    list.list(Entry { process: 1, seq: 1 });
+    list.list(ONE);
+    list.list(ZERO);
+    assert!(rt; list.first() == Some(ONE) && list.drop_first() == Some(ONE));
+    list.list(ONE_AGAIN);
     assert!(rt;
-        list.drop_first() == Some(zero) && list.first() == Some(Entry { process: 1, seq: 1 })
-    );
-    assert!(rt;
-        list.drop_first().is_some() && list.drop_first().is_none() && list.first().is_none()
+        last_entries(&mut list) == [Some(ZERO), Some(ONE_AGAIN), Some(ONE_AGAIN), None, None]
     );
     Ok(())
 }

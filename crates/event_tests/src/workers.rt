@@ -5,7 +5,6 @@ use std::alloc::Global;
 use std::snapshot::Snapshot;
 use std::sync::Wait;
 use std::sync::atomic::{AtomicU64, Ordering};
-use std::test::Fail;
 use std::thread;
 use std::thread::{Threads, join};
 use task_queue::lane;
@@ -23,18 +22,17 @@ fn works(alloc: Global, code: u8, input: &[u8], output: &[u8]) -> bool
     matches!(&work(alloc, code, input), Ok(worked) if worked.as_slice() == output)
 }
 
+// The first example of FIPS 180-4's SHA-256.
+const DIGEST_OF_ABC: [u8; 32] = [
+    0xba, 0x78, 0x16, 0xbf, 0x8f, 0x01, 0xcf, 0xea, 0x41, 0x41, 0x40, 0xde, 0x5d, 0xae, 0x22, 0x23,
+    0xb0, 0x03, 0x61, 0xa3, 0x96, 0x17, 0x7a, 0x9c, 0xb4, 0x10, 0xff, 0x61, 0xf2, 0x00, 0x15, 0xad,
+];
+
 #[test]
 fn each_code_has_its_work(rt: HostRuntime) {
-    let alloc = rt.alloc();
-    assert!(rt; works(alloc, 1, &[1, 2, 3], &[3, 2, 1]));
-    assert!(rt; works(alloc, 2, &[0xff, 0xff], &[0, 0, 0, 0, 0, 0, 1, 0xfe]));
-    // The first example of FIPS 180-4's SHA-256.
-    let digest = [
-        0xba, 0x78, 0x16, 0xbf, 0x8f, 0x01, 0xcf, 0xea, 0x41, 0x41, 0x40, 0xde, 0x5d, 0xae, 0x22,
-        0x23, 0xb0, 0x03, 0x61, 0xa3, 0x96, 0x17, 0x7a, 0x9c, 0xb4, 0x10, 0xff, 0x61, 0xf2, 0x00,
-        0x15, 0xad,
-    ];
-    assert!(rt; works(alloc, 3, b"abc", &digest));
+    assert!(rt; works(rt.alloc(), 1, &[1, 2, 3], &[3, 2, 1]));
+    assert!(rt; works(rt.alloc(), 2, &[0xff, 0xff], &[0, 0, 0, 0, 0, 0, 1, 0xfe]));
+    assert!(rt; works(rt.alloc(), 3, b"abc", &DIGEST_OF_ABC));
 }
 
 /// A pool of one worker, and the worker's end.
@@ -60,26 +58,35 @@ fn submit_sum<R: Wait>(rt: &R, alloc: Global, pool: &mut Pool) -> Result<(), NoM
     }
 }
 
-/// Whether the next turn works job 0 of port 4, the sum of two bytes.
-fn works_sum<R: Wait>(rt: &R, alloc: Global, worker: &mut TakeEnd<WorkItem>) -> bool {
-    match Pool::worker_turn(rt, alloc, worker) {
-        Worked::Did(done) => {
-            (done.port, done.number, done.code) == (4, 0, 2)
-                && done.input.as_slice() == [1, 2].as_slice()
-                && done.output.as_slice() == [0, 0, 0, 0, 0, 0, 0, 3].as_slice()
-        }
-        _ => false,
+/// What a turn came to.
+#[derive(Clone, Copy, PartialEq, Eq)]
+enum Turn {
+    /// Job 0 of port 4, the sum of two bytes, was done.
+    Sum,
+    OtherJob,
+    /// The lane was empty.
+    Empty,
+    /// It was the worker's last turn.
+    Finished,
+    NoMemory,
+}
+
+/// Whether job 0 of port 4, the sum of two bytes, was done.
+fn is_sum(done: &Done) -> bool {
+    (done.port, done.number, done.code) == (4, 0, 2)
+        && done.input.as_slice() == [1, 2].as_slice()
+        && done.output.as_slice() == [0, 0, 0, 0, 0, 0, 0, 3].as_slice()
+}
+
+/// What the worker's next turn comes to.
+fn next_turn<R: Wait>(rt: &R, alloc: Global, worker: &mut TakeEnd<WorkItem>) -> Turn {
+    match &Pool::worker_turn(rt, alloc, worker) {
+        Worked::Did(done) if is_sum(done) => Turn::Sum,
+        Worked::Did(_) => Turn::OtherJob,
+        Worked::Empty => Turn::Empty,
+        Worked::Finished => Turn::Finished,
+        Worked::NoMemory(_) => Turn::NoMemory,
     }
-}
-
-/// Whether the next turn finds its lane empty.
-fn finds_none<R: Wait>(rt: &R, alloc: Global, worker: &mut TakeEnd<WorkItem>) -> bool {
-    matches!(Pool::worker_turn(rt, alloc, worker), Worked::Empty)
-}
-
-/// Whether the next turn is the worker's last one.
-fn finishes<R: Wait>(rt: &R, alloc: Global, worker: &mut TakeEnd<WorkItem>) -> bool {
-    matches!(Pool::worker_turn(rt, alloc, worker), Worked::Finished)
 }
 
 /// Tells the first worker of a pool to finish.
@@ -87,16 +94,23 @@ fn finish<R: Wait>(rt: &R, pool: Pool) -> bool {
     pool.into_lanes()[0].put(rt, WorkItem::Finish).is_ok()
 }
 
-#[test]
-fn a_turn_works_a_job_and_then_finishes(rt: HostRuntime) -> Result<(), Fail> {
-    let alloc = rt.alloc();
+/// What two turns come to after a job was submitted, and one after the worker was told to finish, if it was told.
+fn turns<R: Wait>(rt: &R, alloc: Global) -> Result<(Turn, Turn, Option<Turn>), NoMemory> {
     let (mut pool, mut worker) = one_worker(alloc)?;
-    submit_sum(&rt, alloc, &mut pool)?;
-    assert!(rt; works_sum(&rt, alloc, &mut worker));
-    assert!(rt; finds_none(&rt, alloc, &mut worker));
-    assert!(rt; finish(&rt, pool));
-    assert!(rt; finishes(&rt, alloc, &mut worker));
-    Ok(())
+    submit_sum(rt, alloc, &mut pool)?;
+    let first = next_turn(rt, alloc, &mut worker);
+    let second = next_turn(rt, alloc, &mut worker);
+    let is_told = finish(rt, pool);
+    Ok((
+        first,
+        second,
+        is_told.then_some(next_turn(rt, alloc, &mut worker)),
+    ))
+}
+
+#[test]
+fn a_turn_works_a_job_and_then_finishes(rt: HostRuntime) {
+    assert!(rt; turns(&rt, rt.alloc()) == Ok((Turn::Sum, Turn::Empty, Some(Turn::Finished))));
 }
 
 // Turns until a `Finish`, or until the lane is empty after all was submitted. What was done, in order.
@@ -214,22 +228,27 @@ fn count_of_key(dones: &[Done], key: u32) -> Option<u64> {
     if next >= JOBS { Some(count) } else { None }
 }
 
-/// How many jobs the workers did, where each did all jobs of its keys and in order.
-fn count_of_all(dones: &[Option<Vec<Done>>]) -> Option<u64> {
+/// How many workers there were, and how many jobs they did, where each did all jobs of its keys and in order.
+fn count_of_all(dones: &[Option<Vec<Done>>]) -> Option<(usize, u64)> {
     let mut all: u64 = 0;
     for key in 0..KEYS {
-        let Some(Some(dones)) = dones.get(key as usize % WORKERS) else {
+        let Some(Some(of_worker)) = dones.get(key as usize % WORKERS) else {
             return None;
         };
-        all = all.saturating_add(count_of_key(dones.as_slice(), key)?);
+        all = all.saturating_add(count_of_key(of_worker.as_slice(), key)?);
     }
-    Some(all)
+    Some((dones.len(), all))
+}
+
+/// How many workers there were, and how many jobs they did, where each did all jobs of its keys and in order.
+fn count_worked<R: Threads + Wait + Sync>(rt: &R, alloc: Global) -> Option<(usize, u64)> {
+    match &work_all(rt, alloc) {
+        Some(dones) => count_of_all(dones.as_slice()),
+        None => None,
+    }
 }
 
 #[test]
-fn workers_keep_the_order_of_each_key(rt: HostRuntime) -> Result<(), Fail> {
-    let dones = work_all(&rt, rt.alloc()).ok_or("memory")?;
-    assert!(rt; dones.len() == WORKERS);
-    assert!(rt; count_of_all(dones.as_slice()) == Some(JOBS));
-    Ok(())
+fn workers_keep_the_order_of_each_key(rt: HostRuntime) {
+    assert!(rt; count_worked(&rt, rt.alloc()) == Some((WORKERS, JOBS)));
 }
