@@ -1,17 +1,26 @@
+use crate::checks::{is_right, none_is_wrong};
 use io_vector::{IoVec, NoMemory, Piece};
 use packet_framing::{
     Flag, FrameFault, Message, Mode, UnframeFault, Unframer, frame, unframe, unframe_so_far,
 };
 use std::alloc::Global;
-use std::test::Fail;
+
+/// Whether a message has the flag and the bytes that are expected.
+fn is(message: &Message, expected: Option<&(Flag, &[u8])>) -> bool {
+    match expected {
+        Some((flag, bytes)) => message.flag == *flag && message.bytes.as_slice() == *bytes,
+        None => false,
+    }
+}
 
 /// Whether the messages have these flags and bytes.
 fn are(messages: &[Message], expected: &[(Flag, &[u8])]) -> bool {
+    for (at, message) in messages.iter().enumerate() {
+        if !is(message, expected.get(at)) {
+            return false;
+        }
+    }
     messages.len() == expected.len()
-        && messages
-            .iter()
-            .zip(expected)
-            .all(|(m, e)| m.flag == e.0 && m.bytes.as_slice() == e.1)
 }
 
 /// The bytes of all messages, if none is empty.
@@ -108,14 +117,14 @@ fn streams(alloc: Global, text: &[u8], cuts: u32) -> bool {
     matches!(joined(alloc, messages.as_slice()), Some(bytes) if bytes.as_slice() == text)
 }
 
-/// The first cutting of a stream of twelve bytes that tells other bytes, if there is one.
-fn first_streamed_otherwise(alloc: Global, text: &[u8]) -> Option<u32> {
+/// Whether each cutting of a stream of twelve bytes tells its bytes.
+fn is_streamed_by_all(alloc: Global, text: &[u8]) -> bool {
     for cuts in 0..4096u32 {
         if !streams(alloc, text, cuts) {
-            return Some(cuts);
+            return false;
         }
     }
-    None
+    true
 }
 
 const CUT_TEXTS: [CutText; 4] = [
@@ -159,8 +168,8 @@ const CUT_TEXTS: [CutText; 4] = [
 #[test]
 fn every_cutting_tells_the_same(rt: HostRuntime) {
     let alloc = rt.alloc();
-    assert_eq!(rt; first_told_otherwise(alloc, &CUT_TEXTS), None);
-    assert_eq!(rt; first_streamed_otherwise(alloc, b"abcdefghijkl"), None);
+    none_is_wrong(&rt, first_told_otherwise(alloc, &CUT_TEXTS));
+    is_right(&rt, is_streamed_by_all(alloc, b"abcdefghijkl"));
 }
 
 /// A piece of each chunk's bytes.
@@ -187,21 +196,32 @@ fn runs(alloc: Global, mode: Mode, chunks: &[&[u8]], expected: &[(Flag, &[u8])])
 fn a_run_of_chunks(rt: HostRuntime) {
     let chunks: [&[u8]; 3] = [b"\x00\x03ab", b"c\x00\x00", b"\x00"];
     let packets: [(Flag, &[u8]); 2] = [(Flag::Plain, b"abc"), (Flag::Plain, b"")];
-    assert!(rt; runs(rt.alloc(), Mode::Packet2, &chunks, &packets));
+    is_right(&rt, runs(rt.alloc(), Mode::Packet2, &chunks, &packets));
+}
+
+/// Whether a chunk of these bytes makes these messages whole.
+fn feeds(alloc: Global, unframer: &mut Unframer, chunk: &[u8], expected: &[(Flag, &[u8])]) -> bool {
+    matches!(&fed(alloc, unframer, chunk), Ok(told) if are(told.as_slice(), expected))
+}
+
+/// Whether two chunks make the first lines whole, and one more chunk the second ones.
+fn goes_on(alloc: Global, first: &[(Flag, &[u8])], second: &[(Flag, &[u8])]) -> bool {
+    let Ok(chunks) = pieces(alloc, &[b"ab", b"\nc"]) else {
+        return false;
+    };
+    match unframe_so_far(alloc, Mode::Line(3), &chunks) {
+        Ok((mut unframer, lines)) => {
+            are(lines.as_slice(), first) && feeds(alloc, &mut unframer, b"d\n", second)
+        }
+        Err(_) => false,
+    }
 }
 
 #[test]
-fn a_run_goes_on(rt: HostRuntime) -> Result<(), Fail> {
-    let alloc = rt.alloc();
-    let chunks = [
-        Piece::of_slice(alloc, b"ab")?,
-        Piece::of_slice(alloc, b"\nc")?,
-    ];
-    let (mut unframer, lines) = unframe_so_far(alloc, Mode::Line(3), &chunks)?;
-    assert!(rt; are(lines.as_slice(), &[(Flag::Eol, b"ab")]));
-    let more = unframer.feed(&Piece::of_slice(alloc, b"d\n")?)?;
-    assert!(rt; are(more.as_slice(), &[(Flag::Eol, b"cd")]));
-    Ok(())
+fn a_run_goes_on(rt: HostRuntime) {
+    let first = [(Flag::Eol, b"ab".as_slice())];
+    let second = [(Flag::Eol, b"cd".as_slice())];
+    is_right(&rt, goes_on(rt.alloc(), &first, &second));
 }
 
 #[test]
@@ -211,7 +231,10 @@ fn a_line_of_its_limit_is_one_message(rt: HostRuntime) {
         (Flag::Noeol, b"abc"),
         (Flag::Eol, b"def"),
     ];
-    assert!(rt; tells(rt.alloc(), Mode::Line(3), b"abc\nabcdef\n", 0, &expected));
+    is_right(
+        &rt,
+        tells(rt.alloc(), Mode::Line(3), b"abc\nabcdef\n", 0, &expected),
+    );
 }
 
 /// What two feeds and the end answer after a header of four bytes.
@@ -257,7 +280,7 @@ const HEADERS: [(&[u8], Option<UnframeFault>); 4] = [
 
 #[test]
 fn a_frame_that_is_too_long_is_refused_from_then_on(rt: HostRuntime) {
-    assert_eq!(rt; first_answered_otherwise(rt.alloc(), &HEADERS), None);
+    none_is_wrong(&rt, first_answered_otherwise(rt.alloc(), &HEADERS));
 }
 
 /// The frame of these bytes.
@@ -265,9 +288,10 @@ fn sent(alloc: Global, mode: Mode, bytes: &[u8]) -> Result<Vec<u8>, FrameFault> 
     let Ok(piece) = Piece::of_slice(alloc, bytes) else {
         return Err(FrameFault::NoMemory);
     };
-    frame(alloc, mode, &IoVec::of_piece(alloc, piece))?
-        .to_vec()
-        .map_err(|_| FrameFault::NoMemory)
+    match frame(alloc, mode, &IoVec::of_piece(alloc, piece))?.to_vec() {
+        Ok(frame) => Ok(frame),
+        Err(_) => Err(FrameFault::NoMemory),
+    }
 }
 
 /// Whether these bytes have this frame.
@@ -292,9 +316,15 @@ fn frame_fault(alloc: Global, bytes: &[u8]) -> Option<FrameFault> {
 fn a_frame_has_its_length_first(rt: HostRuntime) {
     let alloc = rt.alloc();
     let bytes = [0x61u8; 256];
-    assert!(rt; sends(alloc, Mode::Packet2, b"abc", b"\x00\x03abc"));
-    assert!(rt; sends(alloc, Mode::Packet4, b"abc", b"\x00\x00\x00\x03abc"));
-    assert!(rt; sends(alloc, Mode::Line(3), b"abc", b"abc"));
-    assert!(rt; sends_longest(alloc, &bytes[..255], 256));
-    assert!(rt; frame_fault(alloc, &bytes) == Some(FrameFault::TooLong { len: 256 }));
+    is_right(&rt, sends(alloc, Mode::Packet2, b"abc", b"\x00\x03abc"));
+    is_right(
+        &rt,
+        sends(alloc, Mode::Packet4, b"abc", b"\x00\x00\x00\x03abc"),
+    );
+    is_right(&rt, sends(alloc, Mode::Line(3), b"abc", b"abc"));
+    is_right(&rt, sends_longest(alloc, &bytes[..255], 256));
+    is_right(
+        &rt,
+        frame_fault(alloc, &bytes) == Some(FrameFault::TooLong { len: 256 }),
+    );
 }

@@ -2,6 +2,7 @@ ghost use Rattle.std.specs.Prelude.{◌≡◌, ℕ, ◌+◌, ◌<◌, true, [], 
 ghost use Rattle.task_queue.specs.Items.{of, IsNumbered};
 ghost use Rattle.task_queue.specs.Ends.{ended_of, TookAll};
 
+use crate::checks::is_right;
 use std::alloc::{AllocError, Global};
 use std::snapshot::Snapshot;
 use std::sync::Wait;
@@ -11,7 +12,7 @@ use std::thread::{Threads, join};
 use task_queue::{Fits, Item, SendEnd, TakeEnd, lane};
 
 // Every number fits, in a lane with no key.
-#[derive(Clone, Copy, Debug, Drop, PartialEq)]
+#[derive(Clone, Copy, Drop, PartialEq)]
 struct LaneNumber(u64);
 
 impl Fits for LaneNumber {
@@ -21,7 +22,7 @@ impl Fits for LaneNumber {
 }
 
 // A place in a list whose length is the lane's key.
-#[derive(Debug, Drop)]
+#[derive(Drop)]
 struct Place(usize);
 
 impl Fits for Place {
@@ -213,10 +214,11 @@ fn deliver<R: Threads + Wait + Sync>(
 
 // So many numbers from this one.
 fn numbers(alloc: Global, start: u64, count: u64) -> Option<Vec<LaneNumber>> {
-    (start..start.saturating_add(count))
-        .map(LaneNumber)
-        .collect(alloc)
-        .ok()
+    let mut numbers = Vec::new(alloc);
+    for number in start..start.saturating_add(count) {
+        numbers.push(LaneNumber(number)).ok()?;
+    }
+    Some(numbers)
 }
 
 // Whether each item is what its sender put. The senders are numbered from `first`, and put their numbers from these starts on.
@@ -250,7 +252,7 @@ fn delivers<R: Threads + Wait + Sync>(rt: &R, alloc: Global) -> bool {
 
 #[test]
 fn two_threads_put_and_a_third_takes(rt: HostRuntime) {
-    assert!(rt; delivers(&rt, rt.alloc()));
+    is_right(&rt, delivers(&rt, rt.alloc()));
 }
 
 // A job for each list: ends 1, 2 and so on put them.
@@ -400,7 +402,7 @@ fn fans_in<R: Threads + Wait + Sync>(rt: &R, alloc: Global) -> bool {
 
 #[test]
 fn each_of_many_lists_comes_in_its_order(rt: HostRuntime) {
-    assert!(rt; fans_in(&rt, rt.alloc()));
+    is_right(&rt, fans_in(&rt, rt.alloc()));
 }
 
 // Whether a number is put as the sender's number `seq`.
@@ -448,17 +450,17 @@ fn keeps_order<R: Wait>(rt: &R, alloc: Global) -> bool {
 
 #[test]
 fn items_come_in_the_order_of_each_sender(rt: HostRuntime) {
-    assert!(rt; keeps_order(&rt, rt.alloc()));
+    is_right(&rt, keeps_order(&rt, rt.alloc()));
 }
 
 // The end that takes of a lane, into which both senders were taken in, of which the first put 10.
 fn joined<R: Wait>(rt: &R, alloc: Global) -> Option<TakeEnd<LaneNumber>> {
     let (mut first, mut taker) = lane::<LaneNumber>(alloc, Snapshot::of(&())).ok()?;
     let second = first.split().ok()?;
-    first.put(rt, LaneNumber(10)).ok()?;
+    let is_put = first.put(rt, LaneNumber(10)).is_ok();
     taker.take_in(second);
     taker.take_in(first);
-    Some(taker)
+    is_put.then_some(taker)
 }
 
 // Whether what the senders put is there once they were taken in.
@@ -471,7 +473,7 @@ fn keeps_what_was_sent<R: Wait>(rt: &R, alloc: Global) -> bool {
 
 #[test]
 fn ends_are_taken_in_with_what_they_sent(rt: HostRuntime) {
-    assert!(rt; keeps_what_was_sent(&rt, rt.alloc()));
+    is_right(&rt, keeps_what_was_sent(&rt, rt.alloc()));
 }
 
 // What is taken is used as a place with no test, since it fits the lane's key.
@@ -497,5 +499,5 @@ fn names_its_place<R: Wait>(rt: &R, alloc: Global) -> bool {
 
 #[test]
 fn what_is_taken_fits_the_key(rt: HostRuntime) {
-    assert!(rt; names_its_place(&rt, rt.alloc()));
+    is_right(&rt, names_its_place(&rt, rt.alloc()));
 }

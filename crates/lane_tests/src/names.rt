@@ -1,3 +1,4 @@
+use crate::checks::{is_right, none_is_wrong};
 use port_signal::{Items, Log, Reason, ReasonFault, reason};
 use std::alloc::Global;
 
@@ -20,7 +21,7 @@ const NAMES: [&str; 5] = ["a", "normal", "z9", "a_1_b", "abcdefghijklmnop"];
 
 #[test]
 fn a_name_reads_back_as_its_text(rt: HostRuntime) {
-    assert_eq!(rt; first_unread(&NAMES), None);
+    none_is_wrong(&rt, first_unread(&NAMES));
 }
 
 /// Why a text is no name, if it is none.
@@ -54,7 +55,7 @@ const FAULTS: [(&str, u64); 9] = [
 
 #[test]
 fn a_fault_tells_the_first_bad_place(rt: HostRuntime) {
-    assert_eq!(rt; first_other_fault(&FAULTS), None);
+    none_is_wrong(&rt, first_other_fault(&FAULTS));
 }
 
 /// Whether a name is one with what is the same as it.
@@ -75,9 +76,9 @@ fn are_two(first: &str, second: &str) -> bool {
 
 #[test]
 fn names_are_one_where_their_texts_are(rt: HostRuntime) {
-    assert!(rt;
-        is_one_with_itself("normal") && are_two("normal", "norma") && are_two("normal", "normam")
-    );
+    is_right(&rt, is_one_with_itself("normal"));
+    is_right(&rt, are_two("normal", "norma"));
+    is_right(&rt, are_two("normal", "normam"));
 }
 
 /// Three entries that a list gave back.
@@ -102,10 +103,13 @@ fn logs(alloc: Global) -> bool {
     Log::of_vec(entries).as_slice() == [1, 2, 3, 4].as_slice()
 }
 
+/// Whether a new list and a new log have no entries.
+fn are_empty(alloc: Global) -> bool {
+    Items::<u32>::new(alloc).as_slice().is_empty() && Log::<u32>::new(alloc).as_slice().is_empty()
+}
+
 #[test]
 fn lists_give_back_their_entries(rt: HostRuntime) {
-    let alloc = rt.alloc();
-    assert!(rt; logs(alloc));
-    assert!(rt; Items::<u32>::new(alloc).as_slice().is_empty());
-    assert!(rt; Log::<u32>::new(alloc).as_slice().is_empty());
+    is_right(&rt, logs(rt.alloc()));
+    is_right(&rt, are_empty(rt.alloc()));
 }

@@ -1,6 +1,7 @@
 ghost use Rattle.std.specs.Prelude.{◌≡◌, true, IfSome};
 ghost use Rattle.port_model.specs.Signals.{data_size, is_command};
 
+use crate::checks::is_right;
 use port_model::{IoVec, Piece, Signal, Task};
 use port_words::busy::{AddHow, Added, busy_table};
 use std::alloc::Global;
@@ -105,7 +106,7 @@ fn handles_control<R: Wait>(rt: &R, alloc: Global) -> bool {
 
 #[test]
 fn a_busy_port_handles_what_waits_behind_no_command(rt: HostRuntime) {
-    assert!(rt; handles_control(&rt, rt.alloc()));
+    is_right(&rt, handles_control(&rt, rt.alloc()));
 }
 
 /// All tasks in the order of their arrival, and then none.
@@ -121,10 +122,10 @@ fn handles_all<R: Wait>(rt: &R, alloc: Global, is_forced: bool, busy: bool) -> b
 
 #[test]
 fn a_busy_port_handles_a_forced_command(rt: HostRuntime) {
-    assert!(rt; handles_all(&rt, rt.alloc(), true, true));
+    is_right(&rt, handles_all(&rt, rt.alloc(), true, true));
 }
 
 #[test]
 fn a_free_port_handles_what_waits_in_the_order_of_arrival(rt: HostRuntime) {
-    assert!(rt; handles_all(&rt, rt.alloc(), false, false));
+    is_right(&rt, handles_all(&rt, rt.alloc(), false, false));
 }

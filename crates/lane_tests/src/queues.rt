@@ -1,7 +1,8 @@
-ghost use Rattle.std.specs.Prelude.{◌≡◌, ◌+◌, ◌^◌, ◌<◌, ◌≤◌, ◌++◌, length};
+ghost use Rattle.std.specs.Prelude.{◌≡◌, ◌+◌, ◌^◌, ◌<◌, ◌≤◌, ◌++◌, IfSome, length};
 ghost use Rattle.std.specs.List.{concat};
 ghost use Rattle.std.specs.Vec.{vec_len};
 
+use crate::checks::{is_right, none_is_wrong};
 use driver_queue::{DeqPast, DriverQueue, EnqFault};
 use io_vector::{IoVec, Piece};
 use std::alloc::Global;
@@ -86,7 +87,7 @@ fn pushes(alloc: Global, queue: &mut DriverQueue, bytes: &[u8]) -> bool {
 
 /// The length of the first segment.
 fn first_len(queue: &DriverQueue) -> Option<usize> {
-    queue.peekq(0).map(|segment| segment.len())
+    Some(queue.peekq(0)?.len())
 }
 
 fn is_send<T: Send>(_value: &T) -> bool {
@@ -137,7 +138,7 @@ const SKIPPED: [QueueStep; 5] = [
 
 #[test]
 fn a_skip_past_the_vector_is_refused_and_the_queue_stays(rt: HostRuntime) {
-    assert_eq!(rt; first_wrong(rt.alloc(), &SKIPPED), None);
+    none_is_wrong(&rt, first_wrong(rt.alloc(), &SKIPPED));
 }
 
 const DROPPED: [QueueStep; 4] = [
@@ -149,7 +150,7 @@ const DROPPED: [QueueStep; 4] = [
 
 #[test]
 fn a_deq_past_the_queue_is_refused(rt: HostRuntime) {
-    assert_eq!(rt; first_wrong(rt.alloc(), &DROPPED), None);
+    none_is_wrong(&rt, first_wrong(rt.alloc(), &DROPPED));
 }
 
 const PUSHED: [QueueStep; 3] = [
@@ -160,7 +161,7 @@ const PUSHED: [QueueStep; 3] = [
 
 #[test]
 fn pushq_stands_in_front(rt: HostRuntime) {
-    assert_eq!(rt; first_wrong(rt.alloc(), &PUSHED), None);
+    none_is_wrong(&rt, first_wrong(rt.alloc(), &PUSHED));
 }
 
 const PUSHED_IN_ORDER: [QueueStep; 4] = [
@@ -172,7 +173,7 @@ const PUSHED_IN_ORDER: [QueueStep; 4] = [
 
 #[test]
 fn pushqv_keeps_the_order(rt: HostRuntime) {
-    assert_eq!(rt; first_wrong(rt.alloc(), &PUSHED_IN_ORDER), None);
+    none_is_wrong(&rt, first_wrong(rt.alloc(), &PUSHED_IN_ORDER));
 }
 
 const JOINED: [QueueStep; 5] = [
@@ -185,7 +186,7 @@ const JOINED: [QueueStep; 5] = [
 
 #[test]
 fn first_bytes_are_shared_or_joined(rt: HostRuntime) {
-    assert_eq!(rt; first_wrong(rt.alloc(), &JOINED), None);
+    none_is_wrong(&rt, first_wrong(rt.alloc(), &JOINED));
 }
 
 /// Puts pieces at the back of a queue that has room for them: no call is refused.
@@ -201,12 +202,20 @@ fn enq_all(queue: &mut DriverQueue, pieces: Vec<Piece>)
     }
 }
 
-/// A queue with room for two pieces, in which `ab` and `c` were put.
+/// The pieces `ab` and `c`.
+fn two_pieces(alloc: Global) -> Option<Vec<Piece>>
+    ensures len { IfSome result (λ pieces. vec_len pieces ≡ 2) }
+    ensures size { IfSome result (λ pieces. length (concat pieces.items) ≡ 3) }
+{
+    let first = Piece::of_slice(alloc, b"ab").ok()?;
+    let second = Piece::of_slice(alloc, b"c").ok()?;
+    vec![in alloc; first, second].ok()
+}
+
+/// A queue with room for two pieces, in which both were put.
 fn reserved(alloc: Global) -> Option<DriverQueue> {
+    let pieces = two_pieces(alloc)?;
     let mut queue = DriverQueue::new(alloc);
-    let mut pieces = Vec::new(alloc);
-    pieces.push(Piece::of_slice(alloc, b"ab").ok()?).ok()?;
-    pieces.push(Piece::of_slice(alloc, b"c").ok()?).ok()?;
     queue.reserve(2).ok()?;
     enq_all(&mut queue, pieces);
     Some(queue)
@@ -222,5 +231,5 @@ fn takes_both(alloc: Global) -> bool {
 
 #[test]
 fn reserved_places_are_enough(rt: HostRuntime) {
-    assert!(rt; takes_both(rt.alloc()));
+    is_right(&rt, takes_both(rt.alloc()));
 }

@@ -1,3 +1,4 @@
+use crate::checks::{is_right, none_is_wrong};
 use io_vector::{Flag, IoVec, Past, Piece, PrefixFault};
 use std::alloc::Global;
 
@@ -63,7 +64,7 @@ fn skip_fault(vector: &mut IoVec, n: u64) -> Option<Past> {
 
 /// The length of the third segment.
 fn third_len(vector: &IoVec) -> Option<usize> {
-    vector.segment(2).map(|segment| segment.len())
+    Some(vector.segment(2)?.len())
 }
 
 /// Whether so many first bytes are these, with a third segment of so many.
@@ -120,7 +121,7 @@ const SKIPPED: [VectorStep; 4] = [
 
 #[test]
 fn a_skip_cuts_one_segment(rt: HostRuntime) {
-    assert_eq!(rt; first_wrong(framed(rt.alloc()), &SKIPPED), None);
+    none_is_wrong(&rt, first_wrong(framed(rt.alloc()), &SKIPPED));
 }
 
 const PREFIXED: [VectorStep; 2] = [
@@ -130,7 +131,7 @@ const PREFIXED: [VectorStep; 2] = [
 
 #[test]
 fn a_prefix_shares_its_segments(rt: HostRuntime) {
-    assert_eq!(rt; first_wrong(framed(rt.alloc()), &PREFIXED), None);
+    none_is_wrong(&rt, first_wrong(framed(rt.alloc()), &PREFIXED));
 }
 
 /// A vector that was shared with one that is gone.
@@ -150,7 +151,7 @@ const SHARED: [VectorStep; 4] = [
 
 #[test]
 fn a_shared_vector_outlives_the_first(rt: HostRuntime) {
-    assert_eq!(rt; first_wrong(shared(rt.alloc()), &SHARED), None);
+    none_is_wrong(&rt, first_wrong(shared(rt.alloc()), &SHARED));
 }
 
 /// Drops all bytes of a piece, whose bytes are these and the shared ones.
@@ -174,10 +175,10 @@ fn is_shared_and_cut(alloc: Global, bytes: &[u8]) -> bool {
 
 #[test]
 fn a_piece_is_shared_and_cut(rt: HostRuntime) {
-    assert!(rt; is_shared_and_cut(rt.alloc(), b"abcd"));
+    is_right(&rt, is_shared_and_cut(rt.alloc(), b"abcd"));
 }
 
 #[test]
 fn flags_differ(rt: HostRuntime) {
-    assert!(rt; Flag::Eol != Flag::Noeol && Flag::Plain != Flag::Eol);
+    is_right(&rt, Flag::Eol != Flag::Noeol && Flag::Plain != Flag::Eol);
 }

@@ -1,3 +1,4 @@
+use crate::checks::is_right;
 use std::alloc::Global;
 use std::snapshot::Snapshot;
 use std::sync::Wait;
@@ -25,5 +26,5 @@ fn put_wakes<R: Wait>(rt: &R, alloc: Global) -> bool {
 
 #[test]
 fn a_put_wakes_the_taker_that_waits(rt: HostRuntime) {
-    assert!(rt; put_wakes(&rt, rt.alloc()));
+    is_right(&rt, put_wakes(&rt, rt.alloc()));
 }
