@@ -4,6 +4,7 @@ use packet_framing::{
     Flag, FrameFault, Message, Mode, UnframeFault, Unframer, frame, unframe, unframe_so_far,
 };
 use std::alloc::Global;
+use std::test::Fail;
 
 /// Whether a message has the flag and the bytes that are expected.
 fn is(message: &Message, expected: Option<&(Flag, &[u8])>) -> bool {
@@ -199,29 +200,19 @@ fn a_run_of_chunks(rt: HostRuntime) {
     is_right(&rt, runs(rt.alloc(), Mode::Packet2, &chunks, &packets));
 }
 
-/// Whether a chunk of these bytes makes these messages whole.
-fn feeds(alloc: Global, unframer: &mut Unframer, chunk: &[u8], expected: &[(Flag, &[u8])]) -> bool {
-    matches!(&fed(alloc, unframer, chunk), Ok(told) if are(told.as_slice(), expected))
-}
-
-/// Whether two chunks make the first lines whole, and one more chunk the second ones.
-fn goes_on(alloc: Global, first: &[(Flag, &[u8])], second: &[(Flag, &[u8])]) -> bool {
-    let Ok(chunks) = pieces(alloc, &[b"ab", b"\nc"]) else {
-        return false;
-    };
-    match unframe_so_far(alloc, Mode::Line(3), &chunks) {
-        Ok((mut unframer, lines)) => {
-            are(lines.as_slice(), first) && feeds(alloc, &mut unframer, b"d\n", second)
-        }
-        Err(_) => false,
-    }
-}
-
+// README.md and docs/FRAMING.md show these lines.
 #[test]
-fn a_run_goes_on(rt: HostRuntime) {
-    let first = [(Flag::Eol, b"ab".as_slice())];
-    let second = [(Flag::Eol, b"cd".as_slice())];
-    is_right(&rt, goes_on(rt.alloc(), &first, &second));
+fn a_run_goes_on(rt: HostRuntime) -> Result<(), Fail> {
+    let alloc = rt.alloc();
+    let chunks = [
+        Piece::of_slice(alloc, b"ab")?,
+        Piece::of_slice(alloc, b"\nc")?,
+    ];
+    let (mut unframer, lines) = unframe_so_far(alloc, Mode::Line(3), &chunks)?;
+    assert!(rt; are(lines.as_slice(), &[(Flag::Eol, b"ab")]));
+    let more = unframer.feed(&Piece::of_slice(alloc, b"d\n")?)?;
+    assert!(rt; are(more.as_slice(), &[(Flag::Eol, b"cd")]));
+    Ok(())
 }
 
 #[test]
