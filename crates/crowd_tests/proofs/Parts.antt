@@ -42,9 +42,16 @@ parts-more number mailbox lane lanes seat seats soft softs own side p = record {
 }
 
 -- one port
-pub one_part : (number : ℕ) (mailbox : Taking Mail (Unit {0})) (lane : LaneEnd) (seat : SendKnown) (soft : Bool)
+one-part : (number : ℕ) (mailbox : Taking Mail (Unit {0})) (lane : LaneEnd) (seat : SendKnown) (soft : Bool)
     → lane.number ≡ number → IsFresh lane seat → mailbox.taken ≡ [] → AreParts number mailbox (lane ∷ []) (seat ∷ []) (soft ∷ [])
-one_part number mailbox lane seat soft own side untaken = parts-more number mailbox lane [] seat [] soft [] own side (parts-none number mailbox untaken)
+one-part number mailbox lane seat soft own side untaken = parts-more number mailbox lane [] seat [] soft [] own side (parts-none number mailbox untaken)
+
+pub one-parts : (number : ℕ) (mailbox : Taking Mail (Unit {0})) (lanes : List LaneEnd) (seats : List SendKnown) (softs : List Bool) (lane : LaneEnd) (seat : SendKnown) (soft : Bool)
+    → lanes ≡ lane ∷ [] → seats ≡ seat ∷ [] → softs ≡ soft ∷ [] → lane.number ≡ number → IsFresh lane seat → mailbox.taken ≡ [] → AreParts number mailbox lanes seats softs
+one-parts number mailbox lanes seats softs lane seat soft l e f own side untaken =
+    subst (λ ls. AreParts number mailbox ls seats softs) (sym l)
+    (subst (λ es. AreParts number mailbox (lane ∷ []) es softs) (sym e)
+    (subst (λ fs. AreParts number mailbox (lane ∷ []) (seat ∷ []) fs) (sym f) (one-part number mailbox lane seat soft own side untaken)))
 
 seats-fresh : (table : TableId) (setup : BusySetup) (from count : ℕ) → AreFreshSeats table (fresh_seats table setup from count)
 seats-fresh table setup from zero = All-nil _

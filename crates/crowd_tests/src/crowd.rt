@@ -1,5 +1,5 @@
 // Four senders and a taker in threads.
-use crate::rig::{CrowdSide, CrowdSides, PERIOD, mailbox, open, process};
+use crate::rig::{CrowdSide, CrowdSides, PERIOD, mailed_process, open};
 use crate::sending::{COMMANDS, MOST, Member, send_all};
 use crate::taking::{Taker, take_all};
 use port_model::Mail;
@@ -7,7 +7,6 @@ use port_words::busy::{QueueLimits, msgq_is_busy};
 use process_end::{Outcome, ProcEnd, Receipt};
 use std::alloc::Global;
 use std::sync::Wait;
-use std::test::Fail;
 use std::thread;
 use std::thread::{Threads, join};
 use task_queue::SendEnd;
@@ -35,53 +34,39 @@ fn run<R: Threads + Wait + Sync>(
     )
 }
 
-/// The process of this side, and the end that puts mail for it.
-fn member(alloc: Global, side: CrowdSide) -> Result<(Member, SendEnd<Mail>), Fail> {
-    let (mail, mailbox) = mailbox(alloc)?;
-    Ok((Member::new(process(alloc, mailbox, side)?), mail))
-}
-
 /// The sides of four processes, by their numbers.
-fn four_sides(alloc: Global, mut sides: CrowdSides) -> Option<Vec<CrowdSide>> {
-    let second = sides.split()?;
-    let third = sides.split()?;
-    let fourth = sides.split()?;
-    let first = sides.into_first()?;
+fn four_sides(alloc: Global, sides: CrowdSides) -> Option<Vec<CrowdSide>> {
+    let mut sides = sides;
     let mut list = Vec::new(alloc);
-    list.reserve(4).ok()?;
-    list.push_reserved(first);
-    list.push_reserved(second);
-    list.push_reserved(third);
-    list.push_reserved(fourth);
+    for _ in 0..3u8 {
+        list.push(sides.split()?).ok()?;
+    }
+    list.insert(0, sides.into_first()?).ok()?;
     Some(list)
 }
 
 /// The processes of these sides, and the ends that put mail for them.
-fn members_of(
-    alloc: Global,
-    sides: Vec<CrowdSide>,
-) -> Result<(Vec<Member>, Vec<SendEnd<Mail>>), Fail> {
+fn members_of(alloc: Global, sides: Vec<CrowdSide>) -> Option<(Vec<Member>, Vec<SendEnd<Mail>>)> {
     let mut members = Vec::new(alloc);
     let mut mails = Vec::new(alloc);
     for side in sides {
-        let (member, mail) = member(alloc, side)?;
-        members.push(member)?;
-        mails.push(mail)?;
+        let (proc, mail) = mailed_process(alloc, side).ok()?;
+        members.push(Member::new(proc)).ok()?;
+        mails.push(mail).ok()?;
     }
-    Ok((members, mails))
+    Some((members, mails))
 }
 
 /// A port with limits, and four processes that send to it.
-fn crowd(alloc: Global) -> Result<(Taker, Vec<Member>), Fail> {
+fn crowd(alloc: Global) -> Option<(Taker, Vec<Member>)> {
     let limits = QueueLimits {
         on: true,
         low: 4_096,
         high: HIGH,
     };
-    let (sides, port) = open(alloc, limits, 4)?;
-    let sides = four_sides(alloc, sides).ok_or("no side")?;
-    let (members, mails) = members_of(alloc, sides)?;
-    Ok((Taker::new(alloc, port, mails), members))
+    let (sides, port) = open(alloc, limits, 4).ok()?;
+    let (members, mails) = members_of(alloc, four_sides(alloc, sides)?)?;
+    Some((Taker::new(alloc, port, mails), members))
 }
 
 /// Whether the word of a receipt has bytes within the bound: below the high limit in an even period, and else with a command of each sender on top.
@@ -105,34 +90,55 @@ fn was_suspended(receipts: &[Receipt]) -> bool {
         .any(|receipt| receipt.outcome == Outcome::Suspended)
 }
 
-/// Whether a call suspended its process, where each process made all its calls.
-fn any_was_suspended(ends: &[Option<ProcEnd>]) -> Option<bool> {
+/// Whether a call suspended a process that ended, where it made all its calls.
+fn suspension_of(end: &Option<ProcEnd>) -> Option<bool> {
+    let Some(end) = end else {
+        return None;
+    };
+    let receipts = end.receipts.as_slice();
+    is_whole(receipts).then_some(was_suspended(receipts))
+}
+
+/// How many processes ended, and whether a call suspended one of them, where each made all its calls.
+fn ended(ends: &[Option<ProcEnd>]) -> Option<(usize, bool)> {
     let mut suspended = false;
     for end in ends {
-        let Some(end) = end else {
-            return None;
-        };
-        let receipts = end.receipts.as_slice();
-        if !is_whole(receipts) {
-            return None;
-        }
-        suspended |= was_suspended(receipts);
+        suspended |= suspension_of(end)?;
     }
-    Some(suspended)
+    Some((ends.len(), suspended))
 }
 
 /// How many bytes are left in the message queue.
-fn bytes_left(mut taker: Taker) -> u64 {
+fn bytes_left(taker: Taker) -> u64 {
+    let mut taker = taker;
     taker.port.seat.look_msgq() % PERIOD
 }
 
+/// What came of the processes and of the taker, where there was memory for them.
+#[derive(Clone, Copy, PartialEq, Eq)]
+struct CrowdResult {
+    ended: Option<(usize, bool)>,
+    bytes_left: Option<u64>,
+}
+
+/// What comes of a crowd.
+fn run_crowd<R: Threads + Wait + Sync>(rt: &R, alloc: Global) -> Option<CrowdResult> {
+    let (taker, members) = crowd(alloc)?;
+    let (taker, ends) = run(rt, alloc, taker, members);
+    let bytes_left = taker.map(bytes_left);
+    let ended = match &ends {
+        Some(ends) => ended(ends.as_slice()),
+        None => None,
+    };
+    Some(CrowdResult { ended, bytes_left })
+}
+
+const WANTED: CrowdResult = CrowdResult {
+    ended: Some((4, true)),
+    bytes_left: Some(0),
+};
+
 #[test]
-fn every_suspended_one_of_four_senders_comes_back(rt: HostRuntime) -> Result<(), Fail> {
-    let (taker, members) = crowd(rt.alloc())?;
-    let (taker, ends) = run(&rt, rt.alloc(), taker, members);
-    let ends = ends.ok_or("no memory")?;
-    assert!(rt; ends.len() == 4);
-    assert!(rt; any_was_suspended(ends.as_slice()) == Some(true));
-    assert!(rt; bytes_left(taker.ok_or("the taker ended early")?) == 0);
-    Ok(())
+fn every_suspended_one_of_four_senders_comes_back(rt: HostRuntime) {
+    assert!(rt; run_crowd(&rt, rt.alloc()) == Some(WANTED));
 }

@@ -1,5 +1,5 @@
 // What one process finds at the limits of its calls.
-use crate::rig::{mailbox, open, payload, piece, process};
+use crate::rig::{mailed_process, open, payload, piece};
 use crate::sending::Member;
 use port_model::Reason;
 use port_words::busy::QueueLimits;
@@ -9,16 +9,15 @@ use std::sync::Wait;
 use std::test::Fail;
 
 /// A process alone with a port whose message queue has no limits.
-fn alone(alloc: Global) -> Result<Member, Fail> {
+fn alone(alloc: Global) -> Option<Member> {
     let limits = QueueLimits {
         on: false,
         low: 0,
         high: 0,
     };
-    let (sides, _) = open(alloc, limits, 1)?;
-    let side = sides.into_first().ok_or("no side")?;
-    let (_, mailbox) = mailbox(alloc)?;
-    Ok(Member::new(process(alloc, mailbox, side)?))
+    let (sides, _) = open(alloc, limits, 1).ok()?;
+    let (proc, _) = mailed_process(alloc, sides.into_first()?).ok()?;
+    Some(Member::new(proc))
 }
 
 /// Sends a control of so many bytes.
@@ -34,11 +33,12 @@ fn control<R: Wait>(
     member.proc.signal(rt, 1, 0, Ask::Control { op: 0, bytes })
 }
 
+const TOO_LONG: Result<u64, SendRefusal> = Err(SendRefusal::TooLong { len: 262_144 });
+
 #[test]
 fn a_control_has_at_most_262_143_bytes(rt: HostRuntime) -> Result<(), Fail> {
-    let mut member = alone(rt.alloc())?;
-    let too_long = Err(SendRefusal::TooLong { len: 262_144 });
-    assert!(rt; control(&rt, rt.alloc(), &mut member, 262_144) == too_long);
+    let mut member = alone(rt.alloc()).ok_or("no memory")?;
+    assert!(rt; control(&rt, rt.alloc(), &mut member, 262_144) == TOO_LONG);
     assert!(rt; control(&rt, rt.alloc(), &mut member, 262_143) == Ok(0));
     Ok(())
 }
@@ -52,27 +52,31 @@ fn send_most<R: Wait>(rt: &R, alloc: Global, member: Member, line: u32) -> Optio
     }
 }
 
-/// Whether this is the second receipt of a process, which ends now.
-fn has_second<R: Wait>(rt: &R, member: Member, receipt: &Receipt) -> bool {
-    matches!(
-        &member.proc.exit_process(rt, Reason::normal()),
-        Ok(end) if end.receipts.as_slice().get(1) == Some(receipt)
-    )
+/// The second receipt of a process, which ends now.
+fn second<R: Wait>(rt: &R, member: Member) -> Option<Receipt> {
+    match &member.proc.exit_process(rt, Reason::normal()) {
+        Ok(end) => end.receipts.as_slice().get(1).copied(),
+        Err(_) => None,
+    }
 }
 
+/// The second receipt of a process whose two commands are accepted.
+fn second_of_two<R: Wait>(rt: &R, alloc: Global) -> Option<Receipt> {
+    let member = send_most(rt, alloc, alone(alloc)?, 1)?;
+    let member = send_most(rt, alloc, member, 2)?;
+    second(rt, member)
+}
+
+const SECOND: Receipt = Receipt {
+    line: 2,
+    port: 0,
+    seq: Some(1),
+    stat: Some(0),
+    msgq: Some(524_286),
+    outcome: Outcome::Accepted,
+};
+
 #[test]
-fn a_queue_without_limits_adds_the_bytes_of_all_commands(rt: HostRuntime) -> Result<(), Fail> {
-    let member = alone(rt.alloc())?;
-    let member = send_most(&rt, rt.alloc(), member, 1).ok_or("it isn't accepted")?;
-    let member = send_most(&rt, rt.alloc(), member, 2).ok_or("it isn't accepted")?;
-    let second = Receipt {
-        line: 2,
-        port: 0,
-        seq: Some(1),
-        stat: Some(0),
-        msgq: Some(524_286),
-        outcome: Outcome::Accepted,
-    };
-    assert!(rt; has_second(&rt, member, &second));
-    Ok(())
+fn a_queue_without_limits_adds_the_bytes_of_all_commands(rt: HostRuntime) {
+    assert!(rt; second_of_two(&rt, rt.alloc()) == Some(SECOND));
 }

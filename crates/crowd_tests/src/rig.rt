@@ -1,5 +1,5 @@
 // A port with several senders, and the processes that send to it.
-ghost use Rattle.std.specs.Prelude.{◌≡◌, ◌<◌, ◌≤◌, [], length, IfOk};
+ghost use Rattle.std.specs.Prelude.{◌≡◌, ◌<◌, ◌≤◌, [], ◌∷◌, length, IfOk};
 ghost use Rattle.port_words.specs.busy.Known.{InRange};
 ghost use Rattle.crowd_tests.specs.Sides.{AreFreshSeats, IsFresh};
 
@@ -10,9 +10,8 @@ use process_end::{Proc, ProcParts};
 use std::alloc::Global;
 use std::snapshot::Snapshot;
 use std::sync::Wait;
-use std::test::Fail;
 use std::thread::yield_now;
-use task_queue::{Item, SendEnd, TakeEnd, lane};
+use task_queue::{Item, NoMemory, SendEnd, TakeEnd, lane};
 
 pub(crate) const PERIOD: u64 = 1 << 40;
 
@@ -76,7 +75,7 @@ fn table(
     alloc: Global,
     limits: QueueLimits,
     senders: u32,
-) -> Result<(PortSeat, Vec<SendSeat>), Fail>
+) -> Result<(PortSeat, Vec<SendSeat>), NoMemory>
     requires senders { (0 < senders) × (senders ≤ 32) }
     requires limits { InRange limits.on limits.low limits.high }
     ensures seats { IfOk result (λ r. AreFreshSeats r.0.table r.1.items) }
@@ -137,7 +136,7 @@ pub(crate) fn open(
     alloc: Global,
     limits: QueueLimits,
     senders: u32,
-) -> Result<(CrowdSides, CrowdPort), Fail>
+) -> Result<(CrowdSides, CrowdPort), NoMemory>
     requires senders { (0 < senders) × (senders ≤ 32) }
     requires limits { InRange limits.on limits.low limits.high }
 {
@@ -153,35 +152,52 @@ pub(crate) fn open(
 }
 
 /// The mailbox of a process, of which nothing was taken, and the end that puts mail there.
-pub(crate) fn mailbox(alloc: Global) -> Result<(SendEnd<Mail>, TakeEnd<Mail>), Fail>
+fn mailbox(alloc: Global) -> Result<(SendEnd<Mail>, TakeEnd<Mail>), NoMemory>
     ensures { IfOk result (λ r. r.1.taken ≡ []) }
 {
     let (put, take) = lane::<Mail>(alloc, Snapshot::of(&()))?;
     Ok((put, take))
 }
 
+/// A list of one.
+fn one_of<T: Drop>(alloc: Global, one: T) -> Result<Vec<T>, NoMemory>
+    ensures { IfOk result (λ list. list.items ≡ one ∷ []) }
+{
+    let mut list = Vec::new(alloc);
+    list.reserve(1)?;
+    list.push_reserved(one);
+    Ok(list)
+}
+
 /// The process of this side and mailbox.
-#[tactic(auto, using(crate::proofs::Parts::one_part))]
-pub(crate) fn process(alloc: Global, mailbox: TakeEnd<Mail>, side: CrowdSide) -> Result<Proc, Fail>
+fn process(alloc: Global, mailbox: TakeEnd<Mail>, side: CrowdSide) -> Result<Proc, NoMemory>
     requires { mailbox.taken ≡ [] }
     ensures { IfOk result (λ proc. length proc.lanes ≡ 1) }
 {
-    let CrowdSide { lane, seat, soft } = side;
-    let number = lane.number();
-    let mut lanes = Vec::new(alloc);
-    let mut seats = Vec::new(alloc);
-    lanes.reserve(1)?;
-    seats.reserve(1)?;
-    lanes.push_reserved(lane);
-    seats.push_reserved(seat);
+    let number = side.lane.number();
+    let lanes = one_of(alloc, side.lane)?;
+    let seats = one_of(alloc, side.seat)?;
+    let soft = one_of(alloc, side.soft)?;
     let parts = ProcParts {
         number,
         mailbox,
         lanes,
         seats,
-        soft: vec![in alloc; soft]?,
+        soft,
     };
     Ok(Proc::new(alloc, parts))
+}
+
+/// The process of this side, and the end that puts mail for it.
+pub(crate) fn mailed_process(
+    alloc: Global,
+    side: CrowdSide,
+) -> Result<(Proc, SendEnd<Mail>), NoMemory>
+    ensures { IfOk result (λ r. length r.0.lanes ≡ 1) }
+{
+    let (mail, mailbox) = mailbox(alloc)?;
+    let proc = process(alloc, mailbox, side)?;
+    Ok((proc, mail))
 }
 
 /// A piece of so many bytes.
