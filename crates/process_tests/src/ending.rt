@@ -1,6 +1,6 @@
 ghost use Rattle.std.specs.Prelude.{◌≡◌, [], IfOk};
 
-use crate::rig::{WatchedPort, end, mailbox, no_limits, one_port, process_of_three};
+use crate::rig::{WatchedPort, end, no_limits, one_port, two_ports, unmailed_process};
 use process_end::{Outcome, Proc, Receipt};
 use std::alloc::Global;
 use std::sync::Wait;
@@ -38,11 +38,9 @@ fn is_told<R: Wait>(rt: &R, port: &mut WatchedPort) -> bool {
 fn three_ports(alloc: Global) -> Result<(Proc, ThreePorts), NoMemory>
     ensures { IfOk result (λ r. (r.1.two.seat.known.marks ≡ []) × (r.1.three.seat.known.marks ≡ [])) }
 {
-    let (first, one) = one_port(alloc, no_limits(), false)?;
-    let (second, two) = one_port(alloc, no_limits(), false)?;
+    let (first, second, one, two) = two_ports(alloc)?;
     let (third, three) = one_port(alloc, no_limits(), true)?;
-    let (_, mailbox) = mailbox(alloc)?;
-    let proc = process_of_three(alloc, mailbox, first, second, third)?;
+    let proc = unmailed_process(alloc, first, second, third)?;
     Ok((proc, ThreePorts { one, two, three }))
 }
 

@@ -144,8 +144,18 @@ pub(crate) fn one_port(
     Ok((side, WatchedPort { seat, lane: take }))
 }
 
+/// The sides of process 0 at two ports without limits, and the ports.
+pub(crate) fn two_ports(alloc: Global) -> Result<(Side, Side, WatchedPort, WatchedPort), NoMemory>
+    ensures numbers { IfOk result (λ r. (r.0.lane.number ≡ 0) × (r.1.lane.number ≡ 0)) }
+    ensures marks { IfOk result (λ r. (r.2.seat.known.marks ≡ []) × (r.3.seat.known.marks ≡ [])) }
+{
+    let (first, one) = one_port(alloc, no_limits(), false)?;
+    let (second, two) = one_port(alloc, no_limits(), false)?;
+    Ok((first, second, one, two))
+}
+
 /// The mailbox of a process, of which nothing was taken, and the end that puts mail there.
-pub(crate) fn mailbox(alloc: Global) -> Result<(SendEnd<Mail>, TakeEnd<Mail>), NoMemory>
+fn mailbox(alloc: Global) -> Result<(SendEnd<Mail>, TakeEnd<Mail>), NoMemory>
     ensures { IfOk result (λ r. r.1.taken ≡ []) }
 {
     let (put, take) = lane::<Mail>(alloc, Snapshot::of(&()))?;
@@ -204,7 +214,7 @@ fn three_of<T: Drop>(alloc: Global, one: T, two: T, three: T) -> Result<Vec<T>, 
 }
 
 /// Process 0 with three ports.
-pub(crate) fn process_of_three(
+fn process_of_three(
     alloc: Global,
     mailbox: TakeEnd<Mail>,
     one: Side,
@@ -225,6 +235,19 @@ pub(crate) fn process_of_three(
         soft,
     };
     Ok(Proc::new(alloc, parts))
+}
+
+/// Process 0 with three ports, for which nothing puts mail.
+pub(crate) fn unmailed_process(
+    alloc: Global,
+    one: Side,
+    two: Side,
+    three: Side,
+) -> Result<Proc, NoMemory>
+    requires { (one.lane.number ≡ 0) × (two.lane.number ≡ 0) × (three.lane.number ≡ 0) }
+{
+    let (_, mailbox) = mailbox(alloc)?;
+    process_of_three(alloc, mailbox, one, two, three)
 }
 
 /// What is left of a process that ends normally.

@@ -80,20 +80,25 @@ fn goes<R: Wait>(rt: &R, sender: &mut PortSender, step: &Step) -> bool {
     }
 }
 
-/// The number of the first step that goes otherwise, if one does, or of the step behind the last where the process wasn't set up.
-fn first_wrong<R: Wait>(rt: &R, sender: Option<PortSender>, steps: &[Step]) -> Option<usize> {
-    let Some(mut sender) = sender else {
-        return Some(steps.len());
-    };
+/// The number of the first step that goes otherwise, if one does.
+fn first_wrong<R: Wait>(rt: &R, sender: &mut PortSender, steps: &[Step]) -> Option<usize> {
     for (at, step) in steps.iter().enumerate() {
-        if !goes(rt, &mut sender, step) {
+        if !goes(rt, sender, step) {
             return Some(at);
         }
     }
     None
 }
 
+/// The same, or the number behind the last step where the process wasn't set up.
+fn first_wrong_of<R: Wait>(rt: &R, sender: Option<PortSender>, steps: &[Step]) -> Option<usize> {
+    match sender {
+        Some(mut sender) => first_wrong(rt, &mut sender, steps),
+        None => Some(steps.len()),
+    }
+}
+
 /// Ends the test where a step goes otherwise.
 pub(crate) fn follow<R: Wait + Abort>(rt: &R, sender: Option<PortSender>, steps: &[Step]) {
-    assert_eq!(rt; first_wrong(rt, sender, steps), None);
+    assert_eq!(rt; first_wrong_of(rt, sender, steps), None);
 }
