@@ -1,9 +1,10 @@
 //! Runs that aren't made, and runs that the outside fails.
 
-use crate::runs::{ABC, Ran, Setting, run, run_script};
+use crate::runs::{ABC, Ran, Setting, holding, is_so, run, run_script};
 use gateway::{Cause, ScriptFault, StartRefusal};
 use outside::MemFiles;
 use std::alloc::{AllocError, Global};
+use std::process::Abort;
 use std::sync::Wait;
 use std::test::Fail;
 use std::thread::Threads;
@@ -63,17 +64,37 @@ const NOT_RUN: [(&str, u8, Cause); 8] = [
     ),
 ];
 
-/// Whether the run ended so, put nothing out, and touched no driver.
-fn is_unmade(alloc: Global, ran: &Ran, status: u8, cause: Cause) -> Result<bool, Fail> {
-    Ok(ran.ended_silently(status, cause) && ran.stands(alloc, UNTOUCHED)?)
+/// Whether the run ended so, put nothing out, and left the drivers standing so.
+fn left(
+    alloc: Global,
+    ran: &Ran,
+    status: u8,
+    cause: Cause,
+    drivers: &str,
+) -> Result<bool, AllocError> {
+    let stands = ran.stands(alloc, drivers)?;
+    Ok(stands && ran.ended_silently(status, cause))
+}
+
+/// Whether a call of these words over this script ends so, puts nothing out, and touches no driver.
+fn is_unmade<R: Sync + Threads + Wait>(
+    rt: &R,
+    alloc: Global,
+    words: &[&str],
+    script: &str,
+    status: u8,
+    cause: Cause,
+) -> Result<bool, Fail> {
+    let ran = run_script(rt, alloc, words, script.as_bytes())?;
+    Ok(left(alloc, &ran, status, cause, UNTOUCHED)?)
 }
 
 #[test]
 fn scripts_that_are_not_run_tell_why(rt: HostRuntime) -> Result<(), Fail> {
-    let alloc = rt.alloc();
     for (script, status, cause) in NOT_RUN.as_slice() {
-        let ran = run_script(&rt, alloc, &["run", "s"], script.as_bytes())?;
-        assert!(rt; is_unmade(alloc, &ran, *status, *cause)?, "{script}");
+        let words = ["run", "s"];
+        let unmade = is_unmade(&rt, rt.alloc(), &words, script, *status, *cause)?;
+        is_so(&rt, unmade, script);
     }
     Ok(())
 }
@@ -95,13 +116,26 @@ const UNSERVED: [(&[&str], u32); 13] = [
     (&["load", "7", "4", "2", "t"], 5),
 ];
 
+/// Whether these words aren't served, by the word in this place.
+fn is_unserved<R: Sync + Threads + Wait>(
+    rt: &R,
+    alloc: Global,
+    words: &[&str],
+    at: u32,
+) -> Result<bool, Fail> {
+    is_unmade(rt, alloc, words, ABC, 1, Cause::Usage { at })
+}
+
+/// Ends the test where these words are served, or the place is another.
+fn told<R: Abort>(rt: &R, unserved: bool, words: &[&str]) {
+    assert!(rt; unserved, "{words:?}");
+}
+
 #[test]
 fn words_that_are_not_served_are_told_by_place(rt: HostRuntime) -> Result<(), Fail> {
-    let alloc = rt.alloc();
     for (words, at) in UNSERVED.as_slice() {
-        let cause = Cause::Usage { at: *at };
-        let ran = run_script(&rt, alloc, words, ABC.as_bytes())?;
-        assert!(rt; is_unmade(alloc, &ran, 1, cause)?, "{words:?}");
+        let unserved = is_unserved(&rt, rt.alloc(), words, *at)?;
+        told(&rt, unserved, words);
     }
     Ok(())
 }
@@ -116,14 +150,24 @@ fn with_one_read(files: MemFiles) -> Result<MemFiles, Fail> {
     Ok(files)
 }
 
+/// Runs the script of this name, ends the test where it is read, and gives the files back.
+fn run_unread<R: Abort + Sync + Threads + Wait>(
+    rt: &R,
+    alloc: Global,
+    name: &str,
+    files: MemFiles,
+) -> Result<MemFiles, Fail> {
+    let ran = run(rt, alloc, &["run", name], Setting::over(alloc, files))?;
+    is_so(rt, ran.ended_silently(3, UNREAD), name);
+    Ok(ran.into_files())
+}
+
 #[test]
 fn a_script_that_is_not_read_is_a_read_fault(rt: HostRuntime) -> Result<(), Fail> {
-    let alloc = rt.alloc();
-    let ran = run_script(&rt, alloc, &["run", "t"], ABC.as_bytes())?;
-    assert!(rt; ran.ended_silently(3, UNREAD));
-    let files = with_one_read(ran.into_files())?;
-    let ran = run(&rt, alloc, &["run", "s"], Setting::over(alloc, files))?;
-    assert!(rt; ran.ended_silently(3, UNREAD));
+    let files = holding(rt.alloc(), ABC.as_bytes())?;
+    let files = run_unread(&rt, rt.alloc(), "t", files)?;
+    let files = with_one_read(files)?;
+    run_unread(&rt, rt.alloc(), "s", files)?;
     Ok(())
 }
 
@@ -153,47 +197,77 @@ fn ends_silently<R: Sync + Threads + Wait>(
     Ok(ran.ended_silently(status, cause))
 }
 
+/// Whether a script of so many lines has too many bytes.
+fn is_too_long<R: Sync + Threads + Wait>(
+    rt: &R,
+    alloc: Global,
+    count: usize,
+) -> Result<bool, Fail> {
+    let script = lines(alloc, count)?;
+    ends_silently(rt, alloc, script.as_slice(), 10, Cause::Limit { line: 0 })
+}
+
 #[test]
 fn a_script_has_at_most_1_048_576_bytes(rt: HostRuntime) -> Result<(), Fail> {
-    let alloc = rt.alloc();
-    let script = lines(alloc, 1_048_577)?;
-    let cause = Cause::Limit { line: 0 };
-    assert!(rt; ends_silently(&rt, alloc, script.as_slice(), 10, cause)?);
+    assert!(rt; is_too_long(&rt, rt.alloc(), 1_048_577)?);
     Ok(())
+}
+
+/// A script has a process too many.
+const TOO_MANY: Cause = Cause::Script {
+    fault: ScriptFault::Limit { line: 33, which: 1 },
+};
+
+/// Whether a script of so many processes has one too many.
+fn is_crowded<R: Sync + Threads + Wait>(rt: &R, alloc: Global, count: u32) -> Result<bool, Fail> {
+    let script = processes(alloc, count)?;
+    ends_silently(rt, alloc, script.as_bytes(), 2, TOO_MANY)
 }
 
 #[test]
 fn a_script_has_at_most_32_processes(rt: HostRuntime) -> Result<(), Fail> {
-    let alloc = rt.alloc();
-    let script = processes(alloc, 33)?;
-    let fault = ScriptFault::Limit { line: 33, which: 1 };
-    let cause = Cause::Script { fault };
-    assert!(rt; ends_silently(&rt, alloc, script.as_bytes(), 2, cause)?);
+    assert!(rt; is_crowded(&rt, rt.alloc(), 33)?);
     Ok(())
 }
+
+/// A script whose second port is refused.
+const REFUSED: &[u8] = b"process a\nport p a echo\nport q a refuse2\n";
+
+/// Why it isn't run.
+const REFUSAL: Cause = Cause::StartRefused {
+    line: 3,
+    refusal: StartRefusal::Errno,
+};
+
+/// How its drivers are left.
+const ONE_ENDED: &str = "stopped 0;fresh;fresh;fresh;fresh;fresh;fresh;stopped;fresh;fresh;";
 
 #[test]
 fn a_port_that_was_opened_is_ended_where_a_later_one_is_refused(
     rt: HostRuntime,
 ) -> Result<(), Fail> {
-    let alloc = rt.alloc();
-    let script = b"process a\nport p a echo\nport q a refuse2\n";
-    let ran = run_script(&rt, alloc, &["run", "s"], script)?;
-    let refusal = StartRefusal::Errno;
-    assert!(rt; ran.ended_silently(6, Cause::StartRefused { line: 3, refusal }));
-    let drivers = "stopped 0;fresh;fresh;fresh;fresh;fresh;fresh;stopped;fresh;fresh;";
-    assert!(rt; ran.stands(alloc, drivers)?);
+    let ran = run_script(&rt, rt.alloc(), &["run", "s"], REFUSED)?;
+    assert!(rt; left(rt.alloc(), &ran, 6, REFUSAL, ONE_ENDED)?);
     Ok(())
+}
+
+/// A run of a script with a program whose first wait fails.
+fn run_without_wait<R: Sync + Threads + Wait>(rt: &R, alloc: Global) -> Result<Ran, Fail> {
+    let script = b"process a\nport c a spawn run \"first\"\na expect c 1\n";
+    let setting = Setting::of_script(alloc, script)?.without_wait()?;
+    run(rt, alloc, &["run", "s"], setting)
+}
+
+/// Ends the test where the run didn't end by a wait that failed.
+fn is_lost<R: Abort>(rt: &R, ran: &Ran) {
+    assert!(rt; ran.ended_silently(7, Cause::PollFault));
+    assert!(rt; !ran.is_reported());
+    assert!(rt; ran.has_poll());
 }
 
 #[test]
 fn a_wait_that_fails_ends_the_run(rt: HostRuntime) -> Result<(), Fail> {
-    let alloc = rt.alloc();
-    let script = b"process a\nport c a spawn run \"first\"\na expect c 1\n";
-    let setting = Setting::of_script(alloc, script)?.without_wait()?;
-    let ran = run(&rt, alloc, &["run", "s"], setting)?;
-    assert!(rt; ran.ended_silently(7, Cause::PollFault));
-    assert!(rt; ran.end.report.is_none());
-    assert!(rt; ran.end.poll.is_some());
+    let ran = run_without_wait(&rt, rt.alloc())?;
+    is_lost(&rt, &ran);
     Ok(())
 }

@@ -2,10 +2,11 @@
 
 use crate::outputs::SAVES;
 use crate::reports::RUNS;
-use crate::runs::{owned_words, run_script};
+use crate::runs::{is_so, owned_words, run_script};
 use outside::{MemFiles, MemSink};
 use plain_command::plain_command;
 use std::alloc::Global;
+use std::process::Abort;
 use std::sync::Wait;
 use std::test::Fail;
 use std::thread::Threads;
@@ -28,7 +29,8 @@ fn replay(alloc: Global, files: &mut MemFiles, out: &mut MemSink) -> Result<u8, 
 fn is_legal(alloc: Global, files: &mut MemFiles, front: &str) -> Result<bool, Fail> {
     let mut out = MemSink::new(alloc);
     let status = replay(alloc, files, &mut out)?;
-    Ok(status == 0 && str::from_utf8(out.bytes())?.starts_with(front))
+    let text = str::from_utf8(out.bytes())?;
+    Ok(status == 0 && text.starts_with(front))
 }
 
 /// Whether this script has a legal journal under so many schedulers, of which a replay prints a line with this front.
@@ -45,17 +47,24 @@ fn is_journaled<R: Sync + Threads + Wait>(
     is_legal(alloc, &mut files, front)
 }
 
+/// Ends the test where one of the scripts has no legal journal under so many schedulers.
+fn are_journaled<R: Abort + Sync + Threads + Wait>(
+    rt: &R,
+    alloc: Global,
+    schedulers: &str,
+) -> Result<(), Fail> {
+    for (script, _) in RUNS.as_slice() {
+        let legal = is_journaled(rt, alloc, script, schedulers, "legal ports=")?;
+        is_so(rt, legal, script);
+    }
+    Ok(())
+}
+
 #[test]
 fn each_journal_of_a_run_is_legal(rt: HostRuntime) -> Result<(), Fail> {
-    let alloc = rt.alloc();
-    for schedulers in ["1", "4"] {
-        for (script, _) in RUNS.as_slice() {
-            assert!(rt;
-                is_journaled(&rt, alloc, script, schedulers, "legal ports=")?,
-                "{script}"
-            );
-        }
-    }
-    assert!(rt; is_journaled(&rt, alloc, SAVES, "2", "legal ports=2 rows=")?);
+    are_journaled(&rt, rt.alloc(), "1")?;
+    are_journaled(&rt, rt.alloc(), "4")?;
+    let legal = is_journaled(&rt, rt.alloc(), SAVES, "2", "legal ports=2 rows=")?;
+    is_so(&rt, legal, SAVES);
     Ok(())
 }

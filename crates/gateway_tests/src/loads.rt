@@ -1,22 +1,24 @@
 //! Runs of the scripts that the load generator makes.
 
-use crate::runs::{Ran, Setting, TestDriver, fresh, owned_words, run_with};
+use crate::runs::{Ran, Setting, TestDriver, fresh_drivers, owned_words, run_with};
 use gateway::Cause;
 use outside::MemFiles;
-use port_driver::Driver;
-use std::alloc::{AllocError, Global};
+use std::alloc::Global;
+use std::process::Abort;
 use std::sync::Wait;
 use std::test::Fail;
 use std::thread::Threads;
 
-/// So many fresh drivers of echo.
-fn echoes(alloc: Global, count: usize) -> Result<Vec<Box<dyn Driver + Send>>, AllocError> {
-    let mut drivers = Vec::new(alloc);
-    for _ in 0..count {
-        drivers.push(fresh(alloc, TestDriver::Echo)?)?;
-    }
-    Ok(drivers)
-}
+/// Fresh drivers for the four ports of a load.
+const ECHOES: [TestDriver; 4] = [
+    TestDriver::Echo,
+    TestDriver::Echo,
+    TestDriver::Echo,
+    TestDriver::Echo,
+];
+
+/// The same, but for one.
+const FEW_ECHOES: [TestDriver; 3] = [TestDriver::Echo, TestDriver::Echo, TestDriver::Echo];
 
 /// No files, of which the first read and the first write would fail, and an empty sink.
 fn untouchable(alloc: Global) -> Result<Setting, Fail> {
@@ -26,16 +28,16 @@ fn untouchable(alloc: Global) -> Result<Setting, Fail> {
     Ok(Setting::over(alloc, files))
 }
 
-/// Runs these words over so many drivers of echo.
+/// Runs these words over drivers of these kinds.
 fn run_load<R: Sync + Threads + Wait>(
     rt: &R,
     alloc: Global,
     words: &[&str],
-    drivers: usize,
+    kinds: &[TestDriver],
     setting: Setting,
 ) -> Result<Ran, Fail> {
     let words = owned_words(alloc, words)?;
-    let drivers = echoes(alloc, drivers)?;
+    let drivers = fresh_drivers(alloc, kinds)?;
     run_with(rt, alloc, words.as_slice(), drivers, setting)
 }
 
@@ -53,37 +55,55 @@ const SCHEDULES: [&[&str]; 3] = [
     &["load", "07", "8", "4"],
 ];
 
+/// Runs a load over no files and four drivers.
+fn run_whole<R: Sync + Threads + Wait>(rt: &R, alloc: Global, words: &[&str]) -> Result<Ran, Fail> {
+    let setting = untouchable(alloc)?;
+    run_load(rt, alloc, words, ECHOES.as_slice(), setting)
+}
+
+/// Ends the test where this isn't a run of the load of 7.
+fn is_seven<R: Abort>(rt: &R, ran: &Ran, words: &[&str]) {
+    let is = ran.ended(0, Cause::Done) && ran.is_reported() && ran.put(SEVEN);
+    assert!(rt; is, "{words:?}");
+}
+
 #[test]
 fn a_load_has_the_same_summary_for_any_schedule(rt: HostRuntime) -> Result<(), Fail> {
-    let alloc = rt.alloc();
     for words in SCHEDULES.as_slice() {
-        let ran = run_load(&rt, alloc, words, 4, untouchable(alloc)?)?;
-        assert!(rt; ran.ended(0, Cause::Done), "{words:?}");
-        assert!(rt; ran.end.report.is_some(), "{words:?}");
-        assert!(rt; ran.put(SEVEN), "{words:?}");
+        let ran = run_whole(&rt, rt.alloc(), words)?;
+        is_seven(&rt, &ran, words);
     }
     Ok(())
 }
 
+/// There is no driver for the last port of a load.
+const NO_DRIVER: Cause = Cause::NoDriver {
+    line: 12,
+    handed: 3,
+};
+
+/// Runs the load of 7 over no files and too few drivers.
+fn run_short<R: Sync + Threads + Wait>(rt: &R, alloc: Global) -> Result<Ran, Fail> {
+    let setting = untouchable(alloc)?;
+    run_load(rt, alloc, &["load", "7"], FEW_ECHOES.as_slice(), setting)
+}
+
 #[test]
 fn a_load_needs_a_driver_for_each_of_its_ports(rt: HostRuntime) -> Result<(), Fail> {
-    let alloc = rt.alloc();
-    let ran = run_load(&rt, alloc, &["load", "7"], 3, untouchable(alloc)?)?;
-    let cause = Cause::NoDriver {
-        line: 12,
-        handed: 3,
-    };
-    assert!(rt; ran.ended_silently(5, cause));
-    assert!(rt; ran.end.report.is_none());
+    let ran = run_short(&rt, rt.alloc())?;
+    assert!(rt; ran.ended_silently(5, NO_DRIVER) && !ran.is_reported());
     Ok(())
+}
+
+/// Runs the load of 7 over no files, four drivers and a sink that takes nothing.
+fn run_unput<R: Sync + Threads + Wait>(rt: &R, alloc: Global) -> Result<Ran, Fail> {
+    let setting = untouchable(alloc)?.with_put_of(0)?;
+    run_load(rt, alloc, &["load", "7"], ECHOES.as_slice(), setting)
 }
 
 #[test]
 fn a_summary_that_is_not_put_is_a_write_fault(rt: HostRuntime) -> Result<(), Fail> {
-    let alloc = rt.alloc();
-    let setting = untouchable(alloc)?.with_put_of(0)?;
-    let ran = run_load(&rt, alloc, &["load", "7"], 4, setting)?;
-    assert!(rt; ran.ended_silently(4, Cause::WriteFault));
-    assert!(rt; ran.end.report.is_some());
+    let ran = run_unput(&rt, rt.alloc())?;
+    assert!(rt; ran.ended_silently(4, Cause::WriteFault) && ran.is_reported());
     Ok(())
 }

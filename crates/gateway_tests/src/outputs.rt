@@ -1,21 +1,29 @@
 //! What runs write: the report, the data that is saved, and the journal.
 
-use crate::runs::{ABC, Ran, Setting, run, run_script};
+use crate::runs::{ABC, Ran, Setting, is_so, run, run_script};
 use gateway::Cause;
 use std::alloc::Global;
+use std::process::Abort;
 use std::sync::Wait;
 use std::test::Fail;
 use std::thread::Threads;
 
+/// The first driver served a port, and no other was touched.
+const ONE_SERVED: &str = "stopped 0;fresh;fresh;fresh;fresh;fresh;fresh;fresh;fresh;fresh;";
+
+/// Ends the test where the run wasn't made, or something didn't come back.
+fn is_back<R: Abort>(rt: &R, ran: &Ran) {
+    assert!(rt; ran.ended(0, Cause::Done));
+    assert!(rt; ran.is_reported());
+    assert!(rt; ran.has_poll());
+}
+
 #[test]
 fn a_driver_comes_back_stopped_in_its_place(rt: HostRuntime) -> Result<(), Fail> {
-    let alloc = rt.alloc();
-    let ran = run_script(&rt, alloc, &["run", "s"], ABC.as_bytes())?;
-    assert!(rt; ran.ended(0, Cause::Done));
-    assert!(rt; ran.end.report.is_some());
-    assert!(rt; ran.end.poll.is_some());
-    let drivers = "stopped 0;fresh;fresh;fresh;fresh;fresh;fresh;fresh;fresh;fresh;";
-    assert!(rt; ran.stands(alloc, drivers)?);
+    let ran = run_script(&rt, rt.alloc(), &["run", "s"], ABC.as_bytes())?;
+    is_back(&rt, &ran);
+    let stands = ran.stands(rt.alloc(), ONE_SERVED)?;
+    is_so(&rt, stands, "the drivers stand otherwise");
     Ok(())
 }
 
@@ -24,12 +32,17 @@ pub const SAVES: &str =
     "process a\nport c a spawn run \"first\"\nport d a spawn run \"second\" line 80 eof\n\
     save a d \"lines\"\nsave a c \"bytes\"\na command c \"abc\"\na expect c 1\na expect d 1\n";
 
-#[test]
-fn data_is_saved_by_port(rt: HostRuntime) -> Result<(), Fail> {
-    let ran = run_script(&rt, rt.alloc(), &["run", "s", "2"], SAVES.as_bytes())?;
+/// Ends the test where the run wasn't made, or other data was saved.
+fn is_saved<R: Abort>(rt: &R, ran: &Ran) {
     assert!(rt; ran.ended(0, Cause::Done));
     assert!(rt; ran.holds("lines", b"hi\n"));
     assert!(rt; ran.holds("bytes", b"xyz"));
+}
+
+#[test]
+fn data_is_saved_by_port(rt: HostRuntime) -> Result<(), Fail> {
+    let ran = run_script(&rt, rt.alloc(), &["run", "s", "2"], SAVES.as_bytes())?;
+    is_saved(&rt, &ran);
     Ok(())
 }
 
@@ -49,7 +62,7 @@ const ROWS: &str = "journal 1\n\
 #[test]
 fn the_journal_tells_the_rows_of_each_port(rt: HostRuntime) -> Result<(), Fail> {
     let ran = run_script(&rt, rt.alloc(), &["run", "s"], JOURNAL.as_bytes())?;
-    assert!(rt; ran.holds("j", ROWS.as_bytes()));
+    is_so(&rt, ran.holds("j", ROWS.as_bytes()), "other rows");
     Ok(())
 }
 
@@ -63,25 +76,42 @@ fn run_with_failing_put<R: Sync + Threads + Wait>(
     run(rt, alloc, &["run", "s"], setting)
 }
 
+/// Ends the test where the run didn't end by a put that failed behind this text.
+fn is_unput<R: Abort>(rt: &R, ran: &Ran, written: &str) {
+    assert!(rt; ran.ended(4, Cause::WriteFault));
+    assert!(rt; ran.is_reported());
+    assert!(rt; ran.put(written));
+    assert!(rt; ran.has_file("j"));
+}
+
+/// How many bytes the put takes that fails, and those bytes.
+const FAILING_PUTS: [(usize, &str); 2] = [(0, ""), (6, "report")];
+
 #[test]
 fn a_put_that_fails_is_a_write_fault_behind_the_files(rt: HostRuntime) -> Result<(), Fail> {
-    for (count, written) in [(0, ""), (6, "report")] {
-        let ran = run_with_failing_put(&rt, rt.alloc(), count)?;
-        assert!(rt; ran.ended(4, Cause::WriteFault));
-        assert!(rt; ran.end.report.is_some());
-        assert!(rt; ran.put(written));
-        assert!(rt; ran.files.held("j").is_some());
+    for (count, written) in FAILING_PUTS.as_slice() {
+        let ran = run_with_failing_put(&rt, rt.alloc(), *count)?;
+        is_unput(&rt, &ran, written);
     }
     Ok(())
 }
 
-#[test]
-fn a_write_that_fails_is_a_write_fault_before_the_report(rt: HostRuntime) -> Result<(), Fail> {
-    let alloc = rt.alloc();
+/// A run of the script that saves where the second write fails.
+fn run_with_one_write<R: Sync + Threads + Wait>(rt: &R, alloc: Global) -> Result<Ran, Fail> {
     let setting = Setting::of_script(alloc, SAVES.as_bytes())?.with_one_write()?;
-    let ran = run(&rt, alloc, &["run", "s"], setting)?;
+    run(rt, alloc, &["run", "s"], setting)
+}
+
+/// Ends the test where the run didn't end by a write that failed behind the first file.
+fn is_unwritten<R: Abort>(rt: &R, ran: &Ran) {
     assert!(rt; ran.ended_silently(4, Cause::WriteFault));
     assert!(rt; ran.holds("lines", b"hi\n"));
-    assert!(rt; ran.files.held("bytes").is_none());
+    assert!(rt; !ran.has_file("bytes"));
+}
+
+#[test]
+fn a_write_that_fails_is_a_write_fault_before_the_report(rt: HostRuntime) -> Result<(), Fail> {
+    let ran = run_with_one_write(&rt, rt.alloc())?;
+    is_unwritten(&rt, &ran);
     Ok(())
 }

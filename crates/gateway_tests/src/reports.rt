@@ -1,7 +1,8 @@
 //! Scripts beside the texts that they are reported with. What a row says is so for every schedule: its processes wait for each other by replies and by data.
 
-use crate::runs::run_script;
+use crate::runs::{is_so, run_script};
 use std::alloc::Global;
+use std::process::Abort;
 use std::sync::Wait;
 use std::test::Fail;
 use std::thread::Threads;
@@ -335,7 +336,7 @@ fn written_by<R: Sync + Threads + Wait>(
     schedulers: &str,
 ) -> Result<String, Fail> {
     let ran = run_script(rt, alloc, &["run", "s", schedulers], script)?;
-    Ok(String::from_str(alloc, str::from_utf8(ran.out.bytes())?)?)
+    ran.text(alloc)
 }
 
 /// Whether the text is one of these.
@@ -360,16 +361,27 @@ fn wrong_report<R: Sync + Threads + Wait>(
     if is_one_of(written.as_str(), wanted) {
         return Ok(String::new(alloc));
     }
-    Ok(format!(in alloc; "{script}reports under {schedulers}:\n{written}")?)
+    let wrong = format!(in alloc; "{script}reports under {schedulers}:\n{written}")?;
+    Ok(wrong)
+}
+
+/// Ends the test where one of the scripts is reported otherwise under so many schedulers.
+fn are_reported<R: Abort + Sync + Threads + Wait>(
+    rt: &R,
+    alloc: Global,
+    schedulers: &str,
+) -> Result<(), Fail> {
+    for (script, wanted) in RUNS.as_slice() {
+        let wrong = wrong_report(rt, alloc, script, schedulers, wanted)?;
+        is_so(rt, wrong.is_empty(), wrong.as_str());
+    }
+    Ok(())
 }
 
 #[test]
 fn scripts_are_reported_under_any_number_of_schedulers(rt: HostRuntime) -> Result<(), Fail> {
-    for schedulers in ["1", "2", "4", "16"] {
-        for (script, wanted) in RUNS.as_slice() {
-            let wrong = wrong_report(&rt, rt.alloc(), script, schedulers, wanted)?;
-            assert!(rt; wrong.is_empty(), "{wrong}");
-        }
+    for schedulers in &["1", "2", "4", "16"] {
+        are_reported(&rt, rt.alloc(), schedulers)?;
     }
     Ok(())
 }
@@ -384,13 +396,24 @@ fn commanding(alloc: Global, count: usize) -> Result<String, Fail> {
     Ok(script)
 }
 
+/// What a run of a script with a command of so many bytes writes.
+fn commanded<R: Sync + Threads + Wait>(
+    rt: &R,
+    alloc: Global,
+    count: usize,
+) -> Result<String, Fail> {
+    let script = commanding(alloc, count)?;
+    written_by(rt, alloc, script.as_bytes(), "2")
+}
+
+/// The report of a command of 262,143 bytes.
+const LONG_REPORT: &str = "report processes=1 ports=1\n\
+     port p driver=echo commands=1 late=0 bytes=262143 end=normal\n\
+     process a commands=1 dropped=0 suspended=0 data=1 sha256=69dbf0273ec892997c5c9ab8d595c8ce79d7656db64a88a0c38304de37f5f2d8\n";
+
 #[test]
 fn a_command_has_at_most_262143_bytes(rt: HostRuntime) -> Result<(), Fail> {
-    let script = commanding(rt.alloc(), 262_143)?;
-    let written = written_by(&rt, rt.alloc(), script.as_bytes(), "2")?;
-    let report = "report processes=1 ports=1\n\
-         port p driver=echo commands=1 late=0 bytes=262143 end=normal\n\
-         process a commands=1 dropped=0 suspended=0 data=1 sha256=69dbf0273ec892997c5c9ab8d595c8ce79d7656db64a88a0c38304de37f5f2d8\n";
-    assert!(rt; written.as_str() == report, "{written}");
+    let written = commanded(&rt, rt.alloc(), 262_143)?;
+    is_so(&rt, written.as_str() == LONG_REPORT, written.as_str());
     Ok(())
 }

@@ -6,6 +6,7 @@ use port_driver::{Driver, Life};
 use sample_drivers::{Digest, Echo, Refuse, Refused, Store, Tally, Valve};
 use spawn_driver::spawn_driver;
 use std::alloc::{AllocError, Global};
+use std::process::Abort;
 use std::sync::Wait;
 use std::test::Fail;
 use std::thread::Threads;
@@ -92,9 +93,25 @@ impl Ran {
         self.ended(status, cause) && self.out.bytes().is_empty()
     }
 
+    /// Whether there is a report.
+    pub fn is_reported(&self) -> bool {
+        self.end.report.is_some()
+    }
+
+    /// Whether the poll set came back.
+    pub fn has_poll(&self) -> bool {
+        self.end.poll.is_some()
+    }
+
     /// Whether this was put out.
     pub fn put(&self, text: &str) -> bool {
         self.out.bytes() == text.as_bytes()
+    }
+
+    /// What was put out, as a text.
+    pub fn text(&self, alloc: Global) -> Result<String, Fail> {
+        let text = str::from_utf8(self.out.bytes())?;
+        Ok(String::from_str(alloc, text)?)
     }
 
     /// Whether the file of this name holds these bytes.
@@ -105,8 +122,13 @@ impl Ran {
         }
     }
 
+    /// Whether a file of this name is there.
+    pub fn has_file(&self, name: &str) -> bool {
+        self.files.held(name).is_some()
+    }
+
     /// Whether the drivers stand so.
-    pub fn stands(&self, alloc: Global, text: &str) -> Result<bool, Fail> {
+    pub fn stands(&self, alloc: Global, text: &str) -> Result<bool, AllocError> {
         let standing = standing(alloc, self.end.drivers.as_slice())?;
         Ok(standing.as_str() == text)
     }
@@ -135,7 +157,7 @@ fn starting(alloc: Global, event: u32, program: MemProgram) -> Result<MemSpawner
     Ok(spawner)
 }
 
-/// The kinds of drivers that need no program.
+/// The kinds of drivers.
 #[derive(Clone, Copy)]
 pub enum TestDriver {
     Echo,
@@ -145,10 +167,14 @@ pub enum TestDriver {
     ValveSoft,
     Digest,
     RefuseErrno,
+    /// Of a program that answers three bytes with three others.
+    Answering,
+    /// Of a program that gives a line and ends.
+    Ending,
 }
 
-/// Two drivers of echo, one each of the other samples that start, and one that refuses to start with an error of the system.
-const SAMPLES: [TestDriver; 8] = [
+/// Two drivers of echo, one each of the other samples that start, one that refuses to start with an error of the system, and two of programs.
+const DRIVERS: [TestDriver; 10] = [
     TestDriver::Echo,
     TestDriver::Echo,
     TestDriver::Tally,
@@ -157,37 +183,83 @@ const SAMPLES: [TestDriver; 8] = [
     TestDriver::ValveSoft,
     TestDriver::Digest,
     TestDriver::RefuseErrno,
+    TestDriver::Answering,
+    TestDriver::Ending,
 ];
 
-/// A fresh driver of this kind.
-pub fn fresh(alloc: Global, sample: TestDriver) -> Result<Box<dyn Driver + Send>, AllocError> {
-    let driver: Box<dyn Driver + Send> = match sample {
-        TestDriver::Echo => Box::new(alloc, Echo::new())?,
-        TestDriver::Tally => Box::new(alloc, Tally::new())?,
-        TestDriver::Store => Box::new(alloc, Store::new())?,
-        TestDriver::Valve => Box::new(alloc, Valve::new())?,
-        TestDriver::ValveSoft => Box::new(alloc, Valve::soft())?,
-        TestDriver::Digest => Box::new(alloc, Digest::new())?,
-        TestDriver::RefuseErrno => Box::new(alloc, Refuse::new(Refused::Errno))?,
-    };
-    Ok(driver)
+/// A fresh driver of echo.
+fn fresh_echo(alloc: Global) -> Result<Box<dyn Driver + Send>, Fail> {
+    Ok(Box::new(alloc, Echo::new())?)
+}
+
+/// A fresh driver that tallies.
+fn fresh_tally(alloc: Global) -> Result<Box<dyn Driver + Send>, Fail> {
+    Ok(Box::new(alloc, Tally::new())?)
+}
+
+/// A fresh driver that stores.
+fn fresh_store(alloc: Global) -> Result<Box<dyn Driver + Send>, Fail> {
+    Ok(Box::new(alloc, Store::new())?)
+}
+
+/// This valve as a driver.
+fn fresh_valve(alloc: Global, valve: Valve) -> Result<Box<dyn Driver + Send>, Fail> {
+    Ok(Box::new(alloc, valve)?)
+}
+
+/// A fresh driver that digests.
+fn fresh_digest(alloc: Global) -> Result<Box<dyn Driver + Send>, Fail> {
+    Ok(Box::new(alloc, Digest::new())?)
+}
+
+/// A fresh driver that refuses to start with an error of the system.
+fn fresh_refuse(alloc: Global) -> Result<Box<dyn Driver + Send>, Fail> {
+    Ok(Box::new(alloc, Refuse::new(Refused::Errno))?)
 }
 
 /// A fresh driver of the programs that this starts.
-fn fresh_spawn(alloc: Global, spawner: MemSpawner) -> Result<Box<dyn Driver + Send>, AllocError> {
+fn fresh_spawn(alloc: Global, spawner: MemSpawner) -> Result<Box<dyn Driver + Send>, Fail> {
     Ok(Box::new(alloc, spawn_driver(spawner))?)
 }
 
-/// Fresh drivers: those of the samples, and two of programs.
-fn fresh_drivers(alloc: Global) -> Result<Vec<Box<dyn Driver + Send>>, Fail> {
-    let mut drivers = Vec::new(alloc);
-    for sample in SAMPLES.as_slice() {
-        drivers.push(fresh(alloc, *sample)?)?;
+/// A fresh driver of the program that answers.
+fn fresh_answering(alloc: Global) -> Result<Box<dyn Driver + Send>, Fail> {
+    let program = answering(alloc)?;
+    let spawner = starting(alloc, 0, program)?;
+    fresh_spawn(alloc, spawner)
+}
+
+/// A fresh driver of the program that ends.
+fn fresh_ending(alloc: Global) -> Result<Box<dyn Driver + Send>, Fail> {
+    let program = ending(alloc)?;
+    let spawner = starting(alloc, 2, program)?;
+    fresh_spawn(alloc, spawner)
+}
+
+/// A fresh driver of this kind.
+fn fresh(alloc: Global, kind: TestDriver) -> Result<Box<dyn Driver + Send>, Fail> {
+    match kind {
+        TestDriver::Echo => fresh_echo(alloc),
+        TestDriver::Tally => fresh_tally(alloc),
+        TestDriver::Store => fresh_store(alloc),
+        TestDriver::Valve => fresh_valve(alloc, Valve::new()),
+        TestDriver::ValveSoft => fresh_valve(alloc, Valve::soft()),
+        TestDriver::Digest => fresh_digest(alloc),
+        TestDriver::RefuseErrno => fresh_refuse(alloc),
+        TestDriver::Answering => fresh_answering(alloc),
+        TestDriver::Ending => fresh_ending(alloc),
     }
-    let first = starting(alloc, 0, answering(alloc)?)?;
-    drivers.push(fresh_spawn(alloc, first)?)?;
-    let second = starting(alloc, 2, ending(alloc)?)?;
-    drivers.push(fresh_spawn(alloc, second)?)?;
+}
+
+/// A fresh driver of each of these kinds.
+pub fn fresh_drivers(
+    alloc: Global,
+    kinds: &[TestDriver],
+) -> Result<Vec<Box<dyn Driver + Send>>, Fail> {
+    let mut drivers = Vec::new(alloc);
+    for kind in kinds {
+        drivers.push(fresh(alloc, *kind)?)?;
+    }
     Ok(drivers)
 }
 
@@ -208,12 +280,12 @@ pub fn run_with<R: Sync + Threads + Wait>(
     drivers: Vec<Box<dyn Driver + Send>>,
     setting: Setting,
 ) -> Result<Ran, Fail> {
+    let hosts = host_drivers(alloc, drivers)?;
     let Setting {
         mut files,
         mut out,
         poll,
     } = setting;
-    let hosts = host_drivers(alloc, drivers)?;
     let end = gateway(
         rt, alloc, words, &mut files, &mut out, hosts, poll, &OpenGate,
     );
@@ -228,7 +300,7 @@ pub fn run<R: Sync + Threads + Wait>(
     setting: Setting,
 ) -> Result<Ran, Fail> {
     let words = owned_words(alloc, words)?;
-    let drivers = fresh_drivers(alloc)?;
+    let drivers = fresh_drivers(alloc, DRIVERS.as_slice())?;
     run_with(rt, alloc, words.as_slice(), drivers, setting)
 }
 
@@ -255,15 +327,25 @@ fn life_of(host: &Hosted) -> &'static str {
     }
 }
 
+/// Puts how a driver stands, with the port that it served.
+fn put_host(text: &mut String, host: &Hosted) -> Result<(), AllocError> {
+    text.push_str(life_of(host))?;
+    if let Some(port) = host.port {
+        write!(text, " {port}")?;
+    }
+    text.push(';')
+}
+
 /// How each driver stands, with the port that it served.
-fn standing(alloc: Global, hosts: &[Hosted]) -> Result<String, Fail> {
+fn standing(alloc: Global, hosts: &[Hosted]) -> Result<String, AllocError> {
     let mut text = String::new(alloc);
     for host in hosts {
-        text.push_str(life_of(host))?;
-        if let Some(port) = host.port {
-            write!(text, " {port}")?;
-        }
-        text.push(';')?;
+        put_host(&mut text, host)?;
     }
     Ok(text)
+}
+
+/// Ends the test where something isn't so.
+pub fn is_so<R: Abort>(rt: &R, so: bool, words: &str) {
+    assert!(rt; so, "{words}");
 }
