@@ -33,11 +33,12 @@ fn holding(alloc: Global, script: &str) -> Result<MemFiles, Fail> {
 /// The files of a run of this script.
 pub fn files(alloc: Global, script: &str, failing: FailingCall) -> Result<MemFiles, Fail> {
     let mut files = holding(alloc, script)?;
-    match failing {
-        FailingCall::Read(number) => files.fail_read(number)?,
-        FailingCall::Write(number) => files.fail_write(number)?,
-        _ => {}
-    }
+    let planned = match failing {
+        FailingCall::Read(number) => files.fail_read(number),
+        FailingCall::Write(number) => files.fail_write(number),
+        _ => Ok(()),
+    };
+    planned?;
     Ok(files)
 }
 
@@ -53,8 +54,8 @@ pub fn sink(alloc: Global, failing: FailingCall) -> Result<MemSink, Fail> {
 /// Three rounds of the write event of the program, and three of its read event.
 fn rounds(alloc: Global) -> Result<MemPoll, Fail> {
     let mut poll = MemPoll::new(alloc);
-    for event in [1, 1, 1, 0, 0, 0] {
-        poll.add_round(&[event])?;
+    for event in &[1, 1, 1, 0, 0, 0] {
+        poll.add_round(&[*event])?;
     }
     Ok(poll)
 }
@@ -86,8 +87,9 @@ fn program(alloc: Global) -> Result<MemProgram, Fail> {
 
 /// What starts that program. Its events are 0 for its output, and 1 for its input.
 pub fn spawner(alloc: Global, failing: FailingCall) -> Result<FailingSpawner, Fail> {
+    let program = program(alloc)?;
     let mut spawner = MemSpawner::new(alloc, 0);
-    spawner.add(program(alloc)?)?;
+    spawner.add(program)?;
     if let FailingCall::Start(number) = failing {
         spawner.fail_start(number)?;
     }

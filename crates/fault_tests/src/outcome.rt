@@ -71,7 +71,7 @@ impl RunOutcome {
 
 /// How many of the bytes `xyz` these are.
 fn count_of(bytes: &[u8]) -> Result<usize, Fail> {
-    for front in ["", "xy", "xyz"] {
+    for front in &["", "xy", "xyz"] {
         if front.as_bytes() == bytes {
             return Ok(front.len());
         }
@@ -130,21 +130,27 @@ fn are_back(drivers: &[Hosted]) -> bool {
         && life_at(drivers, 1) == Some(Life::Fresh)
 }
 
-/// What a run comes to that ended so, and left these files and this sink.
-pub fn outcome_of(
-    ended: &CallEnd<MemPoll>,
-    files: &MemFiles,
-    out: &MemSink,
-) -> Result<RunOutcome, Fail> {
+/// How the driver of the program came back from a run that ended so, where all came back.
+fn program_life(ended: &CallEnd<MemPoll>) -> Result<Life, Fail> {
     if ended.poll.is_none() {
         return Err("the poll set is gone".into());
     }
     if !are_back(ended.drivers.as_slice()) {
         return Err("a driver is gone, or one without a port was started".into());
     }
-    let Some(program) = life_at(ended.drivers.as_slice(), 0) else {
-        return Err("the driver of the program is gone".into());
-    };
+    match life_at(ended.drivers.as_slice(), 0) {
+        Some(program) => Ok(program),
+        None => Err("the driver of the program is gone".into()),
+    }
+}
+
+/// What a run comes to that ended so, and left these files and this sink.
+pub fn outcome_of(
+    ended: &CallEnd<MemPoll>,
+    files: &MemFiles,
+    out: &MemSink,
+) -> Result<RunOutcome, Fail> {
+    let program = program_life(ended)?;
     Ok(RunOutcome {
         status: ended.status,
         cause: ended.cause,

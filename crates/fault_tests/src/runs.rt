@@ -16,6 +16,25 @@ use std::thread::Threads;
 const SCRIPT: &str = "process a\nport c a spawn run \"program\" exit_status\na file c 2 \"five\"\n\
     a expect c 3\nsave a c \"saved\"\njournal \"j\"\n";
 
+/// The drivers of a run.
+#[derive(Clone, Copy)]
+enum TestDriver {
+    /// Of the program.
+    Program,
+    /// One that has no port.
+    Echo,
+    RefuseGeneral,
+    RefuseBadarg,
+}
+
+/// One of the program, one that has no port, and two that refuse to start.
+const DRIVERS: [TestDriver; 4] = [
+    TestDriver::Program,
+    TestDriver::Echo,
+    TestDriver::RefuseGeneral,
+    TestDriver::RefuseBadarg,
+];
+
 /// A fresh driver of the program.
 fn fresh_spawn(alloc: Global, failing: FailingCall) -> Result<Box<dyn Driver + Send>, Fail> {
     let spawner = spawner(alloc, failing)?;
@@ -23,47 +42,104 @@ fn fresh_spawn(alloc: Global, failing: FailingCall) -> Result<Box<dyn Driver + S
 }
 
 /// A fresh driver of echo.
-fn fresh_echo(alloc: Global) -> Result<Box<dyn Driver + Send>, AllocError> {
+fn fresh_echo(alloc: Global) -> Result<Box<dyn Driver + Send>, Fail> {
     Ok(Box::new(alloc, Echo::new())?)
 }
 
 /// A fresh driver that refuses to start.
-fn fresh_refuse(alloc: Global, refused: Refused) -> Result<Box<dyn Driver + Send>, AllocError> {
+fn fresh_refuse(alloc: Global, refused: Refused) -> Result<Box<dyn Driver + Send>, Fail> {
     Ok(Box::new(alloc, Refuse::new(refused))?)
 }
 
-/// Fresh drivers: one of the program, one that has no port, and two that refuse to start.
-fn drivers(alloc: Global, failing: FailingCall) -> Result<Vec<Box<dyn Driver + Send>>, Fail> {
+/// This driver, fresh.
+fn fresh(
+    alloc: Global,
+    driver: TestDriver,
+    failing: FailingCall,
+) -> Result<Box<dyn Driver + Send>, Fail> {
+    match driver {
+        TestDriver::Program => fresh_spawn(alloc, failing),
+        TestDriver::Echo => fresh_echo(alloc),
+        TestDriver::RefuseGeneral => fresh_refuse(alloc, Refused::General),
+        TestDriver::RefuseBadarg => fresh_refuse(alloc, Refused::Badarg),
+    }
+}
+
+/// The drivers of a run, all fresh.
+fn fresh_drivers(alloc: Global, failing: FailingCall) -> Result<Vec<Box<dyn Driver + Send>>, Fail> {
     let mut drivers = Vec::new(alloc);
-    drivers.push(fresh_spawn(alloc, failing)?)?;
-    drivers.push(fresh_echo(alloc)?)?;
-    drivers.push(fresh_refuse(alloc, Refused::General)?)?;
-    drivers.push(fresh_refuse(alloc, Refused::Badarg)?)?;
+    for driver in DRIVERS.as_slice() {
+        drivers.push(fresh(alloc, *driver, failing)?)?;
+    }
     Ok(drivers)
 }
 
 /// The words of a run of the script.
 fn words(alloc: Global) -> Result<Vec<String>, AllocError> {
     let mut words = Vec::new(alloc);
-    for word in ["run", "s"] {
+    for word in &["run", "s"] {
         words.push(String::from_str(alloc, word)?)?;
     }
     Ok(words)
+}
+
+/// What a run is handed, beside what it reads and writes.
+#[derive(Drop)]
+struct Handed {
+    words: Vec<String>,
+    drivers: Vec<Box<dyn Driver + Send>>,
+    poll: MemPoll,
+}
+
+/// The words, the drivers and the poll set of a run of the script.
+fn all_handed(alloc: Global, failing: FailingCall) -> Result<Handed, Fail> {
+    let words = words(alloc)?;
+    let poll = poll(alloc, failing)?;
+    let drivers = fresh_drivers(alloc, failing)?;
+    Ok(Handed {
+        words,
+        drivers,
+        poll,
+    })
+}
+
+/// What a run reads and writes.
+#[derive(Drop)]
+struct Stores {
+    files: MemFiles,
+    out: MemSink,
+}
+
+/// The files and the sink of a run of this script.
+fn fresh_stores(alloc: Global, script: &str, failing: FailingCall) -> Result<Stores, Fail> {
+    let files = files(alloc, script, failing)?;
+    let out = sink(alloc, failing)?;
+    Ok(Stores { files, out })
 }
 
 /// Runs the script over the files and the sink.
 fn run<R: Sync + Threads + Wait>(
     rt: &R,
     alloc: Global,
-    failing: FailingCall,
-    files: &mut MemFiles,
-    out: &mut MemSink,
+    handed: Handed,
+    stores: &mut Stores,
 ) -> Result<CallEnd<MemPoll>, Fail> {
-    let words = words(alloc)?;
-    let poll = poll(alloc, failing)?;
-    let hosts = host_drivers(alloc, drivers(alloc, failing)?)?;
-    let words = words.as_slice();
-    Ok(gateway(rt, alloc, words, files, out, hosts, poll, &OpenGate))
+    let Handed {
+        words,
+        drivers,
+        poll,
+    } = handed;
+    let hosts = host_drivers(alloc, drivers)?;
+    Ok(gateway(
+        rt,
+        alloc,
+        words.as_slice(),
+        &mut stores.files,
+        &mut stores.out,
+        hosts,
+        poll,
+        &OpenGate,
+    ))
 }
 
 /// What a run of this script, which may have a program, comes to where this call is to fail.
@@ -73,10 +149,10 @@ fn run_script_with<R: Sync + Threads + Wait>(
     script: &str,
     failing: FailingCall,
 ) -> Result<RunOutcome, Fail> {
-    let mut files = files(alloc, script, failing)?;
-    let mut out = sink(alloc, failing)?;
-    let ended = run(rt, alloc, failing, &mut files, &mut out)?;
-    outcome_of(&ended, &files, &out)
+    let handed = all_handed(alloc, failing)?;
+    let mut stores = fresh_stores(alloc, script, failing)?;
+    let ended = run(rt, alloc, handed, &mut stores)?;
+    outcome_of(&ended, &stores.files, &stores.out)
 }
 
 /// Whether a run of this script comes to this.

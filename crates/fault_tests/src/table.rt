@@ -5,20 +5,31 @@ use crate::outcome::{ReportedEnd, RunOutcome};
 use crate::runs::{comes_to, script_comes_to};
 use gateway::{Cause, StartRefusal};
 use port_driver::Life;
+use std::alloc::Global;
+use std::process::Abort;
+use std::sync::Wait;
 use std::test::Fail;
+use std::thread::Threads;
+
+/// Ends the test where the run that fails this call comes to something else.
+fn is_wanted<R: Abort>(rt: &R, wanted: bool, number: u64) {
+    assert!(rt; wanted, "call {number}");
+}
+
+/// What a run comes to that nothing fails.
+const WHOLE: RunOutcome = RunOutcome {
+    status: 0,
+    cause: Cause::Done,
+    is_reported: true,
+    saved: Some(3),
+    status_sent: Some(true),
+    end: Some(ReportedEnd::Normal),
+    program: Life::Stopped,
+};
 
 #[test]
 fn a_run_without_a_fault_saves_all_and_ends_its_port(rt: HostRuntime) -> Result<(), Fail> {
-    let wanted = RunOutcome {
-        status: 0,
-        cause: Cause::Done,
-        is_reported: true,
-        saved: Some(3),
-        status_sent: Some(true),
-        end: Some(ReportedEnd::Normal),
-        program: Life::Stopped,
-    };
-    assert!(rt; comes_to(&rt, rt.alloc(), FailingCall::Nothing, wanted)?);
+    assert!(rt; comes_to(&rt, rt.alloc(), FailingCall::Nothing, WHOLE)?);
     Ok(())
 }
 
@@ -36,17 +47,21 @@ fn a_file_that_is_not_read_starts_nothing(rt: HostRuntime) -> Result<(), Fail> {
     Ok(())
 }
 
+/// The program isn't started.
+const NOT_STARTED: Cause = Cause::StartRefused {
+    line: 2,
+    refusal: StartRefusal::StartFault,
+};
+
 #[test]
 fn a_program_that_is_not_started_refuses_its_port(rt: HostRuntime) -> Result<(), Fail> {
-    let refusal = StartRefusal::StartFault;
-    let cause = Cause::StartRefused { line: 2, refusal };
-    let wanted = RunOutcome::without_output(6, cause, Life::Stopped);
+    let wanted = RunOutcome::without_output(6, NOT_STARTED, Life::Stopped);
     assert!(rt; comes_to(&rt, rt.alloc(), FailingCall::Start(0), wanted)?);
     Ok(())
 }
 
 /// Scripts of a program and of a port that is refused, with the refusal.
-const REFUSED: [(&str, StartRefusal); 2] = [
+const REFUSALS: [(&str, StartRefusal); 2] = [
     (
         "process a\nport c a spawn run \"program\"\nport d a refuse1\n",
         StartRefusal::General,
@@ -57,15 +72,28 @@ const REFUSED: [(&str, StartRefusal); 2] = [
     ),
 ];
 
+/// Whether a run of this script ends with this refusal in its third line, and stops the program.
+fn is_refused<R: Sync + Threads + Wait>(
+    rt: &R,
+    alloc: Global,
+    script: &str,
+    refusal: StartRefusal,
+) -> Result<bool, Fail> {
+    let cause = Cause::StartRefused { line: 3, refusal };
+    let wanted = RunOutcome::without_output(6, cause, Life::Stopped);
+    script_comes_to(rt, alloc, script, wanted)
+}
+
+/// Ends the test where this script isn't refused so.
+fn is_so<R: Abort>(rt: &R, so: bool, script: &str) {
+    assert!(rt; so, "{script}");
+}
+
 #[test]
 fn a_program_is_stopped_where_a_later_port_is_refused(rt: HostRuntime) -> Result<(), Fail> {
-    for (script, refusal) in REFUSED {
-        let cause = Cause::StartRefused { line: 3, refusal };
-        let wanted = RunOutcome::without_output(6, cause, Life::Stopped);
-        assert!(rt;
-            script_comes_to(&rt, rt.alloc(), script, wanted)?,
-            "{script}"
-        );
+    for (script, refusal) in REFUSALS.as_slice() {
+        let refused = is_refused(&rt, rt.alloc(), script, *refusal)?;
+        is_so(&rt, refused, script);
     }
     Ok(())
 }
@@ -74,18 +102,21 @@ fn a_program_is_stopped_where_a_later_port_is_refused(rt: HostRuntime) -> Result
 fn each_offer_that_fails_closes_the_port(rt: HostRuntime) -> Result<(), Fail> {
     let wanted = RunOutcome::with_eio(0);
     for number in 0..3 {
-        let offer = FailingCall::Offer(number);
-        assert!(rt; comes_to(&rt, rt.alloc(), offer, wanted)?, "offer {number}");
+        let closed = comes_to(&rt, rt.alloc(), FailingCall::Offer(number), wanted)?;
+        is_wanted(&rt, closed, number);
     }
     Ok(())
 }
 
+/// The numbers of fetches that fail, and how many bytes are saved then.
+const FETCHES: [(u64, usize); 3] = [(0, 0), (1, 2), (2, 3)];
+
 #[test]
 fn each_fetch_that_fails_closes_the_port_behind_what_came(rt: HostRuntime) -> Result<(), Fail> {
-    for (number, saved) in [(0, 0), (1, 2), (2, 3)] {
-        let wanted = RunOutcome::with_eio(saved);
-        let fetch = FailingCall::Fetch(number);
-        assert!(rt; comes_to(&rt, rt.alloc(), fetch, wanted)?, "fetch {number}");
+    for (number, saved) in FETCHES.as_slice() {
+        let fetch = FailingCall::Fetch(*number);
+        let closed = comes_to(&rt, rt.alloc(), fetch, RunOutcome::with_eio(*saved))?;
+        is_wanted(&rt, closed, *number);
     }
     Ok(())
 }
@@ -101,8 +132,8 @@ fn a_status_that_fails_closes_the_port_and_is_not_sent(rt: HostRuntime) -> Resul
 fn each_wait_that_fails_ends_the_run_without_a_report(rt: HostRuntime) -> Result<(), Fail> {
     let wanted = RunOutcome::without_output(7, Cause::PollFault, Life::Stopped);
     for number in 0..6 {
-        let wait = FailingCall::Wait(number);
-        assert!(rt; comes_to(&rt, rt.alloc(), wait, wanted)?, "wait {number}");
+        let ended = comes_to(&rt, rt.alloc(), FailingCall::Wait(number), wanted)?;
+        is_wanted(&rt, ended, number);
     }
     Ok(())
 }
