@@ -1,7 +1,6 @@
 //! What a test has done, one act after another.
 use crate::others::OthersBeside;
 use crate::rig::name;
-use crate::text::put;
 use port_body::{Body, Driver, Turn};
 use port_model::Piece;
 use process_end::{Ask, How};
@@ -71,29 +70,60 @@ fn ask_of(act: PortAct) -> Result<Option<(u32, Ask)>, Fail> {
     Ok(Some(asked))
 }
 
-/// Makes an act of one beside the port.
+/// A process puts a command of so many bytes.
+fn put_bulk<R: Wait>(
+    rt: &R,
+    alloc: Global,
+    others: &mut OthersBeside,
+    process: u32,
+    how: How,
+    count: usize,
+) -> Result<(), Fail> {
+    let bytes = vec![in alloc; b'a'; count]?;
+    others.command(rt, alloc, process, bytes.as_slice(), how)
+}
+
+/// A process ends for the reason of this name.
+fn put_end<R: Wait>(
+    rt: &R,
+    others: &mut OthersBeside,
+    process: u32,
+    reason: &[u8],
+) -> Result<(), Fail> {
+    let reason = name(reason)?;
+    others.end(rt, process, reason)
+}
+
+/// Makes an act of one beside the port that puts no signal but a command.
 fn act_beside<R: Wait>(
     rt: &R,
     alloc: Global,
     others: &mut OthersBeside,
     act: PortAct,
 ) -> Result<(), Fail> {
-    if let Some((process, ask)) = ask_of(act)? {
-        return others.ask(rt, process, ask);
-    }
     match act {
         PortAct::Command(process, how, bytes) => others.command(rt, alloc, process, bytes, how),
-        PortAct::Bulk(process, how, count) => {
-            let bytes = vec![in alloc; b'a'; count]?;
-            others.command(rt, alloc, process, bytes.as_slice(), how)
-        }
-        PortAct::End(process, reason) => others.end(rt, process, name(reason)?),
+        PortAct::Bulk(process, how, count) => put_bulk(rt, alloc, others, process, how, count),
+        PortAct::End(process, reason) => put_end(rt, others, process, reason),
         PortAct::Resume(process) => others.resume(rt, process),
         PortAct::Mail(process) => others.mail(rt, process),
         PortAct::Look(process) => others.look(process),
         PortAct::Poll => others.poll(rt, alloc),
         PortAct::Work(worker) => others.work(rt, alloc, worker),
         _ => Ok(()),
+    }
+}
+
+/// Makes an act of one beside the port.
+fn ask_or_act<R: Wait>(
+    rt: &R,
+    alloc: Global,
+    others: &mut OthersBeside,
+    act: PortAct,
+) -> Result<(), Fail> {
+    match ask_of(act)? {
+        Some((process, ask)) => others.ask(rt, process, ask),
+        None => act_beside(rt, alloc, others, act),
     }
 }
 
@@ -120,10 +150,11 @@ fn act_one<D: Driver, R: Wait>(
     others: &mut OthersBeside,
     act: PortAct,
 ) -> Result<(), Fail> {
-    if let PortAct::Turn(max) = act {
-        return put(&mut others.text, make_turn(rt, body, max), &[]);
-    }
-    act_beside(rt, alloc, others, act)
+    let PortAct::Turn(max) = act else {
+        return ask_or_act(rt, alloc, others, act);
+    };
+    others.text.push_str(make_turn(rt, body, max))?;
+    Ok(())
 }
 
 /// Makes the acts, one after another.

@@ -77,15 +77,21 @@ fn workers(alloc: Global, mut all: Vec<WorkerLanes>) -> Result<Vec<HandWorker>, 
     Ok(workers)
 }
 
-/// The poller, of whose waits so many find the write event of the program alone.
-fn poller(alloc: Global, lanes: PollerLanes, writes: u32) -> Result<HandPoller, Fail>
-    requires { LastIs IsOfPoller lanes.lanes.items }
-{
-    let PollerLanes { asks, mut lanes } = lanes;
+/// A poll set of whose waits so many find the write event of the program alone.
+fn poll_set(alloc: Global, writes: u32) -> Result<MemPoll, Fail> {
     let mut poll = MemPoll::new(alloc);
     for _ in 0..writes {
         poll.add_round(&[1])?;
     }
+    Ok(poll)
+}
+
+/// The poller, of whose waits so many find the write event of the program alone.
+fn poller(alloc: Global, lanes: PollerLanes, writes: u32) -> Result<HandPoller, Fail>
+    requires { LastIs IsOfPoller lanes.lanes.items }
+{
+    let poll = poll_set(alloc, writes)?;
+    let PollerLanes { asks, mut lanes } = lanes;
     match lanes.pop() {
         Some(lane) => Ok(HandPoller::new(alloc, poll, asks, lane)),
         None => Err("no lane".into()),

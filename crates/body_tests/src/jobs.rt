@@ -1,6 +1,6 @@
 //! Jobs of a driver, which workers do.
 use crate::acts::PortAct;
-use crate::rig::{QueueChoice, Wanted, limited, shows};
+use crate::rig::{PortCase, Wanted, usual_shows};
 use process_end::How;
 use sample_drivers::Digest;
 use std::test::Fail;
@@ -19,9 +19,9 @@ const LATE_JOB: &str = "p0 accepted 0\n\
     p0 reply 3 true\n\
     p0 exit normal\n";
 
-#[test]
-fn a_job_that_is_done_behind_the_close_is_late(rt: HostRuntime) -> Result<(), Fail> {
-    let acts = [
+/// Three jobs, of which the last is done behind the close.
+const LATE_DONE: PortCase = PortCase {
+    acts: &[
         PortAct::Command(0, How::Plain, b"\x01\x01ab"),
         PortAct::Command(0, How::Plain, b"\x01\x02\xff\xff"),
         PortAct::Command(0, How::Plain, b"\x02\x01cd"),
@@ -34,8 +34,8 @@ fn a_job_that_is_done_behind_the_close_is_late(rt: HostRuntime) -> Result<(), Fa
         PortAct::Work(0),
         PortAct::Turn(64),
         PortAct::Mail(0),
-    ];
-    let wanted = [
+    ],
+    wanted: &[
         Wanted::Rows(
             "h p0 0 command - 01016162 ; ; async 0 1 1 6162\n\
              h p0 1 command - 0102ffff ; ; async 1 1 2 ffff\n\
@@ -47,13 +47,10 @@ fn a_job_that_is_done_behind_the_close_is_late(rt: HostRuntime) -> Result<(), Fa
              l w0 0 done 2 6463\n",
         ),
         Wanted::Acts(LATE_JOB),
-    ];
-    shows(
-        &rt,
-        rt.alloc(),
-        Digest::new(),
-        limited(QueueChoice::Usual),
-        &acts,
-        &wanted,
-    )
+    ],
+};
+
+#[test]
+fn a_job_that_is_done_behind_the_close_is_late(rt: HostRuntime) -> Result<(), Fail> {
+    usual_shows(&rt, rt.alloc(), Digest::new(), &LATE_DONE)
 }

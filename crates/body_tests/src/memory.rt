@@ -182,132 +182,136 @@ impl<D: Driver> Driver for Wanting<D> {
     }
 }
 
-/// Asserts that the last two turns of these acts find no memory, that the port has these rows, and that its driver is stopped at the end.
+/// Acts whose last two turns find no memory, and the rows of the port.
+struct BreakingCase {
+    acts: &'static [PortAct],
+    rows: &'static str,
+}
+
+/// Asserts that the last two turns find no memory, that the port has those rows, and that its driver is stopped at the end.
 fn breaks<D: Driver, R: Abort + Wait>(
     rt: &R,
     alloc: Global,
     driver: Wanting<D>,
     options: PlayOptions,
-    acts: &[PortAct],
-    rows: &str,
+    case: &BreakingCase,
 ) -> Result<(), Fail>
     requires { D.stage driver.driver ≡ Life.Fresh }
 {
     let wanted = [
         Wanted::LastActs("no memory\nno memory\n"),
-        Wanted::Rows(rows),
+        Wanted::Rows(case.rows),
         Wanted::Stopped,
     ];
-    shows(rt, alloc, driver, options, acts, &wanted)
+    shows(rt, alloc, driver, options, case.acts, &wanted)
 }
 
-#[test]
-fn a_command_that_finds_no_memory_breaks_its_port(rt: HostRuntime) -> Result<(), Fail> {
-    let acts = [
+/// The same of a port whose driver finds no memory in this callback.
+fn usual_breaks<D: Driver, R: Abort + Wait>(
+    rt: &R,
+    alloc: Global,
+    driver: D,
+    callback: WantingCallback,
+    case: &BreakingCase,
+) -> Result<(), Fail>
+    requires { D.stage driver ≡ Life.Fresh }
+{
+    let options = limited(QueueChoice::Usual);
+    breaks(rt, alloc, without_memory(driver, callback), options, case)
+}
+
+/// A command alone.
+const ONE_COMMAND: BreakingCase = BreakingCase {
+    acts: &[
         PortAct::Command(0, How::Plain, b"x"),
         PortAct::Turn(64),
         PortAct::Turn(64),
-    ];
-    let options = limited(QueueChoice::Usual);
-    breaks(
-        &rt,
-        rt.alloc(),
-        without_memory(Echo::new(), WantingCallback::Outputv),
-        options,
-        &acts,
-        "",
-    )
+    ],
+    rows: "",
+};
+
+#[test]
+fn a_command_that_finds_no_memory_breaks_its_port(rt: HostRuntime) -> Result<(), Fail> {
+    let callback = WantingCallback::Outputv;
+    usual_breaks(&rt, rt.alloc(), Echo::new(), callback, &ONE_COMMAND)
 }
+
+/// A control alone.
+const ONE_CONTROL: BreakingCase = BreakingCase {
+    acts: &[PortAct::Control(0, 1), PortAct::Turn(64), PortAct::Turn(64)],
+    rows: "",
+};
 
 #[test]
 fn a_control_that_finds_no_memory_breaks_its_port(rt: HostRuntime) -> Result<(), Fail> {
-    let acts = [PortAct::Control(0, 1), PortAct::Turn(64), PortAct::Turn(64)];
-    let options = limited(QueueChoice::Usual);
-    breaks(
-        &rt,
-        rt.alloc(),
-        without_memory(Echo::new(), WantingCallback::Control),
-        options,
-        &acts,
-        "",
-    )
+    let callback = WantingCallback::Control;
+    usual_breaks(&rt, rt.alloc(), Echo::new(), callback, &ONE_CONTROL)
 }
+
+/// A call alone.
+const ONE_CALL: BreakingCase = BreakingCase {
+    acts: &[PortAct::Call(0, 1), PortAct::Turn(64), PortAct::Turn(64)],
+    rows: "",
+};
 
 #[test]
 fn a_call_that_finds_no_memory_breaks_its_port(rt: HostRuntime) -> Result<(), Fail> {
-    let acts = [PortAct::Call(0, 1), PortAct::Turn(64), PortAct::Turn(64)];
-    let options = limited(QueueChoice::Usual);
-    breaks(
-        &rt,
-        rt.alloc(),
-        without_memory(Echo::new(), WantingCallback::Call),
-        options,
-        &acts,
-        "",
-    )
+    let callback = WantingCallback::Call;
+    usual_breaks(&rt, rt.alloc(), Echo::new(), callback, &ONE_CALL)
 }
+
+/// The end of a process that is watched.
+const WATCHED_END: BreakingCase = BreakingCase {
+    acts: &[
+        PortAct::Control(1, 2),
+        PortAct::End(1, b"normal"),
+        PortAct::Turn(64),
+        PortAct::Turn(64),
+    ],
+    rows: "h p1 0 control 2 - ; ; watch 1, reply -\n",
+};
 
 #[test]
 fn the_end_of_a_watched_process_that_finds_no_memory_breaks_its_port(
     rt: HostRuntime,
 ) -> Result<(), Fail> {
-    let acts = [
-        PortAct::Control(1, 2),
-        PortAct::End(1, b"normal"),
-        PortAct::Turn(64),
-        PortAct::Turn(64),
-    ];
-    let rows = "h p1 0 control 2 - ; ; watch 1, reply -\n";
-    let options = limited(QueueChoice::Usual);
-    breaks(
-        &rt,
-        rt.alloc(),
-        without_memory(Tally::new(), WantingCallback::ProcessExit),
-        options,
-        &acts,
-        rows,
-    )
+    let callback = WantingCallback::ProcessExit;
+    usual_breaks(&rt, rt.alloc(), Tally::new(), callback, &WATCHED_END)
 }
 
-#[test]
-fn a_flush_that_finds_no_memory_breaks_its_port(rt: HostRuntime) -> Result<(), Fail> {
-    let acts = [
+/// A close of a port whose driver has a queue.
+const FLUSHED_QUEUE: BreakingCase = BreakingCase {
+    acts: &[
         PortAct::Command(0, How::Plain, b"x"),
         PortAct::Close(0),
         PortAct::Turn(64),
         PortAct::Turn(64),
-    ];
-    let rows = "h p0 0 command - 78 ; ;\n";
-    let options = limited(QueueChoice::Usual);
-    breaks(
-        &rt,
-        rt.alloc(),
-        without_memory(Store::new(), WantingCallback::Flush),
-        options,
-        &acts,
-        rows,
-    )
-}
+    ],
+    rows: "h p0 0 command - 78 ; ;\n",
+};
 
 #[test]
-fn a_job_that_finds_no_memory_breaks_its_port(rt: HostRuntime) -> Result<(), Fail> {
-    let acts = [
+fn a_flush_that_finds_no_memory_breaks_its_port(rt: HostRuntime) -> Result<(), Fail> {
+    let callback = WantingCallback::Flush;
+    usual_breaks(&rt, rt.alloc(), Store::new(), callback, &FLUSHED_QUEUE)
+}
+
+/// A job that a worker does.
+const ONE_JOB: BreakingCase = BreakingCase {
+    acts: &[
         PortAct::Command(0, How::Plain, b"\x00\x01x"),
         PortAct::Turn(64),
         PortAct::Work(0),
         PortAct::Turn(64),
         PortAct::Turn(64),
-    ];
-    let rows = "h p0 0 command - 000178 ; ; async 0 0 1 78\n";
-    let options = limited(QueueChoice::Usual);
-    breaks(
-        &rt,
-        rt.alloc(),
-        without_memory(Digest::new(), WantingCallback::ReadyAsync),
-        options,
-        &acts,
-        rows,
-    )
+    ],
+    rows: "h p0 0 command - 000178 ; ; async 0 0 1 78\n",
+};
+
+#[test]
+fn a_job_that_finds_no_memory_breaks_its_port(rt: HostRuntime) -> Result<(), Fail> {
+    let callback = WantingCallback::ReadyAsync;
+    usual_breaks(&rt, rt.alloc(), Digest::new(), callback, &ONE_JOB)
 }
 
 /// A driver of a program that gives nothing.
@@ -319,42 +323,52 @@ fn program(alloc: Global) -> Result<SpawnDriver<MemSpawner>, Fail>
     Ok(spawn_driver(spawner))
 }
 
-#[test]
-fn a_readiness_that_finds_no_memory_breaks_its_port(rt: HostRuntime) -> Result<(), Fail> {
-    let alloc = rt.alloc();
-    let options = framed(Mode::Stream);
-    let reads = [PortAct::Poll, PortAct::Turn(64), PortAct::Turn(64)];
-    breaks(
-        &rt,
-        alloc,
-        without_memory(program(alloc)?, WantingCallback::ReadyInput),
-        options,
-        &reads,
-        "",
-    )
+/// A port of a program, where one wait of the poller finds the write event alone.
+const ONE_WRITE: PlayOptions = PlayOptions {
+    limits: QueueChoice::Usual,
+    mode: Mode::Stream,
+    writes: 1,
+};
+
+/// The same of a port of that program.
+fn program_breaks<R: Abort + Wait>(
+    rt: &R,
+    alloc: Global,
+    callback: WantingCallback,
+    options: PlayOptions,
+    case: &BreakingCase,
+) -> Result<(), Fail> {
+    let driver = program(alloc)?;
+    breaks(rt, alloc, without_memory(driver, callback), options, case)
 }
 
+/// Output of the program.
+const ONE_READ: BreakingCase = BreakingCase {
+    acts: &[PortAct::Poll, PortAct::Turn(64), PortAct::Turn(64)],
+    rows: "",
+};
+
 #[test]
-fn room_that_finds_no_memory_breaks_its_port(rt: HostRuntime) -> Result<(), Fail> {
-    let alloc = rt.alloc();
-    let acts = [
+fn a_readiness_that_finds_no_memory_breaks_its_port(rt: HostRuntime) -> Result<(), Fail> {
+    let callback = WantingCallback::ReadyInput;
+    let options = framed(Mode::Stream);
+    program_breaks(&rt, rt.alloc(), callback, options, &ONE_READ)
+}
+
+/// Room for input of the program.
+const ONE_ROOM: BreakingCase = BreakingCase {
+    acts: &[
         PortAct::Command(0, How::Plain, b"x"),
         PortAct::Turn(64),
         PortAct::Poll,
         PortAct::Turn(64),
         PortAct::Turn(64),
-    ];
-    let options = PlayOptions {
-        writes: 1,
-        ..framed(Mode::Stream)
-    };
-    let rows = "h p0 0 command - 78 ; ; select 1 w 1\n";
-    breaks(
-        &rt,
-        alloc,
-        without_memory(program(alloc)?, WantingCallback::ReadyOutput),
-        options,
-        &acts,
-        rows,
-    )
+    ],
+    rows: "h p0 0 command - 78 ; ; select 1 w 1\n",
+};
+
+#[test]
+fn room_that_finds_no_memory_breaks_its_port(rt: HostRuntime) -> Result<(), Fail> {
+    let callback = WantingCallback::ReadyOutput;
+    program_breaks(&rt, rt.alloc(), callback, ONE_WRITE, &ONE_ROOM)
 }

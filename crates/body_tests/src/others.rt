@@ -14,7 +14,7 @@ use port_body::Parcel;
 use port_model::{IoVec, Mail, Piece, Reason, Signal, Task};
 use process_end::{Ask, How};
 use ready_select::{PollAsk, PollTable, poll_round};
-use std::alloc::Global;
+use std::alloc::{AllocError, Global};
 use std::sync::Wait;
 use std::test::Fail;
 
@@ -203,19 +203,29 @@ impl OthersBeside {
     }
 
     /// A mail came to a process.
-    fn note_mail(&mut self, process: u32, mail: &Mail) -> Result<(), Fail> {
+    fn note_mail(&mut self, process: u32, mail: &Mail) -> Result<(), AllocError> {
         if let Mail::Message { bytes, .. } = mail {
             put_bytes(&mut self.data, bytes.as_slice())?;
         }
         put_mail(&mut self.text, process, mail)
     }
 
+    /// A process takes the next mail, if there is one, and says whether there was.
+    fn take_mail<R: Wait>(&mut self, rt: &R, process: u32) -> Result<bool, AllocError> {
+        match self.next_mail(rt, process) {
+            Some(mail) => {
+                self.note_mail(process, &mail)?;
+                Ok(true)
+            }
+            None => Ok(false),
+        }
+    }
+
     /// A process takes all mail that it has.
     pub(crate) fn mail<R: Wait>(&mut self, rt: &R, process: u32) -> Result<(), Fail> {
         for _ in rt.forever() {
-            match self.next_mail(rt, process) {
-                Some(mail) => self.note_mail(process, &mail)?,
-                None => return Ok(()),
+            if !self.take_mail(rt, process)? {
+                return Ok(());
             }
         }
         unreachable!()

@@ -9,7 +9,7 @@ use async_jobs::TakeEnd;
 use port_model::{IoVec, Mail, Piece, Reason};
 use process_end::{Ask, Commanded, How, NotYet, Proc, ProcParts, SendRefusal, Shown, Stopped};
 use run_lanes::ProcessLanes;
-use std::alloc::Global;
+use std::alloc::{AllocError, Global};
 use std::sync::Wait;
 use std::test::Fail;
 
@@ -51,6 +51,7 @@ pub(crate) fn begun(
 ) -> Result<HandProcess, Fail>
     requires { CanServe number lanes }
 {
+    let soft = vec![in alloc; soft; 1]?;
     let ProcessLanes {
         mailbox,
         lanes,
@@ -61,7 +62,7 @@ pub(crate) fn begun(
         mailbox,
         lanes,
         seats,
-        soft: vec![in alloc; soft; 1]?,
+        soft,
     };
     let proc = Proc::new(alloc, parts);
     Ok(HandProcess::Sending(SendingProcess { proc }))
@@ -93,10 +94,10 @@ impl SendingProcess {
         payload: IoVec,
         how: How,
         text: &mut String,
-    ) -> Result<HandProcess, Fail> {
+    ) -> (HandProcess, Result<(), AllocError>) {
         let commanded = self.put(rt, payload, how);
-        put_commanded(text, process, &commanded)?;
-        Ok(after_command(commanded))
+        let told = put_commanded(text, process, &commanded);
+        (after_command(commanded), told)
     }
 
     /// Puts a signal that is no command.
@@ -117,10 +118,9 @@ impl SendingProcess {
         if !is_within(&ask) {
             return Err("no process".into());
         }
-        match self.put_ask(rt, ask) {
-            Ok(seq) => put_line(text, process, "put", &[seq]),
-            Err(refusal) => put_refusal(text, process, refusal),
-        }
+        let put = self.put_ask(rt, ask);
+        put_sent(text, process, put)?;
+        Ok(())
     }
 
     fn mail<R: Wait>(&mut self, rt: &R) -> Option<Mail> {
@@ -138,12 +138,14 @@ impl SendingProcess {
         process: u32,
         reason: Reason,
         receipts: &mut String,
-    ) -> Result<HandProcess, Fail> {
-        let Ok(end) = self.proc.exit_process(rt, reason) else {
-            return Err("no memory".into());
-        };
-        put_receipts(receipts, process, end.receipts.as_slice())?;
-        Ok(HandProcess::Ended(end.mailbox))
+    ) -> (HandProcess, Result<(), AllocError>) {
+        match self.proc.exit_process(rt, reason) {
+            Ok(end) => {
+                let told = put_receipts(receipts, process, end.receipts.as_slice());
+                (HandProcess::Ended(end.mailbox), told)
+            }
+            Err(_) => (HandProcess::Away, Err(AllocError)),
+        }
     }
 }
 
@@ -160,7 +162,7 @@ fn after_command(commanded: Commanded) -> HandProcess
 }
 
 /// Puts the line of what a command came to.
-fn put_commanded(text: &mut String, process: u32, commanded: &Commanded) -> Result<(), Fail> {
+fn put_commanded(text: &mut String, process: u32, commanded: &Commanded) -> Result<(), AllocError> {
     match commanded {
         Commanded::Accepted(_, seq) => put_line(text, process, "accepted", &[*seq]),
         Commanded::Suspended(_) => put_line(text, process, "suspended", &[]),
@@ -169,8 +171,20 @@ fn put_commanded(text: &mut String, process: u32, commanded: &Commanded) -> Resu
     }
 }
 
+/// Puts the line of what another signal came to.
+fn put_sent(
+    text: &mut String,
+    process: u32,
+    sent: Result<u64, SendRefusal>,
+) -> Result<(), AllocError> {
+    match sent {
+        Ok(seq) => put_line(text, process, "put", &[seq]),
+        Err(refusal) => put_refusal(text, process, refusal),
+    }
+}
+
 /// Puts the line of the word by which a command was dropped.
-fn put_shown(text: &mut String, process: u32, shown: Shown) -> Result<(), Fail> {
+fn put_shown(text: &mut String, process: u32, shown: Shown) -> Result<(), AllocError> {
     match shown {
         Shown::Stat(word) => put_line(text, process, "dropped stat", &[word]),
         Shown::Msgq(word) => put_line(text, process, "dropped msgq", &[word]),
@@ -178,25 +192,30 @@ fn put_shown(text: &mut String, process: u32, shown: Shown) -> Result<(), Fail> 
 }
 
 /// Puts the line of why a process waits on.
-fn put_why(text: &mut String, process: u32, why: NotYet) -> Result<(), Fail> {
+fn put_why(text: &mut String, process: u32, why: &NotYet) -> Result<(), AllocError> {
     match why {
         NotYet::Empty => put_line(text, process, "waits", &[]),
-        NotYet::Other(mail) => put_mail(text, process, &mail),
-        NotYet::SamePeriod { word } => put_line(text, process, "waits msgq", &[word]),
+        NotYet::Other(mail) => put_mail(text, process, mail),
+        NotYet::SamePeriod { word } => put_line(text, process, "waits msgq", &[*word]),
     }
 }
 
 impl WaitingProcess {
     /// Tries to go on.
-    fn resume<R: Wait>(self, rt: &R, process: u32, text: &mut String) -> Result<HandProcess, Fail> {
+    fn resume<R: Wait>(
+        self,
+        rt: &R,
+        process: u32,
+        text: &mut String,
+    ) -> (HandProcess, Result<(), AllocError>) {
         match self.stopped.try_resume(rt) {
             Ok(proc) => {
-                put_line(text, process, "goes on", &[])?;
-                Ok(HandProcess::Sending(SendingProcess { proc }))
+                let told = put_line(text, process, "goes on", &[]);
+                (HandProcess::Sending(SendingProcess { proc }), told)
             }
             Err((stopped, why)) => {
-                put_why(text, process, why)?;
-                Ok(HandProcess::Waiting(WaitingProcess { stopped }))
+                let told = put_why(text, process, &why);
+                (HandProcess::Waiting(WaitingProcess { stopped }), told)
             }
         }
     }
@@ -220,7 +239,9 @@ impl HandProcess {
         let HandProcess::Sending(peer) = self.take() else {
             return Err("it may not send".into());
         };
-        *self = peer.command(rt, process, payload, how, text)?;
+        let (behind, told) = peer.command(rt, process, payload, how, text);
+        *self = behind;
+        told?;
         Ok(())
     }
 
@@ -248,7 +269,9 @@ impl HandProcess {
         let HandProcess::Waiting(peer) = self.take() else {
             return Err("it isn't suspended".into());
         };
-        *self = peer.resume(rt, process, text)?;
+        let (behind, told) = peer.resume(rt, process, text);
+        *self = behind;
+        told?;
         Ok(())
     }
 
@@ -266,10 +289,11 @@ impl HandProcess {
 
     /// The word STAT of the port.
     pub(crate) fn look(&mut self, process: u32, text: &mut String) -> Result<(), Fail> {
-        match self {
-            HandProcess::Sending(peer) => put_line(text, process, "stat", &[peer.look()]),
-            _ => Err("it may not look".into()),
-        }
+        let HandProcess::Sending(peer) = self else {
+            return Err("it may not look".into());
+        };
+        put_line(text, process, "stat", &[peer.look()])?;
+        Ok(())
     }
 
     /// Ends the process for this reason, and puts its receipts.
@@ -283,7 +307,9 @@ impl HandProcess {
         let HandProcess::Sending(peer) = self.take() else {
             return Err("it may not end".into());
         };
-        *self = peer.end(rt, process, reason, receipts)?;
+        let (behind, told) = peer.end(rt, process, reason, receipts);
+        *self = behind;
+        told?;
         Ok(())
     }
 }

@@ -18,7 +18,7 @@ use port_model::{Piece, Reason};
 use port_words::busy::QueueLimits;
 use run_lanes::PortLanes;
 use sample_drivers::{Echo, Valve};
-use std::alloc::Global;
+use std::alloc::{AllocError, Global};
 use std::process::Abort;
 use std::sync::Wait;
 use std::test::Fail;
@@ -98,9 +98,20 @@ pub(crate) enum Wanted<'a> {
     Stopped,
 }
 
+/// Acts, and what is wanted of that which comes of them.
+pub(crate) struct PortCase {
+    pub(crate) acts: &'static [PortAct],
+    pub(crate) wanted: &'static [Wanted<'static>],
+}
+
 /// Asserts that a text is the one that is wanted.
 fn is_text<R: Abort>(rt: &R, text: &str, wanted: &str) {
     assert_eq!(rt; text, wanted);
+}
+
+/// Asserts that something is so.
+fn is_so<R: Abort>(rt: &R, so: bool, words: &str) {
+    assert!(rt; so, "{words}");
 }
 
 impl Played {
@@ -108,13 +119,24 @@ impl Played {
     fn shows<R: Abort>(&self, rt: &R, wanted: Wanted<'_>) {
         match wanted {
             Wanted::Acts(text) => is_text(rt, self.acts.as_str(), text),
-            Wanted::LastActs(text) => assert!(rt; self.acts.as_str().ends_with(text)),
+            Wanted::LastActs(text) => {
+                is_so(rt, self.acts.as_str().ends_with(text), "other last acts")
+            }
             Wanted::Data(text) => is_text(rt, self.data.as_str(), text),
             Wanted::Receipts(text) => is_text(rt, self.receipts.as_str(), text),
-            Wanted::SomeReceipts(text) => assert!(rt; self.receipts.as_str().contains(text)),
+            Wanted::SomeReceipts(text) => {
+                is_so(rt, self.receipts.as_str().contains(text), "no such receipts")
+            }
             Wanted::Rows(text) => is_text(rt, self.rows.as_str(), text),
-            Wanted::LongRows(text) => assert!(rt; self.rows.as_str() == text),
-            Wanted::Stopped => assert!(rt; self.stopped),
+            Wanted::LongRows(text) => is_so(rt, self.rows.as_str() == text, "other rows"),
+            Wanted::Stopped => is_so(rt, self.stopped, "the driver runs on"),
+        }
+    }
+
+    /// Asserts that all this came of the acts.
+    fn shows_all<R: Abort>(&self, rt: &R, wanted: &[Wanted<'_>]) {
+        for each in wanted {
+            self.shows(rt, *each);
         }
     }
 }
@@ -143,8 +165,9 @@ fn queue_limits(limits: QueueChoice) -> QueueLimits
 
 fn config(alloc: Global, options: PlayOptions) -> Result<Config, Fail> {
     let limits = queue_limits(options.limits);
+    let run = Piece::of_slice(alloc, b"program")?;
     let mut config = Config::plain(alloc)?;
-    config.run = Piece::of_slice(alloc, b"program")?;
+    config.run = run;
     config.mode = options.mode;
     config.msgq_on = limits.on;
     config.msgq_low = limits.low;
@@ -188,8 +211,8 @@ fn port_end<D: Driver>(body: Body<D>) -> PortEnd<D> {
     port
 }
 
-/// Whether the driver was stopped, and the rows of the port.
-fn ended<D: Driver>(alloc: Global, body: Body<D>) -> Result<(bool, String), Fail> {
+/// Whether the driver of a port that has ended was stopped, and what a journal tells of the port under this name.
+fn ended<D: Driver>(body: Body<D>, name: Reason) -> (bool, PortReport) {
     let PortEnd {
         driver,
         config,
@@ -197,15 +220,14 @@ fn ended<D: Driver>(alloc: Global, body: Body<D>) -> Result<(bool, String), Fail
         ..
     } = port_end(body);
     let port = PortReport {
-        name: name(b"p")?,
+        name,
         driver: driver.name(),
         owner: 0,
         config,
         events: driver.events(),
         journal,
     };
-    let text = rows_of(alloc, port)?;
-    Ok((driver.life() == Life::Stopped, text))
+    (driver.life() == Life::Stopped, port)
 }
 
 /// A name of these bytes.
@@ -216,18 +238,36 @@ pub(crate) fn name(bytes: &[u8]) -> Result<Reason, Fail> {
     }
 }
 
-/// The rows of a port as a journal has them: what stands between its line and the line `end`.
-fn rows_of(alloc: Global, port: PortReport) -> Result<String, Fail> {
+/// A journal of this port alone.
+fn journal_of(alloc: Global, port: PortReport) -> Result<String, Fail> {
     let mut ports = Vec::new(alloc);
     ports.push(port)?;
-    let text = text_of(print_histories(alloc, &[], ports.as_slice())?)?;
-    let mut rows = String::new(alloc);
-    for line in text.as_str().lines().skip(3) {
-        if line != "end" {
-            rows.push_str(line)?;
-            rows.push_str("\n")?;
-        }
+    let bytes = print_histories(alloc, &[], ports.as_slice())?;
+    text_of(bytes)
+}
+
+/// Puts a line of a journal, but for its last one.
+fn put_row(rows: &mut String, line: &str) -> Result<(), AllocError> {
+    if line == "end" {
+        return Ok(());
     }
+    rows.push_str(line)?;
+    rows.push_str("\n")
+}
+
+/// The rows of the one port of a journal: what stands between its line and the line `end`.
+fn rows_in(alloc: Global, journal: &str) -> Result<String, AllocError> {
+    let mut rows = String::new(alloc);
+    for line in journal.lines().skip(3) {
+        put_row(&mut rows, line)?;
+    }
+    Ok(rows)
+}
+
+/// The rows of a port as a journal has them.
+fn rows_of(alloc: Global, port: PortReport) -> Result<String, Fail> {
+    let journal = journal_of(alloc, port)?;
+    let rows = rows_in(alloc, journal.as_str())?;
     Ok(rows)
 }
 
@@ -243,25 +283,43 @@ fn opened<D: Driver, R: Wait>(rt: &R, alloc: Global, parts: BodyParts<D>) -> Res
     }
 }
 
-/// Makes the acts on a port, ends it, and tells what came of them.
-fn play_on<D: Driver, R: Wait>(
+/// Makes the acts on a port, ends it, and tells whether its driver was stopped, and what a journal tells of it.
+fn acted<D: Driver, R: Wait>(
     rt: &R,
     alloc: Global,
     mut body: Body<D>,
-    mut others: OthersBeside,
+    others: &mut OthersBeside,
     acts: &[PortAct],
-) -> Result<Played, Fail> {
-    act_all(rt, alloc, &mut body, &mut others, acts)?;
+) -> Result<(bool, PortReport), Fail> {
+    let name = name(b"p")?;
+    act_all(rt, alloc, &mut body, others, acts)?;
     body.end();
-    let (stopped, rows) = ended(alloc, body)?;
-    others.end_all(rt)?;
-    Ok(Played {
+    Ok(ended(body, name))
+}
+
+/// What came of the acts, where the port has these rows.
+fn gathered(others: OthersBeside, rows: String, stopped: bool) -> Played {
+    Played {
         acts: others.text,
         data: others.data,
         receipts: others.receipts,
         rows,
         stopped,
-    })
+    }
+}
+
+/// Makes the acts on a port, ends it, and tells what came of them.
+fn play_on<D: Driver, R: Wait>(
+    rt: &R,
+    alloc: Global,
+    body: Body<D>,
+    mut others: OthersBeside,
+    acts: &[PortAct],
+) -> Result<Played, Fail> {
+    let (stopped, port) = acted(rt, alloc, body, &mut others, acts)?;
+    let rows = rows_of(alloc, port)?;
+    others.end_all(rt)?;
+    Ok(gathered(others, rows, stopped))
 }
 
 /// Opens a port with this driver, makes the acts, and tells what came of them.
@@ -293,42 +351,37 @@ pub(crate) fn shows<D: Driver, R: Abort + Wait>(
     requires { D.stage driver ≡ Life.Fresh }
 {
     let played = play(rt, alloc, driver, options, acts)?;
-    for each in wanted {
-        played.shows(rt, *each);
-    }
+    played.shows_all(rt, wanted);
     Ok(())
+}
+
+/// Asserts what comes of the acts on a port with this driver and the usual limits.
+pub(crate) fn usual_shows<D: Driver, R: Abort + Wait>(
+    rt: &R,
+    alloc: Global,
+    driver: D,
+    case: &PortCase,
+) -> Result<(), Fail>
+    requires { D.stage driver ≡ Life.Fresh }
+{
+    let options = limited(QueueChoice::Usual);
+    shows(rt, alloc, driver, options, case.acts, case.wanted)
 }
 
 /// Asserts what comes of the acts on a port that echoes.
 pub(crate) fn echo_shows<R: Abort + Wait>(
     rt: &R,
     alloc: Global,
-    acts: &[PortAct],
-    wanted: &[Wanted<'_>],
+    case: &PortCase,
 ) -> Result<(), Fail> {
-    shows(
-        rt,
-        alloc,
-        Echo::new(),
-        limited(QueueChoice::Usual),
-        acts,
-        wanted,
-    )
+    usual_shows(rt, alloc, Echo::new(), case)
 }
 
 /// Asserts what comes of the acts on a port with a valve.
 pub(crate) fn valve_shows<R: Abort + Wait>(
     rt: &R,
     alloc: Global,
-    acts: &[PortAct],
-    wanted: &[Wanted<'_>],
+    case: &PortCase,
 ) -> Result<(), Fail> {
-    shows(
-        rt,
-        alloc,
-        Valve::new(),
-        limited(QueueChoice::Usual),
-        acts,
-        wanted,
-    )
+    usual_shows(rt, alloc, Valve::new(), case)
 }

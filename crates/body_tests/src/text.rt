@@ -1,15 +1,14 @@
 //! What was seen, as lines of text.
 use port_model::{Answer, Flag, Mail};
 use process_end::{Outcome, Receipt, SendRefusal};
-use std::alloc::Global;
+use std::alloc::{AllocError, Global};
 use std::test::Fail;
 
 /// Puts words and the numbers behind them, each behind a space.
-pub(crate) fn put(text: &mut String, words: &str, numbers: &[u64]) -> Result<(), Fail> {
+pub(crate) fn put(text: &mut String, words: &str, numbers: &[u64]) -> Result<(), AllocError> {
     text.push_str(words)?;
     for number in numbers {
-        let digits = format!(in *text.allocator(); " {number}")?;
-        text.push_str(digits.as_str())?;
+        write!(text, " {number}")?;
     }
     Ok(())
 }
@@ -20,37 +19,45 @@ pub(crate) fn put_line(
     process: u32,
     words: &str,
     numbers: &[u64],
-) -> Result<(), Fail> {
-    let name = format!(in *text.allocator(); "p{process} ")?;
-    text.push_str(name.as_str())?;
+) -> Result<(), AllocError> {
+    write!(text, "p{process} ")?;
     put(text, words, numbers)?;
-    text.push_str("\n")?;
-    Ok(())
+    text.push_str("\n")
 }
 
 /// Puts two lower-case hexadecimal digits for each byte.
-pub(crate) fn put_bytes(text: &mut String, bytes: &[u8]) -> Result<(), Fail> {
+pub(crate) fn put_bytes(text: &mut String, bytes: &[u8]) -> Result<(), AllocError> {
     for byte in bytes {
-        let digits = format!(in *text.allocator(); "{byte:02x}")?;
-        text.push_str(digits.as_str())?;
+        write!(text, "{byte:02x}")?;
     }
     Ok(())
 }
 
 /// Puts a line: a process, words and the bytes behind them.
-fn put_data(text: &mut String, process: u32, words: &str, bytes: &[u8]) -> Result<(), Fail> {
-    let name = format!(in *text.allocator(); "p{process} {words} ")?;
-    text.push_str(name.as_str())?;
+fn put_data(
+    text: &mut String,
+    process: u32,
+    words: &str,
+    bytes: &[u8],
+) -> Result<(), AllocError> {
+    write!(text, "p{process} {words} ")?;
     put_bytes(text, bytes)?;
-    text.push_str("\n")?;
-    Ok(())
+    text.push_str("\n")
 }
 
-/// Puts a line: a process, words and a reason.
-fn put_reason(text: &mut String, process: u32, words: &str, reason: &str) -> Result<(), Fail> {
-    let line = format!(in *text.allocator(); "p{process} {words} {reason}\n")?;
-    text.push_str(line.as_str())?;
-    Ok(())
+/// Puts a line: the reason of an exit signal that came to a process.
+fn put_exit(text: &mut String, process: u32, reason: &str) -> Result<(), AllocError> {
+    write!(text, "p{process} exit {reason}\n")
+}
+
+/// Puts a line: the monitor of a process, and the reason for which what it looked at has ended.
+fn put_down(
+    text: &mut String,
+    process: u32,
+    monitor: u64,
+    reason: &str,
+) -> Result<(), AllocError> {
+    write!(text, "p{process} down {monitor} {reason}\n")
 }
 
 fn flag_words(flag: Flag) -> &'static str {
@@ -61,21 +68,29 @@ fn flag_words(flag: Flag) -> &'static str {
     }
 }
 
-fn put_reply(text: &mut String, process: u32, seq: u64, answer: &Answer) -> Result<(), Fail> {
-    let name = format!(in *text.allocator(); "p{process} reply {seq} ")?;
-    text.push_str(name.as_str())?;
+/// Puts an answer.
+fn put_answer(text: &mut String, answer: &Answer) -> Result<(), AllocError> {
     match answer {
-        Answer::Bytes(bytes) if bytes.is_empty() => text.push_str("-")?,
-        Answer::Bytes(bytes) => put_bytes(text, bytes.as_slice())?,
-        Answer::True => text.push_str("true")?,
-        Answer::Badarg => text.push_str("badarg")?,
+        Answer::Bytes(bytes) if bytes.is_empty() => text.push_str("-"),
+        Answer::Bytes(bytes) => put_bytes(text, bytes.as_slice()),
+        Answer::True => text.push_str("true"),
+        Answer::Badarg => text.push_str("badarg"),
     }
-    text.push_str("\n")?;
-    Ok(())
+}
+
+/// Puts a line: the answer to a signal of a process.
+fn put_reply(text: &mut String, process: u32, seq: u64, answer: &Answer) -> Result<(), AllocError> {
+    write!(text, "p{process} reply {seq} ")?;
+    put_answer(text, answer)?;
+    text.push_str("\n")
+}
+
+fn resume_words(closed: bool) -> &'static str {
+    if closed { "resume closed" } else { "resume" }
 }
 
 /// Puts the line of a mail that came to a process.
-pub(crate) fn put_mail(text: &mut String, process: u32, mail: &Mail) -> Result<(), Fail> {
+pub(crate) fn put_mail(text: &mut String, process: u32, mail: &Mail) -> Result<(), AllocError> {
     match mail {
         Mail::Message { flag, bytes, .. } => {
             put_data(text, process, flag_words(*flag), bytes.as_slice())
@@ -86,25 +101,19 @@ pub(crate) fn put_mail(text: &mut String, process: u32, mail: &Mail) -> Result<(
         }
         Mail::Closed(_) => put_line(text, process, "closed", &[]),
         Mail::Connected(_) => put_line(text, process, "connected", &[]),
-        Mail::Exit { reason, .. } => put_reason(text, process, "exit", reason.as_str()),
+        Mail::Exit { reason, .. } => put_exit(text, process, reason.as_str()),
         Mail::Down {
             monitor,
             reason,
             ..
-        } => {
-            let words = format!(in *text.allocator(); "down {monitor}")?;
-            put_reason(text, process, words.as_str(), reason.as_str())
-        }
+        } => put_down(text, process, *monitor, reason.as_str()),
         Mail::Reply { seq, answer, .. } => put_reply(text, process, *seq, answer),
         Mail::Resume {
             seq,
             word,
             closed,
             ..
-        } => {
-            let words = if *closed { "resume closed" } else { "resume" };
-            put_line(text, process, words, &[*seq, *word])
-        }
+        } => put_line(text, process, resume_words(*closed), &[*seq, *word]),
     }
 }
 
@@ -113,13 +122,13 @@ pub(crate) fn put_refusal(
     text: &mut String,
     process: u32,
     refusal: SendRefusal,
-) -> Result<(), Fail> {
+) -> Result<(), AllocError> {
     match refusal {
         SendRefusal::Closed { mark } => put_line(text, process, "refused closed", &[mark]),
         SendRefusal::NotSupported => put_line(text, process, "refused force", &[]),
         SendRefusal::TooLong { len } => put_line(text, process, "refused length", &[len]),
         SendRefusal::SentOut => put_line(text, process, "refused calls", &[]),
-        SendRefusal::NoMemory => Err("no memory".into()),
+        SendRefusal::NoMemory => Err(AllocError),
     }
 }
 
@@ -136,22 +145,26 @@ fn outcome_words(outcome: Outcome) -> &'static str {
 }
 
 /// Puts a word and the number behind it, if there is one.
-fn put_some(text: &mut String, word: &str, number: Option<u64>) -> Result<(), Fail> {
+fn put_some(text: &mut String, word: &str, number: Option<u64>) -> Result<(), AllocError> {
     match number {
-        Some(number) => put(text, word, &[number]),
+        Some(number) => write!(text, " {word} {number}"),
         None => Ok(()),
     }
 }
 
+/// Puts the numbers of a receipt.
+fn put_words(text: &mut String, receipt: &Receipt) -> Result<(), AllocError> {
+    put_some(text, "seq", receipt.seq)?;
+    put_some(text, "stat", receipt.stat)?;
+    put_some(text, "msgq", receipt.msgq)
+}
+
 /// Puts the line of a receipt of a process.
-fn put_receipt(text: &mut String, process: u32, receipt: &Receipt) -> Result<(), Fail> {
-    let name = format!(in *text.allocator(); "p{process} {}", outcome_words(receipt.outcome))?;
-    text.push_str(name.as_str())?;
-    put_some(text, " seq", receipt.seq)?;
-    put_some(text, " stat", receipt.stat)?;
-    put_some(text, " msgq", receipt.msgq)?;
-    text.push_str("\n")?;
-    Ok(())
+fn put_receipt(text: &mut String, process: u32, receipt: &Receipt) -> Result<(), AllocError> {
+    let words = outcome_words(receipt.outcome);
+    write!(text, "p{process} {words}")?;
+    put_words(text, receipt)?;
+    text.push_str("\n")
 }
 
 /// Puts the lines of the receipts of a process.
@@ -159,7 +172,7 @@ pub(crate) fn put_receipts(
     text: &mut String,
     process: u32,
     receipts: &[Receipt],
-) -> Result<(), Fail> {
+) -> Result<(), AllocError> {
     for receipt in receipts {
         put_receipt(text, process, receipt)?;
     }
@@ -175,7 +188,7 @@ pub(crate) fn text_of(bytes: Vec<u8>) -> Result<String, Fail> {
 }
 
 /// So many times the same text.
-pub(crate) fn times(alloc: Global, text: &str, count: usize) -> Result<String, Fail> {
+pub(crate) fn times(alloc: Global, text: &str, count: usize) -> Result<String, AllocError> {
     let mut all = String::new(alloc);
     for _ in 0..count {
         all.push_str(text)?;
