@@ -67,7 +67,9 @@ fn a_queue_is_busy_from_its_high_limit_and_free_below_its_low_one(
 
 /// The rows of a command of these bytes that suspended its sender.
 fn suspended_rows(alloc: Global, data: &str) -> Result<String, AllocError> {
-    format!(in alloc; "s p1 0\nh p1 0 command s {data} ; ; data plain {data}\nr p1 0 2199023255552\n")
+    format!(in alloc;
+        "s p1 0\nh p1 0 command s {data} ; ; data plain {data}\nr p1 0 2199023255552\n"
+    )
 }
 
 /// The rows of a command of so many bytes that suspended its sender.

@@ -227,6 +227,29 @@ impl HandProcess {
         std::mem::replace(self, HandProcess::Away)
     }
 
+    /// Takes a process out that may send.
+    fn take_sending(&mut self) -> Option<SendingProcess> {
+        match self.take() {
+            HandProcess::Sending(peer) => Some(peer),
+            _ => None,
+        }
+    }
+
+    /// Takes a process out that the port suspended.
+    fn take_waiting(&mut self) -> Option<WaitingProcess> {
+        match self.take() {
+            HandProcess::Waiting(peer) => Some(peer),
+            _ => None,
+        }
+    }
+
+    /// Puts the process back behind its call, which was told so.
+    fn put_back(&mut self, behind: HandProcess, told: Result<(), AllocError>) -> Result<(), Fail> {
+        *self = behind;
+        told?;
+        Ok(())
+    }
+
     /// Puts a command of these bytes.
     pub(crate) fn command<R: Wait>(
         &mut self,
@@ -236,13 +259,11 @@ impl HandProcess {
         how: How,
         text: &mut String,
     ) -> Result<(), Fail> {
-        let HandProcess::Sending(peer) = self.take() else {
+        let Some(peer) = self.take_sending() else {
             return Err("it may not send".into());
         };
         let (behind, told) = peer.command(rt, process, payload, how, text);
-        *self = behind;
-        told?;
-        Ok(())
+        self.put_back(behind, told)
     }
 
     /// Puts a signal that is no command.
@@ -266,13 +287,11 @@ impl HandProcess {
         process: u32,
         text: &mut String,
     ) -> Result<(), Fail> {
-        let HandProcess::Waiting(peer) = self.take() else {
+        let Some(peer) = self.take_waiting() else {
             return Err("it isn't suspended".into());
         };
         let (behind, told) = peer.resume(rt, process, text);
-        *self = behind;
-        told?;
-        Ok(())
+        self.put_back(behind, told)
     }
 
     /// The next mail.
@@ -304,12 +323,10 @@ impl HandProcess {
         reason: Reason,
         receipts: &mut String,
     ) -> Result<(), Fail> {
-        let HandProcess::Sending(peer) = self.take() else {
+        let Some(peer) = self.take_sending() else {
             return Err("it may not end".into());
         };
         let (behind, told) = peer.end(rt, process, reason, receipts);
-        *self = behind;
-        told?;
-        Ok(())
+        self.put_back(behind, told)
     }
 }

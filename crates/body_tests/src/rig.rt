@@ -125,7 +125,11 @@ impl Played {
             Wanted::Data(text) => is_text(rt, self.data.as_str(), text),
             Wanted::Receipts(text) => is_text(rt, self.receipts.as_str(), text),
             Wanted::SomeReceipts(text) => {
-                is_so(rt, self.receipts.as_str().contains(text), "no such receipts")
+                is_so(
+                    rt,
+                    self.receipts.as_str().contains(text),
+                    "no such receipts",
+                )
             }
             Wanted::Rows(text) => is_text(rt, self.rows.as_str(), text),
             Wanted::LongRows(text) => is_so(rt, self.rows.as_str() == text, "other rows"),

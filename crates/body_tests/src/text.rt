@@ -34,12 +34,7 @@ pub(crate) fn put_bytes(text: &mut String, bytes: &[u8]) -> Result<(), AllocErro
 }
 
 /// Puts a line: a process, words and the bytes behind them.
-fn put_data(
-    text: &mut String,
-    process: u32,
-    words: &str,
-    bytes: &[u8],
-) -> Result<(), AllocError> {
+fn put_data(text: &mut String, process: u32, words: &str, bytes: &[u8]) -> Result<(), AllocError> {
     write!(text, "p{process} {words} ")?;
     put_bytes(text, bytes)?;
     text.push_str("\n")
@@ -51,12 +46,7 @@ fn put_exit(text: &mut String, process: u32, reason: &str) -> Result<(), AllocEr
 }
 
 /// Puts a line: the monitor of a process, and the reason for which what it looked at has ended.
-fn put_down(
-    text: &mut String,
-    process: u32,
-    monitor: u64,
-    reason: &str,
-) -> Result<(), AllocError> {
+fn put_down(text: &mut String, process: u32, monitor: u64, reason: &str) -> Result<(), AllocError> {
     write!(text, "p{process} down {monitor} {reason}\n")
 }
 
