@@ -1,9 +1,9 @@
 -- The ends that were given back are all ends of the ports' lanes.
 use Rattle.std.proofs.Common.{◌<◌, ◌+◌, ℕ, List, length, get_or, sym, ◌∙◌, arith}
-use Rattle.run_setting.specs.run_opening.driver_hosts.port_body.Body.{BodyView}
+use Rattle.run_opening.specs.driver_hosts.port_body.Body.{BodyView}
 use Rattle.closed_ports.specs.Closed.{ArePortsOfLanes}
 use Rattle.run_end.specs.Ran.{RanProcess}
-use Rattle.run_setting.specs.Setting.{Setting}
+use Rattle.run_opening.specs.Setting.{Setting}
 use Rattle.closed_ports.specs.settled_ports.Ends.{AreOfBodies, LaneEnd}
 use Rattle.closed_ports.specs.settled_ports.Laws.{AreAllColumns}
 use Rattle.closed_lanes.specs.declared.closing.LaneEnds.{LaneEnds}

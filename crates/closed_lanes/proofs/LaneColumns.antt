@@ -2,7 +2,7 @@
 use Rattle.std.proofs.Common.{◌≡◌, ◌<◌, ℕ, List, length, get_or, ap, ◌∙◌, arith}
 use Rattle.port_words.specs.busy.Known.{SendKnown}
 use Rattle.run_end.specs.process_job.Going.{AreSamePorts}
-use Rattle.run_setting.specs.run_seats.threaded_jobs.run_jobs.Telling.{PortTask, Sends}
+use Rattle.run_opening.specs.run_seats.threaded_jobs.run_jobs.Telling.{PortTask, Sends}
 use Rattle.run_lanes.specs.declared.parts.PortLanes.{PortLanes}
 use Rattle.run_lanes.specs.declared.parts.RunLanes.{RunLanes}
 use Rattle.run_lanes.specs.declared.size.LaneSize.{LaneSize}

@@ -1,14 +1,14 @@
 -- The bodies of a run by what they were opened among.
 use Rattle.std.proofs.Common.{◌≡◌, ◌<◌, ℕ, List, length, map, get_or, sym, ap, ◌∙◌, subst, arith}
 use Rattle.std.proofs.lemmas.List.{get_or-map, length-map}
-use Rattle.run_setting.specs.run_opening.driver_hosts.port_body.Body.{BodyView, BodyName, name_of}
+use Rattle.run_opening.specs.driver_hosts.port_body.Body.{BodyView, BodyName, name_of}
 use Rattle.run_lanes.specs.declared.parts.PortLanes.{PortLanes}
 use Rattle.run_lanes.specs.Opened.{HasPort}
 use Rattle.run_lanes.proofs.WordsDealt.{no_limits}
 use Rattle.script_plan.specs.declared.decl.PortDecl.{PortDecl}
-use Rattle.run_setting.specs.run_opening.driver_hosts.served_port.View.{end_names}
-use Rattle.run_setting.specs.run_opening.Opened.{limits_of}
-use Rattle.run_setting.specs.Setting.{Setting, IsSetting, AreNamedIn, IsNamedIn, all_limits}
+use Rattle.run_opening.specs.driver_hosts.served_port.View.{end_names}
+use Rattle.run_opening.specs.Opened.{limits_of}
+use Rattle.run_opening.specs.Setting.{Setting, IsSetting, AreNamedIn, IsNamedIn, all_limits}
 use Rattle.closed_lanes.proofs.Lists.{some-of}
 
 -- the body of this name was opened among these lanes, with this number

@@ -3,8 +3,8 @@ use Rattle.std.proofs.Common.{◌≡◌, ◌<◌, ℕ, List, [], ◌∷◌, ◌+
 use Rattle.std.specs.Prelude.{slice_index}
 use Rattle.std.proofs.lemmas.List.{get_or_read, map_push}
 use Rattle.async_jobs.specs.Pool.{Lanes}
-use Rattle.run_setting.specs.run_opening.driver_hosts.declared.ending.EndedPort.{EndedPort}
-use Rattle.run_setting.specs.run_opening.driver_hosts.declared.hosted.Hosted.{Hosted}
+use Rattle.run_opening.specs.driver_hosts.declared.ending.EndedPort.{EndedPort}
+use Rattle.run_opening.specs.driver_hosts.declared.hosted.Hosted.{Hosted}
 use Rattle.driver_model.specs.Calls.{Own}
 use Rattle.run_lanes.proofs.Places.{ArePlaced}
 use Rattle.closed_lanes.specs.Parts.{ArePartedInto, closed_of, events_of}

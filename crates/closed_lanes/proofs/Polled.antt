@@ -5,15 +5,15 @@ use Rattle.std.proofs.lemmas.Bool.{eq-eqb, le-ltb}
 use Rattle.std.proofs.lemmas.List.{get_or-map, length-map}
 use Rattle.port_lanes.specs.Keys.{Key, sender_at}
 use Rattle.port_model.specs.declared.signal.Sender.TheVariants.{Poller}
-use Rattle.run_setting.specs.run_opening.driver_hosts.port_body.Body.{BodyView, name_of}
-use Rattle.run_setting.specs.run_opening.driver_hosts.port_body.LanePort.{rows_from}
-use Rattle.run_setting.specs.run_opening.driver_hosts.declared.ending.EndedPort.{EndedPort}
+use Rattle.run_opening.specs.driver_hosts.port_body.Body.{BodyView, name_of}
+use Rattle.run_opening.specs.driver_hosts.port_body.LanePort.{rows_from}
+use Rattle.run_opening.specs.driver_hosts.declared.ending.EndedPort.{EndedPort}
 use Rattle.closed_ports.specs.Closed.{AreClosed}
 use Rattle.closed_ports.specs.settled_ports.Ends.{LaneEnd}
 use Rattle.closed_ports.specs.settled_ports.Laws.{ends_at}
 use Rattle.run_end.specs.Ran.{RanProcess}
-use Rattle.run_setting.specs.Setting.{Setting}
-use Rattle.run_setting.specs.run_seats.threaded_jobs.declared.parting.WorkerLeft.{WorkerLeft}
+use Rattle.run_opening.specs.Setting.{Setting}
+use Rattle.run_opening.specs.run_seats.threaded_jobs.declared.parting.WorkerLeft.{WorkerLeft}
 use Rattle.closed_lanes.specs.Closed.{tasks_sent}
 use Rattle.closed_lanes.specs.declared.closing.LaneEnds.{LaneEnds}
 use Rattle.closed_lanes.proofs.Lists.{at-middle, long, some-of}

@@ -5,19 +5,19 @@ use Rattle.std.proofs.lemmas.List.{get_or-map, get_or_default}
 use Rattle.driver_model.specs.Calls.{Kind, Own}
 use Rattle.driver_model.specs.Programs.{ToldProgram}
 use Rattle.async_jobs.specs.Pool.{Lanes}
-use Rattle.run_setting.specs.run_opening.driver_hosts.port_body.Body.{BodyView, BodyName, name_of}
-use Rattle.run_setting.specs.run_opening.driver_hosts.port_body.LanePort.{rows_from}
+use Rattle.run_opening.specs.driver_hosts.port_body.Body.{BodyView, BodyName, name_of}
+use Rattle.run_opening.specs.driver_hosts.port_body.LanePort.{rows_from}
 use Rattle.port_model.specs.declared.signal.Sender.TheVariants.{Process, Poller}
 use Rattle.port_history.specs.Lawful.{Lawful}
 use Rattle.closed_ports.specs.Closed.{AreClosed, HaveComeBack, HaveEndedFrom, IsClosed, StandsAsLeft}
 use Rattle.closed_ports.specs.Jobs.{ClosedPortsAreLawful, HaveWorkedFor}
 use Rattle.closed_ports.specs.Signals.{AcceptedSignalsHaveRows}
-use Rattle.run_setting.specs.run_opening.driver_hosts.declared.ending.EndedPort.{EndedPort}
-use Rattle.run_setting.specs.run_opening.driver_hosts.declared.hosted.Hosted.{Hosted}
-use Rattle.run_setting.specs.run_opening.driver_hosts.Returning.{AreReturned}
-use Rattle.run_setting.specs.run_opening.driver_hosts.port_driver.declared.life.Life.{Life}
+use Rattle.run_opening.specs.driver_hosts.declared.ending.EndedPort.{EndedPort}
+use Rattle.run_opening.specs.driver_hosts.declared.hosted.Hosted.{Hosted}
+use Rattle.run_opening.specs.driver_hosts.Returning.{AreReturned}
+use Rattle.run_opening.specs.driver_hosts.port_driver.declared.life.Life.{Life}
 use Rattle.run_end.specs.Ran.{RanProcess}
-use Rattle.run_setting.specs.Setting.{Setting}
+use Rattle.run_opening.specs.Setting.{Setting}
 use Rattle.closed_ports.specs.settled_ports.Ends.{LaneEnd}
 use Rattle.closed_ports.specs.told_jobs.Runs.{WorkerRun}
 use Rattle.closed_ports.specs.told_jobs.Told.{WorkersTell}

@@ -1,10 +1,10 @@
 -- What the processes of a run sent to its ports is what they gave back.
 use Rattle.std.proofs.Common.{◌<◌, List, length, get_or, sym, ap, ◌∙◌, arith}
-use Rattle.run_setting.specs.run_opening.driver_hosts.port_body.Body.{BodyView}
+use Rattle.run_opening.specs.driver_hosts.port_body.Body.{BodyView}
 use Rattle.closed_ports.specs.Signals.{HaveSentTo}
 use Rattle.run_end.specs.Ran.{RanProcess}
 use Rattle.run_lanes.specs.Opened.{HasProcess}
-use Rattle.run_setting.specs.Setting.{Setting}
+use Rattle.run_opening.specs.Setting.{Setting}
 use Rattle.std.specs.Prelude.{map}
 use Rattle.closed_lanes.specs.declared.closing.LaneEnds.{LaneEnds}
 use Rattle.closed_lanes.proofs.Lists.{at-front, some-of}

@@ -1,16 +1,16 @@
 -- What the jobs of a run give back, by what they were set up with.
 use Rattle.std.proofs.Common.{◌≡◌, ◌<◌, ◌+◌, ℕ, List, length, map, get_or, sym, ap, ◌∙◌, subst, arith}
 use Rattle.std.proofs.lemmas.List.{get_or-map, length-map}
-use Rattle.run_setting.specs.run_opening.driver_hosts.port_body.Body.{BodyView, name_of}
+use Rattle.run_opening.specs.driver_hosts.port_body.Body.{BodyView, name_of}
 use Rattle.run_end.specs.Ran.{RanProcess}
 use Rattle.run_end.proofs.Tells.{tells}
 use Rattle.run_lanes.specs.declared.parts.ProcessLanes.{ProcessLanes}
 use Rattle.run_lanes.specs.declared.parts.WorkerLanes.{WorkerLanes}
 use Rattle.run_lanes.specs.Opened.{HasProcess, HasWorker}
-use Rattle.run_setting.specs.Setting.{Setting, IsSetting, AreNamedIn}
-use Rattle.run_setting.specs.Jobs.{HaveRunIn, HasWorkedLane}
+use Rattle.run_opening.specs.Setting.{Setting, IsSetting, AreNamedIn}
+use Rattle.run_opening.specs.Jobs.{HaveRunIn, HasWorkedLane}
 use Rattle.closed_ports.specs.settled_ports.Ends.{LaneEnd}
-use Rattle.run_setting.specs.run_seats.threaded_jobs.declared.parting.WorkerLeft.{WorkerLeft}
+use Rattle.run_opening.specs.run_seats.threaded_jobs.declared.parting.WorkerLeft.{WorkerLeft}
 use Rattle.closed_lanes.specs.Closed.{GiveBack}
 use Rattle.closed_lanes.specs.Parts.{all_columns}
 use Rattle.closed_lanes.specs.declared.closing.LaneEnds.{LaneEnds}

@@ -6,21 +6,21 @@ use Rattle.async_jobs.specs.declared.job.WorkItem.TheVariants.{Finish}
 use Rattle.async_jobs.specs.Items.{AnyFits}
 use Rattle.async_jobs.specs.Pool.{Lanes, PoolEnd}
 use Rattle.async_jobs.specs.Turns.{Worker}
-use Rattle.run_setting.specs.run_opening.driver_hosts.port_body.Body.{BodyView, name_of}
+use Rattle.run_opening.specs.driver_hosts.port_body.Body.{BodyView, name_of}
 use Rattle.closed_ports.specs.Closed.{AreClosed}
 use Rattle.closed_ports.specs.Jobs.{HaveWorkedFor, IsNumbered}
-use Rattle.run_setting.specs.run_opening.driver_hosts.declared.ending.EndedPort.{EndedPort}
+use Rattle.run_opening.specs.driver_hosts.declared.ending.EndedPort.{EndedPort}
 use Rattle.run_end.specs.Ran.{RanProcess}
-use Rattle.run_setting.specs.run_seats.threaded_jobs.run_jobs.declared.worker.WorkerEnd.TheVariants.{Finished}
-use Rattle.run_setting.specs.run_seats.threaded_jobs.run_jobs.Finishing.{SendsOne}
+use Rattle.run_opening.specs.run_seats.threaded_jobs.run_jobs.declared.worker.WorkerEnd.TheVariants.{Finished}
+use Rattle.run_opening.specs.run_seats.threaded_jobs.run_jobs.Finishing.{SendsOne}
 use Rattle.run_lanes.specs.declared.parts.WorkerLanes.{WorkerLanes}
 use Rattle.run_lanes.specs.Ends.{AreLaneRows, AreOfLanes, HaveEmptied, made_by, new_end}
 use Rattle.run_lanes.specs.Opened.{HasWorker}
-use Rattle.run_setting.specs.Setting.{Setting}
-use Rattle.run_setting.specs.run_opening.driver_hosts.served_port.View.{EndName, end_name, end_names}
+use Rattle.run_opening.specs.Setting.{Setting}
+use Rattle.run_opening.specs.driver_hosts.served_port.View.{EndName, end_name, end_names}
 use Rattle.closed_ports.specs.settled_ports.Ends.{LaneEnd}
 use Rattle.task_queue.specs.Ends.{ended_of}
-use Rattle.run_setting.specs.run_seats.threaded_jobs.declared.parting.WorkerLeft.{WorkerLeft}
+use Rattle.run_opening.specs.run_seats.threaded_jobs.declared.parting.WorkerLeft.{WorkerLeft}
 use Rattle.closed_ports.specs.told_jobs.Runs.{HasSettled, WorkerRun}
 use Rattle.closed_lanes.specs.declared.closing.LaneEnds.{LaneEnds}
 use Rattle.closed_lanes.proofs.Lists.{Chosen, at-back, choose, some-of}

@@ -2,7 +2,7 @@
 use Rattle.std.specs.Prelude.{◌≡◌, ◌<◌, ℕ, List, length, reverse, map, All, Contains, Option, Some, slice_index, slice_index_or}
 use Rattle.driver_model.specs.Calls.{Kind, Own}
 use Rattle.driver_model.specs.Programs.{TellsOfProgram, ToldProgram}
-use Rattle.run_setting.specs.run_opening.driver_hosts.port_driver.Faults.{failures_in, RisenBy}
+use Rattle.run_opening.specs.driver_hosts.port_driver.Faults.{failures_in, RisenBy}
 use Rattle.port_mail.specs.Ends.{MailEnd}
 use Rattle.port_model.specs.declared.row.Row.{Row}
 use Rattle.port_model.specs.declared.signal.Sender.TheVariants.{Process, Poller}
@@ -12,19 +12,19 @@ use Rattle.port_history.specs.State.{state}
 use Rattle.port_lanes.specs.Parcels.{ParcelView}
 use Rattle.port_model.specs.Tasks.{TaskView}
 use Rattle.run_end.specs.process_receipts.Receipts.{accepted}
-use Rattle.run_setting.specs.run_opening.driver_hosts.recorded_port.Asks.{resumed_words}
-use Rattle.run_setting.specs.run_opening.driver_hosts.recorded_port.View.{stat_marks}
-use Rattle.run_setting.specs.run_opening.driver_hosts.port_body.Body.{BodyName}
-use Rattle.run_setting.specs.run_opening.driver_hosts.port_body.Ends.{HasListedInOrder, IsLeftByCalls}
-use Rattle.run_setting.specs.run_opening.driver_hosts.port_body.LanePort.{rows_from}
-use Rattle.run_setting.specs.run_opening.driver_hosts.declared.hosted.Hosted.{Hosted}
+use Rattle.run_opening.specs.driver_hosts.recorded_port.Asks.{resumed_words}
+use Rattle.run_opening.specs.driver_hosts.recorded_port.View.{stat_marks}
+use Rattle.run_opening.specs.driver_hosts.port_body.Body.{BodyName}
+use Rattle.run_opening.specs.driver_hosts.port_body.Ends.{HasListedInOrder, IsLeftByCalls}
+use Rattle.run_opening.specs.driver_hosts.port_body.LanePort.{rows_from}
+use Rattle.run_opening.specs.driver_hosts.declared.hosted.Hosted.{Hosted}
 use Rattle.run_end.specs.Ran.{RanProcess, calls_made}
-use Rattle.run_setting.specs.run_opening.driver_hosts.served_port.View.{end_names}
+use Rattle.run_opening.specs.driver_hosts.served_port.View.{end_names}
 use Rattle.closed_ports.specs.settled_ports.Ends.{LaneEnd}
 use Rattle.closed_ports.specs.settled_ports.Senders.{IsOfAnEnd}
 use Rattle.closed_ports.specs.told_jobs.Told.{WorkersTell}
-use Rattle.run_setting.specs.Setting.{Setting}
-use Rattle.run_setting.specs.Jobs.{HaveWorkedIn, HasToldPorts, HasToldWorkers}
+use Rattle.run_opening.specs.Setting.{Setting}
+use Rattle.run_opening.specs.Jobs.{HaveWorkedIn, HasToldPorts, HasToldWorkers}
 use Rattle.closed_lanes.specs.declared.closing.ClosedPort.{ClosedPort}
 use Rattle.closed_lanes.specs.declared.closing.LaneEnds.{LaneEnds}
 

@@ -2,8 +2,8 @@
 use Rattle.std.specs.Prelude.{◌≡◌, ◌<◌, ℕ, List, [], ◌∷◌, ◌++◌, length, slice_index, slice_index_or}
 use Rattle.std.specs.Option.{option_map_or}
 use Rattle.async_jobs.specs.Pool.{Lanes}
-use Rattle.run_setting.specs.run_opening.driver_hosts.declared.ending.EndedPort.{EndedPort}
-use Rattle.run_setting.specs.run_opening.driver_hosts.declared.hosted.Hosted.{Hosted}
+use Rattle.run_opening.specs.driver_hosts.declared.ending.EndedPort.{EndedPort}
+use Rattle.run_opening.specs.driver_hosts.declared.hosted.Hosted.{Hosted}
 use Rattle.driver_model.specs.Calls.{Own}
 use Rattle.driver_model.specs.Drivers.{read_event_of, write_event_of}
 use Rattle.closed_ports.specs.settled_ports.Ends.{LaneEnd}

@@ -1,9 +1,9 @@
 ghost use Rattle.std.specs.Prelude.{◌≡◌, ◌≢◌, ◌<◌, List, length, map, All, AllPairs, IfOk};
 ghost use Rattle.closed_ports.specs.Closed.{HaveComeBack};
-ghost use Rattle.run_setting.specs.run_opening.driver_hosts.port_body.Body.{name_of};
+ghost use Rattle.run_opening.specs.driver_hosts.port_body.Body.{name_of};
 ghost use Rattle.run_end.specs.Ran.{RanProcess};
-ghost use Rattle.run_setting.specs.Setting.{Setting, IsSetting, AreNamedIn};
-ghost use Rattle.run_setting.specs.Jobs.{HaveRunIn};
+ghost use Rattle.run_opening.specs.Setting.{Setting, IsSetting, AreNamedIn};
+ghost use Rattle.run_opening.specs.Jobs.{HaveRunIn};
 ghost use Rattle.closed_lanes.specs.Closed.{AreClosedIn, GiveBack};
 
 use crate::columns::columns_of;
@@ -19,7 +19,7 @@ use port_mail::Mailboxes;
 use port_model::Journal;
 use port_words::busy::PortSeat;
 use run_lanes::empty_lanes;
-use run_setting::{WorkerLeft, take_back};
+use run_opening::{WorkerLeft, take_back};
 use std::alloc::Global;
 use std::sync::Wait;
 use task_queue::SendEnd;

@@ -5,7 +5,7 @@ ghost use Rattle.closed_lanes.specs.Parts.{all_columns};
 use async_jobs::WorkItem;
 use no_memory::NoMemory;
 use port_lanes::Parcel;
-use run_setting::WorkerLeft;
+use run_opening::WorkerLeft;
 use std::alloc::Global;
 use task_queue::{SendEnd, TakeEnd};
 

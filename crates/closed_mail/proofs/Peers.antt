@@ -1,7 +1,7 @@
 -- What ports and processes have of each other, by what the run was set up with.
 use Rattle.std.proofs.Common.{◌≡◌, ◌<◌, ℕ, List, [], length, map, get_or, sym, ap, ◌∙◌, subst, arith, All}
 use Rattle.std.proofs.lemmas.List.{get_or-map, length-map}
-use Rattle.run_setting.specs.port_body.Body.{BodyName}
+use Rattle.run_opening.specs.port_body.Body.{BodyName}
 use Rattle.run_end.specs.port_mail.Ends.{MailEnd}
 use Rattle.port_words.specs.busy.Known.{PortKnown, SendKnown, setup_of}
 use Rattle.port_words.specs.declared.busy.view.BusySetup.{BusySetup}
@@ -19,10 +19,10 @@ use Rattle.run_end.specs.run_lanes.declared.parts.PortLanes.{PortLanes}
 use Rattle.run_end.specs.run_lanes.declared.parts.ProcessLanes.{ProcessLanes}
 use Rattle.run_end.specs.run_lanes.Ends.{made_by, new_end}
 use Rattle.run_end.specs.run_lanes.Opened.{HasPort}
-use Rattle.run_setting.specs.run_opening.Opened.{limits_of}
-use Rattle.run_setting.specs.run_seats.declared.plans.ProcessSteps.{ProcessSteps}
-use Rattle.run_setting.specs.Jobs.{HaveRunIn, IsSetUp}
-use Rattle.run_setting.specs.Setting.{Setting, IsSetting, AreNamedIn, IsNamedIn}
+use Rattle.run_opening.specs.Opened.{limits_of}
+use Rattle.run_opening.specs.run_seats.declared.plans.ProcessSteps.{ProcessSteps}
+use Rattle.run_opening.specs.Jobs.{HaveRunIn, IsSetUp}
+use Rattle.run_opening.specs.Setting.{Setting, IsSetting, AreNamedIn, IsNamedIn}
 use Rattle.script_plan.specs.declared.decl.PortDecl.{PortDecl}
 use Rattle.served_port.specs.View.{EndName, end_name, end_names}
 use Rattle.closed_mail.specs.Joined.{ArePortsNamed, rows_of}

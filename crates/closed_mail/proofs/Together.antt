@@ -1,7 +1,7 @@
 -- The mail and the words of ports and processes, put together.
 use Rattle.std.proofs.Common.{◌≡◌, ◌<◌, ℕ, List, length, map, get_or, sym, ap, ◌∙◌, subst, arith}
 use Rattle.std.proofs.lemmas.List.{get_or-map, length-map}
-use Rattle.run_setting.specs.port_body.Body.{BodyName}
+use Rattle.run_opening.specs.port_body.Body.{BodyName}
 use Rattle.port_model.specs.declared.mail.Mail.{Mail}
 use Rattle.port_words.specs.busy.Known.{PortKnown}
 use Rattle.port_words.specs.declared.busy.view.BusySetup.{BusySetup}
@@ -11,8 +11,8 @@ use Rattle.run_end.specs.Rest.{came_in}
 use Rattle.run_end.specs.Rows.{AreSeatRows, HaveJoinedRows}
 use Rattle.run_end.proofs.TakingRests.{all_merge}
 use Rattle.run_end.proofs.Tells.{run_ports, run_words}
-use Rattle.run_setting.specs.run_opening.Opened.{limits_of}
-use Rattle.run_setting.specs.Setting.{Setting}
+use Rattle.run_opening.specs.Opened.{limits_of}
+use Rattle.run_opening.specs.Setting.{Setting}
 use Rattle.script_plan.specs.declared.decl.PortDecl.{PortDecl}
 use Rattle.closed_mail.specs.Joined.{AreJoined, AreOfProcesses, HasGrown, PortWordsHold, rows_of}
 use Rattle.closed_mail.specs.declared.joining.PortPeers.{PortPeers}

@@ -4,14 +4,14 @@ use Rattle.run_end.specs.port_mail.Ends.{MailEnd}
 use Rattle.port_model.specs.declared.mail.Mail.{Mail}
 use Rattle.port_words.specs.busy.Known.{PortKnown}
 use Rattle.port_words.specs.declared.busy.view.QueueLimits.{QueueLimits}
-use Rattle.run_setting.specs.port_body.Body.{BodyName}
+use Rattle.run_opening.specs.port_body.Body.{BodyName}
 use Rattle.run_end.specs.Mailboxes.{IsMergeAt}
 use Rattle.run_end.specs.Ran.{RanProcess, calls_made}
 use Rattle.run_end.specs.Shown.{Calls, QueueWordsHold, WordsHold}
-use Rattle.run_setting.specs.run_opening.Opened.{limits_of}
+use Rattle.run_opening.specs.Opened.{limits_of}
 use Rattle.script_plan.specs.declared.decl.PortDecl.{PortDecl}
 use Rattle.served_port.specs.View.{end_names}
-use Rattle.run_setting.specs.Setting.{Setting}
+use Rattle.run_opening.specs.Setting.{Setting}
 use Rattle.closed_mail.specs.declared.joining.PortPeers.{PortPeers}
 use Rattle.closed_mail.specs.declared.joining.ProcessPeers.{ProcessPeers}
 

@@ -1,8 +1,8 @@
 ghost use Rattle.std.specs.Prelude.{List, map, IfOk};
-ghost use Rattle.run_setting.specs.port_body.Body.{BodyName};
+ghost use Rattle.run_opening.specs.port_body.Body.{BodyName};
 ghost use Rattle.run_end.specs.Ran.{RanProcess};
-ghost use Rattle.run_setting.specs.Setting.{Setting, IsSetting, AreNamedIn};
-ghost use Rattle.run_setting.specs.Jobs.{HaveRunIn};
+ghost use Rattle.run_opening.specs.Setting.{Setting, IsSetting, AreNamedIn};
+ghost use Rattle.run_opening.specs.Jobs.{HaveRunIn};
 ghost use Rattle.closed_mail.specs.Joined.{AreJoined, AreOfProcesses, ArePortsNamed};
 
 use no_memory::NoMemory;

@@ -4,8 +4,8 @@ use Rattle.std.specs.List.{AllByRecursion, list_any}
 use Rattle.std.proofs.lemmas.Bool.{ltb-true, eqb-true, eq-eqb, ne_eqb, cases_eq, or_parts, true≢false}
 use Rattle.std.proofs.lemmas.List.{append-nil}
 use Rattle.std.proofs.lemmas.List.Folds.{list_any-append}
-use Rattle.script_run.specs.run_setting.run_end.port_words.busy.Stat.{Rises, tells_closed}
-use Rattle.script_run.specs.run_setting.run_end.port_words.declared.busy.view.StatMark.{StatMark}
+use Rattle.script_run.specs.run_opening.run_end.port_words.busy.Stat.{Rises, tells_closed}
+use Rattle.script_run.specs.run_opening.run_end.port_words.declared.busy.view.StatMark.{StatMark}
 use Rattle.echoed_history.specs.port_history.port_model.declared.signal.Signal.{Signal}
 use Rattle.echoed_history.specs.port_history.port_model.declared.signal.Signal.TheVariants.{Command, Close, OwnerClose}
 use Rattle.echoed_history.specs.port_history.port_model.Signals.{data_size}

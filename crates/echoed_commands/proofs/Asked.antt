@@ -6,15 +6,15 @@ use Rattle.std.proofs.lemmas.Bool.{cases_eq, eqb-true, true≢false}
 use Rattle.std.proofs.lemmas.List.{reverse-append, reverse-reverse}
 use Rattle.std.proofs.lemmas.List.Elements.{recursion_from_All}
 use Rattle.process_end.specs.Ended.{gone_asks}
-use Rattle.script_run.specs.run_setting.run_end.process_job.Asks.{asks_of, calls_of, command_ask, end_reason, ends_file, files_after, made_asks, made_of, made_of_step, next_content, pieces}
+use Rattle.script_run.specs.run_opening.run_end.process_job.Asks.{asks_of, calls_of, command_ask, end_reason, ends_file, files_after, made_asks, made_of, made_of_step, next_content, pieces}
 use Rattle.process_end.specs.process_receipts.Asks.{Asked}
 use Rattle.process_end.specs.process_receipts.declared.how.How.{How}
 use Rattle.process_end.specs.process_receipts.declared.how.How.TheVariants.{Plain}
 use Rattle.process_end.specs.process_receipts.declared.receipt.Receipt.{Receipt}
-use Rattle.script_run.specs.run_setting.run_end.process_job.script_plan.declared.step.Step.{Step}
-use Rattle.script_run.specs.run_setting.run_end.process_job.script_plan.declared.step.Act.{Act}
-use Rattle.script_run.specs.run_setting.run_end.process_job.script_plan.declared.step.Act.TheVariants.{Command, File, Send, Control, Call, Close, Connect, SendClose, SendConnect, Link, Unlink, Monitor, Demonitor, Exit}
-use Rattle.script_run.specs.run_setting.run_end.process_job.script_plan.Monitors.{is_die}
+use Rattle.script_run.specs.run_opening.run_end.process_job.script_plan.declared.step.Step.{Step}
+use Rattle.script_run.specs.run_opening.run_end.process_job.script_plan.declared.step.Act.{Act}
+use Rattle.script_run.specs.run_opening.run_end.process_job.script_plan.declared.step.Act.TheVariants.{Command, File, Send, Control, Call, Close, Connect, SendClose, SendConnect, Link, Unlink, Monitor, Demonitor, Exit}
+use Rattle.script_run.specs.run_opening.run_end.process_job.script_plan.Monitors.{is_die}
 use Rattle.echoed_commands.specs.Sending.{ClosesLast, OnlyClose, closes, is_plain, sends_to}
 use Rattle.echoed_commands.proofs.Answered.{IsCloseCall, IsOwn}
 use Rattle.echoed_history.specs.Commands.{is_plain_command}

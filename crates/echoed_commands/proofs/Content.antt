@@ -6,18 +6,18 @@ use Rattle.std.proofs.lemmas.Bool.{eqb-true, eq-eqb, ne_eqb, cases_eq}
 use Rattle.std.proofs.lemmas.List.{append-nil, length-drop, length-reverse, map-append, reverse-append, reverse-reverse, take-append-drop}
 use Rattle.std.proofs.lemmas.List.Concat.{flat_map-append}
 use Rattle.process_end.specs.Ended.{gone_ask, gone_asks}
-use Rattle.script_run.specs.run_setting.run_end.process_job.Asks.{asks_of, calls_of, command_ask, end_reason, ends_file, files_after, how_of, made_asks, made_of, made_of_step, next_content, pieces, pieces_up_to, vector_of}
+use Rattle.script_run.specs.run_opening.run_end.process_job.Asks.{asks_of, calls_of, command_ask, end_reason, ends_file, files_after, how_of, made_asks, made_of, made_of_step, next_content, pieces, pieces_up_to, vector_of}
 use Rattle.process_end.specs.process_receipts.Asks.{Asked, task_of}
 use Rattle.echoed_history.specs.port_history.port_model.Tasks.{TaskView}
 use Rattle.process_end.specs.process_receipts.Receipts.{AreReceipts, accepted, is_put, task_put}
 use Rattle.process_end.specs.process_receipts.declared.receipt.Outcome.{Outcome}
 use Rattle.process_end.specs.process_receipts.declared.receipt.Outcome.TheVariants as outcome
 use Rattle.process_end.specs.process_receipts.declared.receipt.Receipt.{Receipt}
-use Rattle.script_run.specs.run_setting.run_end.process_job.script_plan.declared.step.Step.{Step}
-use Rattle.script_run.specs.run_setting.run_end.process_job.script_plan.declared.step.Act.{Act}
-use Rattle.script_run.specs.run_setting.run_end.process_job.script_plan.declared.step.Act.TheVariants.{Command, File, Send, Control, Call, Close, Connect, SendClose, SendConnect, Link, Unlink, Monitor, Demonitor, Exit}
-use Rattle.script_run.specs.run_setting.run_end.process_job.script_plan.Monitors.{is_die}
-use Rattle.script_run.specs.run_setting.run_end.process_job.script_plan.Plan.{IsWithin}
+use Rattle.script_run.specs.run_opening.run_end.process_job.script_plan.declared.step.Step.{Step}
+use Rattle.script_run.specs.run_opening.run_end.process_job.script_plan.declared.step.Act.{Act}
+use Rattle.script_run.specs.run_opening.run_end.process_job.script_plan.declared.step.Act.TheVariants.{Command, File, Send, Control, Call, Close, Connect, SendClose, SendConnect, Link, Unlink, Monitor, Demonitor, Exit}
+use Rattle.script_run.specs.run_opening.run_end.process_job.script_plan.Monitors.{is_die}
+use Rattle.script_run.specs.run_opening.run_end.process_job.script_plan.Plan.{IsWithin}
 use Rattle.echoed_history.specs.port_history.port_model.declared.signal.Signal.{Signal}
 use Rattle.echoed_history.specs.port_history.port_model.declared.signal.Signal.TheVariants.{Command as CommandSignal}
 use Rattle.echoed_history.specs.Commands.{command_data, is_closing, is_plain_command, task_data}

@@ -17,8 +17,8 @@ use Rattle.echoed_history.specs.port_history.Opening.{Opening, taken_of}
 use Rattle.echoed_history.specs.port_history.State.{State, state}
 use Rattle.process_end.specs.process_receipts.Asks.{Asked}
 use Rattle.process_end.specs.process_receipts.declared.receipt.Receipt.{Receipt}
-use Rattle.script_run.specs.run_setting.run_end.process_job.Mails.{Came, mail_from, is_source, resumes, readable, is_closed, noproc_mail, own_mails}
-use Rattle.script_run.specs.run_setting.run_end.Merge.{IsFromPort}
+use Rattle.script_run.specs.run_opening.run_end.process_job.Mails.{Came, mail_from, is_source, resumes, readable, is_closed, noproc_mail, own_mails}
+use Rattle.script_run.specs.run_opening.run_end.Merge.{IsFromPort}
 use Rattle.echoed_history.proofs.Lists.{both}
 use Rattle.echoed_history.proofs.Unsaved.{AreNotFor, SendNothing, effects-other, handled-other, late-other, mail-for-other}
 

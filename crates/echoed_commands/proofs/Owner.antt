@@ -14,13 +14,13 @@ use Rattle.echoed_history.specs.port_history.port_model.declared.row.Row.TheVari
 use Rattle.echoed_history.specs.port_history.port_model.declared.signal.Sender.TheVariants.{Process}
 use Rattle.echoed_history.specs.port_history.port_model.Tasks.{TaskView}
 use Rattle.process_end.specs.Ended.{gone_ask, gone_asks}
-use Rattle.script_run.specs.run_setting.run_end.process_job.Asks.{asks_of, end_reason, made_asks}
+use Rattle.script_run.specs.run_opening.run_end.process_job.Asks.{asks_of, end_reason, made_asks}
 use Rattle.process_end.specs.process_receipts.Asks.{Asked, is_gone, task_of}
 use Rattle.process_end.specs.process_receipts.Receipts.{AreReceipts, accepted, is_put}
 use Rattle.process_end.specs.process_receipts.declared.receipt.Receipt.{Receipt}
-use Rattle.script_run.specs.run_setting.run_end.Shown.{Calls}
-use Rattle.script_run.specs.run_setting.run_seats.declared.plans.ProcessSteps.{ProcessSteps}
-use Rattle.script_run.specs.run_setting.run_end.process_job.script_plan.declared.step.Step.{Step}
+use Rattle.script_run.specs.run_opening.run_end.Shown.{Calls}
+use Rattle.script_run.specs.run_opening.run_seats.declared.plans.ProcessSteps.{ProcessSteps}
+use Rattle.script_run.specs.run_opening.run_end.process_job.script_plan.declared.step.Step.{Step}
 use Rattle.script_run.specs.declared.running.ProcessLeft.{ProcessLeft}
 use Rattle.script_run.specs.Ran.{IsFrom, all_calls, calls_of}
 use Rattle.echoed_commands.specs.Echoed.{ArePut, EachBeforeClose}

@@ -5,13 +5,13 @@ use Rattle.std.proofs.lemmas.Bool.{eqb-true, true≢false}
 use Rattle.std.proofs.lemmas.List.{length-append, length-take}
 use Rattle.std.proofs.lemmas.List.Sums.{sum_by-cons}
 use Rattle.echoed_history.specs.port_history.port_model.Signals.{data_size}
-use Rattle.script_run.specs.run_setting.run_end.process_job.Asks.{asks_of, command_ask, ends_file, made_of, made_of_step, pieces_up_to}
+use Rattle.script_run.specs.run_opening.run_end.process_job.Asks.{asks_of, command_ask, ends_file, made_of, made_of_step, pieces_up_to}
 use Rattle.process_end.specs.process_receipts.Asks.{Asked}
 use Rattle.process_end.specs.process_receipts.declared.how.How.TheVariants.{Plain}
 use Rattle.process_end.specs.process_receipts.declared.receipt.Receipt.{Receipt}
-use Rattle.script_run.specs.run_setting.run_end.process_job.script_plan.declared.step.Act.{Act}
-use Rattle.script_run.specs.run_setting.run_end.process_job.script_plan.declared.step.Act.TheVariants.{Command, File, Close, SendClose}
-use Rattle.script_run.specs.run_setting.run_end.process_job.script_plan.Plan.{IsWithin}
+use Rattle.script_run.specs.run_opening.run_end.process_job.script_plan.declared.step.Act.{Act}
+use Rattle.script_run.specs.run_opening.run_end.process_job.script_plan.declared.step.Act.TheVariants.{Command, File, Close, SendClose}
+use Rattle.script_run.specs.run_opening.run_end.process_job.script_plan.Plan.{IsWithin}
 use Rattle.echoed_commands.specs.Sending.{IsShort, closes, is_plain, sends_to}
 use Rattle.echoed_commands.proofs.Answered.{IsShortAsk}
 use Rattle.echoed_commands.proofs.Asked.{asks-for}

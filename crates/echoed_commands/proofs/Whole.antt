@@ -18,23 +18,23 @@ use Rattle.echoed_history.specs.port_history.State.{state}
 use Rattle.echoed_history.specs.port_history.port_model.declared.row.Row.{Row}
 use Rattle.echoed_history.specs.port_history.port_model.declared.signal.Sender.TheVariants.{Process}
 use Rattle.echoed_history.specs.port_history.port_model.Tasks.{TaskView}
-use Rattle.script_run.specs.run_setting.run_end.port_words.busy.Stat.{Rises}
-use Rattle.script_run.specs.run_setting.run_end.port_words.declared.busy.view.StatMark.{StatMark}
+use Rattle.script_run.specs.run_opening.run_end.port_words.busy.Stat.{Rises}
+use Rattle.script_run.specs.run_opening.run_end.port_words.declared.busy.view.StatMark.{StatMark}
 use Rattle.process_end.specs.Ended.{gone_ask, gone_asks}
-use Rattle.script_run.specs.run_setting.run_end.process_job.Asks.{asks_of, calls_of as calls_of_steps, made_of}
-use Rattle.script_run.specs.run_setting.run_end.process_job.Mails.{Came}
+use Rattle.script_run.specs.run_opening.run_end.process_job.Asks.{asks_of, calls_of as calls_of_steps, made_of}
+use Rattle.script_run.specs.run_opening.run_end.process_job.Mails.{Came}
 use Rattle.process_end.specs.process_receipts.Asks.{Asked, task_of}
 use Rattle.process_end.specs.process_receipts.Receipts.{AreReceipts, accepted, is_put, stats_shown}
 use Rattle.process_end.specs.process_receipts.declared.receipt.Outcome.{Outcome}
-use Rattle.script_run.specs.run_setting.run_end.Merge.{IsFromPort}
-use Rattle.script_run.specs.run_setting.run_end.Shown.{Calls, WordsHold}
+use Rattle.script_run.specs.run_opening.run_end.Merge.{IsFromPort}
+use Rattle.script_run.specs.run_opening.run_end.Shown.{Calls, WordsHold}
 use Rattle.script_run.specs.run_opening.Opened.{limits_of, soft_at}
-use Rattle.script_run.specs.run_setting.run_seats.declared.plans.ProcessSteps.{ProcessSteps}
-use Rattle.script_run.specs.run_setting.declared.RunScript.{RunScript}
-use Rattle.script_run.specs.run_setting.Script.{IsRunnable}
-use Rattle.script_run.specs.run_setting.run_end.process_job.script_plan.declared.decl.PortDecl.{PortDecl}
-use Rattle.script_run.specs.run_setting.run_end.process_job.script_plan.declared.step.Step.{Step}
-use Rattle.script_run.specs.run_setting.run_end.process_job.script_plan.Plan.{IsWithin}
+use Rattle.script_run.specs.run_opening.run_seats.declared.plans.ProcessSteps.{ProcessSteps}
+use Rattle.script_run.specs.run_opening.declared.run_script.RunScript.{RunScript}
+use Rattle.script_run.specs.run_opening.Script.{IsRunnable}
+use Rattle.script_run.specs.run_opening.run_end.process_job.script_plan.declared.decl.PortDecl.{PortDecl}
+use Rattle.script_run.specs.run_opening.run_end.process_job.script_plan.declared.step.Step.{Step}
+use Rattle.script_run.specs.run_opening.run_end.process_job.script_plan.Plan.{IsWithin}
 use Rattle.script_run.specs.declared.running.PortLeft.{PortLeft}
 use Rattle.script_run.specs.declared.running.ProcessLeft.{ProcessLeft}
 use Rattle.script_run.specs.declared.running.ScriptRan.{ScriptRan}

@@ -11,11 +11,11 @@ use Rattle.process_end.specs.process_receipts.declared.receipt.Outcome.{Outcome}
 use Rattle.process_end.specs.process_receipts.declared.receipt.Outcome.TheVariants.{Accepted, Suspended, TooLong, SentOut}
 use Rattle.process_end.specs.process_receipts.declared.receipt.Receipt.{Receipt}
 use Rattle.process_end.specs.process_receipts.Receipts.{accepted, is_put}
-use Rattle.script_run.specs.run_setting.run_end.Shown.{Calls}
-use Rattle.script_run.specs.run_setting.run_seats.declared.plans.ProcessSteps.{ProcessSteps}
-use Rattle.script_run.specs.run_setting.declared.RunScript.{RunScript}
-use Rattle.script_run.specs.run_setting.Script.{IsRunnable}
-use Rattle.script_run.specs.run_setting.run_end.process_job.script_plan.declared.decl.PortDecl.{PortDecl}
+use Rattle.script_run.specs.run_opening.run_end.Shown.{Calls}
+use Rattle.script_run.specs.run_opening.run_seats.declared.plans.ProcessSteps.{ProcessSteps}
+use Rattle.script_run.specs.run_opening.declared.run_script.RunScript.{RunScript}
+use Rattle.script_run.specs.run_opening.Script.{IsRunnable}
+use Rattle.script_run.specs.run_opening.run_end.process_job.script_plan.declared.decl.PortDecl.{PortDecl}
 use Rattle.script_run.specs.declared.running.PortLeft.{PortLeft}
 use Rattle.script_run.specs.declared.running.ProcessLeft.{ProcessLeft}
 use Rattle.script_run.specs.declared.running.ScriptRan.{ScriptRan}

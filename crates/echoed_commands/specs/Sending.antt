@@ -2,13 +2,13 @@
 use Rattle.std.specs.Prelude.{◌≡◌, ℕ, ◌<◌, ◌≤◌, ◌==◌, List, [], ◌∷◌, ◌++◌, length, All, Bool, true, false, ◌||◌, Option, Some, None, if◌then◌else◌, slice_index_or, codes}
 use Rattle.std.specs.List.{list_any, sum_by}
 use Rattle.script_run.specs.run_opening.driver_model.Same.{same_bytes}
-use Rattle.script_run.specs.run_setting.run_end.process_job.Asks.{calls_of, files_after, next_content}
-use Rattle.script_run.specs.run_setting.run_seats.declared.plans.ProcessSteps.{ProcessSteps}
-use Rattle.script_run.specs.run_setting.run_end.process_job.script_plan.declared.decl.PortDecl.{PortDecl}
-use Rattle.script_run.specs.run_setting.run_end.process_job.script_plan.declared.step.Step.{Step}
-use Rattle.script_run.specs.run_setting.run_end.process_job.script_plan.declared.step.Act.{Act}
-use Rattle.script_run.specs.run_setting.run_end.process_job.script_plan.declared.step.Act.TheVariants.{Command, File, Send, Control, Call, Close, Connect, SendClose, SendConnect, Link, Unlink, Monitor, Demonitor, Exit}
-use Rattle.script_run.specs.run_setting.run_end.process_job.script_plan.Monitors.{is_die}
+use Rattle.script_run.specs.run_opening.run_end.process_job.Asks.{calls_of, files_after, next_content}
+use Rattle.script_run.specs.run_opening.run_seats.declared.plans.ProcessSteps.{ProcessSteps}
+use Rattle.script_run.specs.run_opening.run_end.process_job.script_plan.declared.decl.PortDecl.{PortDecl}
+use Rattle.script_run.specs.run_opening.run_end.process_job.script_plan.declared.step.Step.{Step}
+use Rattle.script_run.specs.run_opening.run_end.process_job.script_plan.declared.step.Act.{Act}
+use Rattle.script_run.specs.run_opening.run_end.process_job.script_plan.declared.step.Act.TheVariants.{Command, File, Send, Control, Call, Close, Connect, SendClose, SendConnect, Link, Unlink, Monitor, Demonitor, Exit}
+use Rattle.script_run.specs.run_opening.run_end.process_job.script_plan.Monitors.{is_die}
 
 -- the driver of this name sends the data of each command back
 abbrev pub sends_back : List ℕ → Bool

@@ -10,7 +10,7 @@ use Rattle.run_seats.specs.process_job.declared.job.ProcessJob.{ProcessJob}
 use Rattle.run_seats.specs.process_job.declared.job.ProcessWork.{ProcessWork}
 use Rattle.run_seats.specs.process_job.Jobs.{CanMakeSteps, CanRun, EndsAs, HasRun, IsFreshProcess, IsWorkOf}
 use Rattle.run_seats.specs.process_job.Steps.{HasRunToEnd}
-use Rattle.run_setting.specs.run_end.Ran.{HasRunWhole}
+use Rattle.run_opening.specs.run_end.Ran.{HasRunWhole}
 use Rattle.run_seats.specs.run_jobs.declared.worker.WorkerEnd.TheVariants.{Finished}
 use Rattle.run_seats.specs.run_jobs.declared.worker.WorkerJob.{WorkerJob}
 use Rattle.run_seats.specs.run_jobs.Working.{HasWorked, WorksTo}
@@ -18,7 +18,7 @@ use Rattle.run_seats.specs.run_lanes.declared.parts.WorkerLanes.{WorkerLanes}
 use Rattle.run_seats.specs.declared.plans.ProcessPlan.{ProcessPlan}
 use Rattle.run_seats.specs.Dealt.{AreDealtProcesses, AreDealtWorkers, IsDealtProcess, IsDealtWorker, proc_of}
 use Rattle.run_seats.proofs.Whole.{was-of}
-use Rattle.run_setting.specs.Jobs.{HasWorkedLane}
+use Rattle.run_opening.specs.Jobs.{HasWorkedLane}
 use Rattle.run_seats.specs.threaded_jobs.declared.parting.WorkerLeft.{WorkerLeft}
 use Rattle.run_seats.specs.threaded_jobs.Ended.{HasFinished}
 use Rattle.run_seats.specs.threaded_jobs.Parts.{worker_left}

@@ -1,7 +1,7 @@
 -- What a seated run leaves once all its jobs have ended.
 use Rattle.std.specs.Prelude.{◌≡◌, ◌<◌, ℕ, List, [], length, slice_index_or}
 use Rattle.outside.specs.Causes.{Rose}
-use Rattle.run_setting.specs.run_end.Ran.{RanProcess, HasRunWhole}
+use Rattle.run_opening.specs.run_end.Ran.{RanProcess, HasRunWhole}
 use Rattle.run_seats.specs.run_jobs.declared.finish.FinishEnd.TheVariants.{Told}
 use Rattle.run_seats.specs.run_jobs.declared.poller.PollerEnd.TheVariants as poller
 use Rattle.run_seats.specs.run_jobs.Finishing.{SendsOne, TellsWorkers}
@@ -20,7 +20,7 @@ use Rattle.run_seats.specs.threaded_jobs.declared.parting.WorkerLeft.{WorkerLeft
 use Rattle.run_seats.specs.declared.plans.ProcessPlan.{ProcessPlan}
 use Rattle.run_seats.specs.declared.seating.OtherLanes.{OtherLanes}
 use Rattle.run_seats.specs.Dealt.{proc_of}
-use Rattle.run_setting.specs.Jobs.{HasWorkedLane}
+use Rattle.run_opening.specs.Jobs.{HasWorkedLane}
 
 -- a process that was to make these steps, and what is left of it
 abbrev pub ran_of : ProcessPlan → EndedProcess → RanProcess

@@ -14,8 +14,8 @@ use Rattle.script_input.specs.declared.input.RunInput.{RunInput}
 use Rattle.script_input.specs.Files.{FilesView}
 use Rattle.script_input.specs.Input.{IsRunOf}
 use Rattle.script_input.specs.Names.{AreNamesOf}
-use Rattle.script_input.specs.run_setting.declared.RunScript.{RunScript}
-use Rattle.script_input.specs.run_setting.Script.{IsRunnable}
+use Rattle.script_input.specs.run_opening.declared.run_script.RunScript.{RunScript}
+use Rattle.script_input.specs.run_opening.Script.{IsRunnable}
 use Rattle.script_input.specs.Words.{AskedRun, Source, FromFile, FromLoad}
 use Rattle.script_plan.specs.Plan.{Plan}
 use Rattle.gateway.specs.Fixed.{AnswersAreFixed, IsSummaryOf}

@@ -9,8 +9,8 @@ use Rattle.load_summary.specs.run_output.script_run.declared.running.ProcessLeft
 use Rattle.load_summary.specs.run_output.script_run.declared.running.ScriptRan.{ScriptRan}
 use Rattle.run_report.specs.declared.report.Report.{Report}
 use Rattle.run_report.specs.Report.{summary_of}
-use Rattle.script_input.specs.run_setting.declared.RunScript.{RunScript}
-use Rattle.script_input.specs.run_setting.run_seats.declared.plans.ProcessSteps.{ProcessSteps}
+use Rattle.script_input.specs.run_opening.declared.run_script.RunScript.{RunScript}
+use Rattle.script_input.specs.run_opening.run_seats.declared.plans.ProcessSteps.{ProcessSteps}
 use Rattle.script_input.specs.Words.{Source, FromFile, FromLoad}
 use Rattle.script_plan.specs.declared.decl.PortDecl.{PortDecl}
 

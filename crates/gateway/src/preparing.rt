@@ -1,5 +1,5 @@
 ghost use Rattle.std.specs.Prelude.{ℕ, ◌≤◌, map, length, string_bytes, IfOk, IfErr};
-ghost use Rattle.script_input.specs.run_setting.Script.{IsRunnable};
+ghost use Rattle.script_input.specs.run_opening.Script.{IsRunnable};
 ghost use Rattle.script_input.specs.Files.{files_view, NothingRead, NothingWritten};
 ghost use Rattle.script_input.specs.Words.{asked, source_of, FromLoad};
 ghost use Rattle.script_plan.specs.Plan.{IsPlan, Plan};

@@ -3,7 +3,6 @@ use port_model::{Journal, Reason};
 use std::marker::Model;
 
 /// A port as a journal tells of it: its declaration, and the history of its driver.
-#[derive(Drop)]
 pub struct PortReport {
     pub name: Reason,
     /// The name of the kind of its driver.
@@ -16,12 +15,32 @@ pub struct PortReport {
     pub journal: Journal,
 }
 
+// Its parts go by one call, which is proved once and not in each function that may let one go.
+impl Drop for PortReport {
+    fn drop(self) {
+        let Self {
+            name: _,
+            driver: _,
+            owner: _,
+            config: _,
+            events: _,
+            journal: _,
+        } = self;
+    }
+}
+
 /// What the text of a journal tells: the names of the processes, and the ports, each in the order of declaration. All of it is in
 /// the ranges of the grammar: there are at most 32 names and 32 ports, and each process that is meant has a name.
-#[derive(Drop)]
 pub struct Book {
     names: Vec<Reason>,
     ports: Vec<PortReport>,
+}
+
+// Its parts go by one call, which is proved once and not in each function that may let one go.
+impl Drop for Book {
+    fn drop(self) {
+        let Self { names: _, ports: _ } = self;
+    }
 }
 
 impl Model for Book {

@@ -9,11 +9,11 @@ use Rattle.port_model.specs.declared.signal.Signal.{Signal}
 use Rattle.port_model.specs.declared.signal.Signal.TheVariants.{Command as CommandSignal}
 use Rattle.port_model.specs.Signals.{data_size, is_command}
 use Rattle.port_model.specs.Tasks.{TaskView}
-use Rattle.run_output.specs.script_input.run_setting.run_end.process_receipts.declared.receipt.Receipt.{Receipt}
-use Rattle.run_output.specs.script_input.run_setting.run_end.process_receipts.Asks.{Asked, task_of}
-use Rattle.run_output.specs.script_input.run_setting.run_end.process_receipts.Receipts.{accepted, is_put}
-use Rattle.run_output.specs.script_input.run_setting.run_end.process_end.Ended.{gone_asks}
-use Rattle.run_output.specs.script_input.run_setting.run_end.process_job.Asks.{vector_of, asks_of, calls_of, end_reason, ends_file, files_after, made_asks, made_of, made_of_step, next_content}
+use Rattle.run_output.specs.script_input.run_opening.run_end.process_receipts.declared.receipt.Receipt.{Receipt}
+use Rattle.run_output.specs.script_input.run_opening.run_end.process_receipts.Asks.{Asked, task_of}
+use Rattle.run_output.specs.script_input.run_opening.run_end.process_receipts.Receipts.{accepted, is_put}
+use Rattle.run_output.specs.script_input.run_opening.run_end.process_end.Ended.{gone_asks}
+use Rattle.run_output.specs.script_input.run_opening.run_end.process_job.Asks.{vector_of, asks_of, calls_of, end_reason, ends_file, files_after, made_asks, made_of, made_of_step, next_content}
 use Rattle.script_plan.specs.declared.step.Step.{Step}
 use Rattle.script_plan.specs.declared.step.Act.{Act}
 use Rattle.script_plan.specs.declared.step.Act.TheVariants.{Command, Expect}

@@ -8,7 +8,7 @@ use Rattle.driver_model.specs.Calls.{Kind, Own, Echo, Valve}
 use Rattle.driver_model.specs.Drivers.{kind_name}
 use Rattle.driver_model.specs.Programs.{ToldProgram}
 use Rattle.port_driver.specs.declared.life.Life.{Life}
-use Rattle.run_output.specs.script_input.run_setting.port_body.LanePort.{rows_from}
+use Rattle.run_output.specs.script_input.run_opening.port_body.LanePort.{rows_from}
 use Rattle.port_history.specs.Counts.{handled_bytes, handled_commands, late_commands}
 use Rattle.port_history.specs.Lawful.{Lawful, IsFinished}
 use Rattle.port_history.specs.Laws.{may_send}
@@ -21,13 +21,13 @@ use Rattle.port_model.specs.declared.signal.Signal.{Signal}
 use Rattle.port_model.specs.declared.signal.Signal.TheVariants.{AsyncDone, Dropped, Ready}
 use Rattle.port_model.specs.Signals.{data_size, is_command}
 use Rattle.port_model.specs.Tasks.{TaskView}
-use Rattle.run_output.specs.script_input.run_setting.run_end.process_receipts.Asks.{Asked}
-use Rattle.run_output.specs.script_input.run_setting.run_end.process_receipts.Receipts.{AreReceipts, accepted}
-use Rattle.run_output.specs.script_input.run_setting.run_end.process_job.Asks.{calls_of as calls_by, end_reason, made_of}
-use Rattle.run_output.specs.script_input.run_setting.run_end.process_job.Mails.{mail_from, messages_of, readable}
-use Rattle.run_output.specs.script_input.run_setting.run_end.process_job.Waits.{ShowsClosed, WaitsAreShown}
-use Rattle.run_output.specs.script_input.run_setting.run_end.Shown.{Calls}
-use Rattle.run_output.specs.script_input.run_setting.run_seats.declared.plans.ProcessSteps.{ProcessSteps}
+use Rattle.run_output.specs.script_input.run_opening.run_end.process_receipts.Asks.{Asked}
+use Rattle.run_output.specs.script_input.run_opening.run_end.process_receipts.Receipts.{AreReceipts, accepted}
+use Rattle.run_output.specs.script_input.run_opening.run_end.process_job.Asks.{calls_of as calls_by, end_reason, made_of}
+use Rattle.run_output.specs.script_input.run_opening.run_end.process_job.Mails.{mail_from, messages_of, readable}
+use Rattle.run_output.specs.script_input.run_opening.run_end.process_job.Waits.{ShowsClosed, WaitsAreShown}
+use Rattle.run_output.specs.script_input.run_opening.run_end.Shown.{Calls}
+use Rattle.run_output.specs.script_input.run_opening.run_seats.declared.plans.ProcessSteps.{ProcessSteps}
 use Rattle.run_output.specs.script_input.StepsDealt.{steps_of as steps_by}
 use Rattle.script_plan.specs.declared.decl.PortDecl.{PortDecl}
 use Rattle.script_plan.specs.declared.step.Step.{Step}
@@ -38,7 +38,7 @@ use Rattle.run_output.specs.script_run.declared.running.ProcessLeft.{ProcessLeft
 use Rattle.run_output.specs.script_run.declared.running.ScriptRan.{ScriptRan}
 use Rattle.run_output.specs.script_run.Ran.{IsFrom, ProcessHolds, calls_of, history_of, opening_of}
 use Rattle.run_output.specs.script_input.declared.input.RunNames.{RunNames}
-use Rattle.run_output.specs.script_input.run_setting.declared.RunScript.{RunScript}
+use Rattle.run_output.specs.script_input.run_opening.declared.run_script.RunScript.{RunScript}
 use Rattle.command_counts.specs.Rows.{AreQuiet, IsQuiet, command_size, messages_of as messages_in, one_command, task_sum}
 use Rattle.command_counts.proofs.Counting.{counted}
 use Rattle.command_counts.proofs.Sending.{sends-one-each}

@@ -8,10 +8,10 @@ use Rattle.port_model.specs.declared.mail.Mail.{Mail}
 use Rattle.port_model.specs.declared.mail.Mail.TheVariants as mail
 use Rattle.port_model.specs.declared.signal.Signal.{Signal}
 use Rattle.port_model.specs.declared.signal.Signal.TheVariants as signal
-use Rattle.run_output.specs.script_input.run_setting.run_end.process_receipts.declared.receipt.Receipt.{Receipt}
-use Rattle.run_output.specs.script_input.run_setting.run_end.process_receipts.Asks.{Asked}
-use Rattle.run_output.specs.script_input.run_setting.run_end.process_job.Mails.{Came, is_closed, is_data_of, is_source, mail_from, messages_of, noproc_mail, own_mails, readable, resumes}
-use Rattle.run_output.specs.script_input.run_setting.run_end.Merge.{IsFromPort}
+use Rattle.run_output.specs.script_input.run_opening.run_end.process_receipts.declared.receipt.Receipt.{Receipt}
+use Rattle.run_output.specs.script_input.run_opening.run_end.process_receipts.Asks.{Asked}
+use Rattle.run_output.specs.script_input.run_opening.run_end.process_job.Mails.{Came, is_closed, is_data_of, is_source, mail_from, messages_of, noproc_mail, own_mails, readable, resumes}
+use Rattle.run_output.specs.script_input.run_opening.run_end.Merge.{IsFromPort}
 use Rattle.command_counts.specs.Rows.{is_message_of, messages_of as messages_in}
 use Rattle.load_summary.proofs.Sums.{over, over-add, over-none, over-one, over-same}
 

@@ -11,7 +11,7 @@ use Rattle.port_model.specs.declared.signal.Sender.{Sender}
 use Rattle.port_model.specs.declared.signal.Sender.TheVariants.{Process, Poller, Worker, Timer}
 use Rattle.port_model.specs.declared.signal.Signal.{Signal}
 use Rattle.port_model.specs.Tasks.{TaskView}
-use Rattle.run_output.specs.script_input.run_setting.port_body.LanePort.{rows_from, task_from}
+use Rattle.run_output.specs.script_input.run_opening.port_body.LanePort.{rows_from, task_from}
 use Rattle.port_history.specs.Lawful.{Lawful}
 use Rattle.port_history.specs.Laws.{count_of, may_send}
 use Rattle.port_history.specs.Opening.{Opening, same_sender}

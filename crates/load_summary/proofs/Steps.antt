@@ -7,10 +7,10 @@ use Rattle.std.proofs.lemmas.List.Elements.{All-append, All-cons, All-filter, Al
 use Rattle.std.proofs.lemmas.List.Sums.{sum_by-cons}
 use Rattle.std.proofs.lemmas.Nat.{mod_below}
 use Rattle.port_model.specs.declared.mail.Mail.{Mail}
-use Rattle.run_output.specs.script_input.run_setting.run_end.process_receipts.declared.receipt.Receipt.{Receipt}
-use Rattle.run_output.specs.script_input.run_setting.run_end.process_job.Asks.{asks_of, files_after, made_of_step, next_content}
-use Rattle.run_output.specs.script_input.run_setting.run_end.process_job.Mails.{bytes_of, messages_of}
-use Rattle.run_output.specs.script_input.run_setting.run_end.process_job.Waits.{ShowsClosed, StaysClosed, WaitIsShown, WaitsAreShown, last_receipt, stat_shown}
+use Rattle.run_output.specs.script_input.run_opening.run_end.process_receipts.declared.receipt.Receipt.{Receipt}
+use Rattle.run_output.specs.script_input.run_opening.run_end.process_job.Asks.{asks_of, files_after, made_of_step, next_content}
+use Rattle.run_output.specs.script_input.run_opening.run_end.process_job.Mails.{bytes_of, messages_of}
+use Rattle.run_output.specs.script_input.run_opening.run_end.process_job.Waits.{ShowsClosed, StaysClosed, WaitIsShown, WaitsAreShown, last_receipt, stat_shown}
 use Rattle.run_output.specs.script_input.StepsDealt.{steps_of as steps_by}
 use Rattle.script_plan.specs.declared.step.Step.{Step}
 use Rattle.script_plan.specs.declared.step.Act.{Act}

@@ -5,19 +5,19 @@ use Rattle.std.specs.List.{All}
 use Rattle.std.proofs.lemmas.Bool.{cases_eq, eq-eqb, false≢true, ne_eqb}
 use Rattle.std.proofs.lemmas.List.{append-nil, reverse-append, reverse-reverse}
 use Rattle.std.proofs.lemmas.List.Elements.{All-append, All-cons, All-head, All-nil, All-push, All-tail}
-use Rattle.run_output.specs.script_input.run_setting.run_end.port_words.busy.Stat.{tells_closed}
+use Rattle.run_output.specs.script_input.run_opening.run_end.port_words.busy.Stat.{tells_closed}
 use Rattle.port_model.specs.declared.signal.Signal.{Signal}
 use Rattle.port_model.specs.declared.signal.Signal.TheVariants.{Command as CommandSignal, Gone}
 use Rattle.port_model.specs.declared.signal.Sender.TheVariants.{Process}
 use Rattle.port_model.specs.Tasks.{TaskView}
-use Rattle.run_output.specs.script_input.run_setting.run_end.process_receipts.declared.receipt.Outcome.{Outcome}
-use Rattle.run_output.specs.script_input.run_setting.run_end.process_receipts.declared.receipt.Outcome.TheVariants.{Accepted, Suspended}
-use Rattle.run_output.specs.script_input.run_setting.run_end.process_receipts.declared.receipt.Receipt.{Receipt}
-use Rattle.run_output.specs.script_input.run_setting.run_end.process_receipts.Asks.{Asked, task_of}
-use Rattle.run_output.specs.script_input.run_setting.run_end.process_receipts.Receipts.{AreReceipts, HasCause, accepted, is_put}
-use Rattle.run_output.specs.script_input.run_setting.run_end.process_end.Ended.{gone_ask, gone_asks}
-use Rattle.run_output.specs.script_input.run_setting.run_end.process_job.Asks.{asks_of, calls_of, end_reason, ends_file, files_after, made_asks, made_of, made_of_step, next_content, reason_of}
-use Rattle.run_output.specs.script_input.run_setting.run_end.process_job.Waits.{ShowsClosed, last_receipt, stat_shown}
+use Rattle.run_output.specs.script_input.run_opening.run_end.process_receipts.declared.receipt.Outcome.{Outcome}
+use Rattle.run_output.specs.script_input.run_opening.run_end.process_receipts.declared.receipt.Outcome.TheVariants.{Accepted, Suspended}
+use Rattle.run_output.specs.script_input.run_opening.run_end.process_receipts.declared.receipt.Receipt.{Receipt}
+use Rattle.run_output.specs.script_input.run_opening.run_end.process_receipts.Asks.{Asked, task_of}
+use Rattle.run_output.specs.script_input.run_opening.run_end.process_receipts.Receipts.{AreReceipts, HasCause, accepted, is_put}
+use Rattle.run_output.specs.script_input.run_opening.run_end.process_end.Ended.{gone_ask, gone_asks}
+use Rattle.run_output.specs.script_input.run_opening.run_end.process_job.Asks.{asks_of, calls_of, end_reason, ends_file, files_after, made_asks, made_of, made_of_step, next_content, reason_of}
+use Rattle.run_output.specs.script_input.run_opening.run_end.process_job.Waits.{ShowsClosed, last_receipt, stat_shown}
 use Rattle.script_plan.specs.declared.step.Step.{Step}
 use Rattle.script_plan.specs.declared.step.Act.{Act}
 use Rattle.script_plan.specs.declared.step.Act.TheVariants.{Command, Expect}

@@ -3,13 +3,13 @@ use Rattle.std.specs.Prelude.{◌≡◌, ℕ, List, Option}
 use Rattle.driver_model.specs.Calls.{Kind, Own}
 use Rattle.driver_model.specs.Programs.{ToldProgram}
 use Rattle.port_driver.specs.declared.life.Life.{Life}
-use Rattle.run_output.specs.script_input.run_setting.run_opening.driver_hosts.declared.hosted.Hosted.{Hosted}
+use Rattle.run_output.specs.script_input.run_opening.driver_hosts.declared.hosted.Hosted.{Hosted}
 use Rattle.run_output.specs.Reported.{report_of}
 use Rattle.run_output.specs.script_run.declared.running.ScriptRan.{ScriptRan}
 use Rattle.run_output.specs.script_run.Ran.{HasRun}
 use Rattle.run_report.specs.Report.{summary_of}
 use Rattle.run_output.specs.script_input.declared.input.RunNames.{RunNames}
-use Rattle.run_output.specs.script_input.run_setting.declared.RunScript.{RunScript}
+use Rattle.run_output.specs.script_input.run_opening.declared.run_script.RunScript.{RunScript}
 use Rattle.run_output.specs.script_input.Input.{IsRunOf}
 use Rattle.run_output.specs.script_input.Names.{AreNamesOf}
 use Rattle.script_load.specs.Load.{load_plan}

@@ -1,14 +1,13 @@
 //! How a body takes in an end of its lane, and how it comes to its end.
-ghost use Rattle.std.specs.Prelude.{◌≡◌, ◌≤◌, ◌∷◌, ◌++◌, [], false, reverse};
+ghost use Rattle.std.specs.Prelude.{◌≡◌, ◌∷◌, ◌++◌, []};
 ghost use Rattle.task_queue.specs.Ends.{ended_of};
-ghost use Rattle.port_driver.specs.Faults.{failures_in, RisenBy};
 ghost use Rattle.recorded_port.specs.View.{is_finished, state_of};
-ghost use Rattle.port_body.specs.Ends.{HasEnded, IsEndOf, IsLeftByCalls, IsWholeEnd};
+ghost use Rattle.port_body.specs.Ends.{HasEnded};
 ghost use Rattle.port_body.specs.LanePort.{IsBody};
 
 use crate::body::Body;
 use crate::lane_port::LanePort;
-use crate::{BodyEnd, Driver, Parcel};
+use crate::{Driver, Parcel};
 use task_queue::SendEnd;
 
 impl<D: Driver> LanePort<D> {
@@ -46,26 +45,5 @@ impl<D: Driver> Body<D> {
             self.broken = true;
         }
         self.lane_port.port.end();
-    }
-
-    /// The driver, the history, and the ends. What waits is dropped. Where the body isn't broken, they are what its history says.
-    pub fn into_end(self) -> BodyEnd<D>
-        ensures end { IsEndOf self result.port.journal.rows result.port.config result.port.outlets result.lane }
-        ensures kind { D.kind result.port.driver ≡ self.lane_port.port.opening.kind }
-        ensures own { D.own result.port.driver ≡ self.lane_port.port.port.state.service.own }
-        ensures stage { D.stage result.port.driver ≡ self.lane_port.port.port.state.service.stage }
-        ensures program { D.program result.port.driver ≡ self.lane_port.port.port.state.service.program }
-        ensures faults { D.faults result.port.driver ≡ self.lane_port.port.port.state.service.faults }
-        ensures rises { self.first_faults ≤ D.faults result.port.driver }
-        ensures failed { RisenBy (failures_in result.port.journal.rows) self.first_faults (D.faults result.port.driver) }
-        ensures stands { self.broken ≡ false → IsLeftByCalls self.lane_port.port.opening (reverse self.lane_port.port.rows) (D.own result.port.driver) (D.program result.port.driver) }
-        ensures whole { self.broken ≡ false → IsWholeEnd self result.port.journal.rows result.port.outlets result.lane }
-    {
-        let Body { lane_port, .. } = self;
-        let LanePort { port, lane, .. } = lane_port;
-        BodyEnd {
-            port: port.into_end(),
-            lane,
-        }
     }
 }

@@ -1,14 +1,13 @@
 // The end of a process, of which each port is told.
-ghost use Rattle.std.specs.Prelude.{◌≡◌, ◌<◌, length, reverse, OnOk, OnErr};
+ghost use Rattle.std.specs.Prelude.{◌≡◌, ◌<◌, length, OnOk, OnErr};
 ghost use Rattle.process_receipts.specs.declared.receipt.Receipt.{Receipt as TheReceipt};
 ghost use Rattle.process_end.specs.Calls.{HasMissed};
-ghost use Rattle.process_end.specs.Ports.{AllFree, ArePorts};
+ghost use Rattle.process_end.specs.Ports.{AllFree};
 ghost use Rattle.process_end.specs.Ended.{gone_ask, HasLeftOff, HasTold, HasToldPort};
 
-use crate::answers::ProcEnd;
 use crate::sides::Sides;
 use no_memory::NoMemory;
-use port_model::{Log, Reason, Signal};
+use port_model::{Reason, Signal};
 use process_receipts::How;
 use std::sync::Wait;
 
@@ -44,28 +43,5 @@ impl Sides {
             self.tell_next(rt, reason)?;
         }
         Ok(())
-    }
-
-    /// What is left of a process that has ended.
-    pub(crate) fn into_end(self) -> ProcEnd
-        ensures receipts { result.receipts ≡ reverse self.receipts }
-        ensures mailbox { result.mailbox ≡ self.mailbox }
-        ensures lanes { result.lanes.items ≡ self.lanes }
-        ensures seats { result.seats.items ≡ self.seats }
-        ensures keeps { ArePorts self }
-    {
-        let Sides {
-            mailbox,
-            lanes,
-            seats,
-            receipts,
-            ..
-        } = self;
-        ProcEnd {
-            receipts: Log::of_vec(receipts),
-            mailbox,
-            lanes,
-            seats,
-        }
     }
 }

@@ -22,9 +22,15 @@ use std::sync::Wait;
 use task_queue::Idle;
 
 /// A process that may send to its ports.
-#[derive(Drop)]
 pub struct Proc {
     pub(crate) sides: Sides,
+}
+
+// Its parts go by one call, which is proved once and not in each function that may let one go.
+impl Drop for Proc {
+    fn drop(self) {
+        let Self { sides: _ } = self;
+    }
 }
 
 impl Model for Proc {

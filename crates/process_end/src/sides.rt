@@ -1,5 +1,5 @@
 // A process with its ports: what one that may send and a suspended one share.
-ghost use Rattle.std.specs.Prelude.{◌≡◌, ◌<◌, ◌≤◌, ◌^◌, ℕ, true, false, Bool, Some, unwrap_or, [], length, slice_index_or, IfOk, OnErr};
+ghost use Rattle.std.specs.Prelude.{◌≡◌, ◌<◌, ◌≤◌, ◌^◌, ℕ, true, false, Bool, Some, unwrap_or, [], length, reverse, slice_index_or, IfOk, OnErr};
 ghost use Rattle.port_words.specs.busy.Known.{SendKnown};
 ghost use Rattle.port_model.specs.declared.signal.Sender.TheVariants.{Process};
 ghost use Rattle.port_model.specs.Signals.{data_size, is_command};
@@ -11,15 +11,15 @@ ghost use Rattle.process_receipts.specs.Receipts.{IsReceiptOf, MayLook};
 ghost use Rattle.process_end.specs.Views.{LaneEnd, proc_view};
 ghost use Rattle.process_end.specs.Steps.{tasks_of, HasSent, HasStepped, MaySend};
 ghost use Rattle.process_end.specs.Calls.{HasLooked, HasMade, HasMissed, TouchesPort};
-ghost use Rattle.process_end.specs.Ports.{AllFree, AreParts, HasStopped};
+ghost use Rattle.process_end.specs.Ports.{AllFree, AreParts, ArePorts, HasStopped};
 ghost use Rattle.process_end.specs.Mailbox.{HasTaken};
 
-use crate::answers::ProcParts;
+use crate::answers::{ProcEnd, ProcParts};
 use crate::refusal::{MOST_CALLS, refusal, refused_receipt};
 use crate::sending::{CallPlace, send};
 use no_memory::NoMemory;
 use port_lanes::Parcel;
-use port_model::{Mail, Signal};
+use port_model::{Log, Mail, Signal};
 use port_words::busy::SendSeat;
 use process_receipts::{How, Receipt};
 use std::alloc::Global;
@@ -28,7 +28,6 @@ use std::sync::Wait;
 use task_queue::{Idle, Item, SendEnd, TakeEnd};
 
 /// A process with its ports.
-#[derive(Drop)]
 pub(crate) struct Sides {
     pub(crate) number: u32,
     pub(crate) mailbox: TakeEnd<Mail>,
@@ -38,6 +37,22 @@ pub(crate) struct Sides {
     pub(crate) receipts: Vec<Receipt>,
     pub(crate) undone: u32,
     pub(crate) told: u32,
+}
+
+// Its parts go by one call, which is proved once and not in each function that may let one go.
+impl Drop for Sides {
+    fn drop(self) {
+        let Self {
+            number: _,
+            mailbox: _,
+            lanes: _,
+            seats: _,
+            soft: _,
+            receipts: _,
+            undone: _,
+            told: _,
+        } = self;
+    }
 }
 
 impl Model for Sides {
@@ -192,6 +207,32 @@ impl Sides {
                 }
                 Err(no_memory)
             }
+        }
+    }
+
+    /// What is left of a process that has ended.
+    pub(crate) fn into_end(self) -> ProcEnd
+        ensures receipts { result.receipts ≡ reverse self.receipts }
+        ensures mailbox { result.mailbox ≡ self.mailbox }
+        ensures lanes { result.lanes.items ≡ self.lanes }
+        ensures seats { result.seats.items ≡ self.seats }
+        ensures keeps { ArePorts self }
+    {
+        let Self {
+            number: _,
+            mailbox,
+            lanes,
+            seats,
+            soft: _,
+            receipts,
+            undone: _,
+            told: _,
+        } = self;
+        ProcEnd {
+            receipts: Log::of_vec(receipts),
+            mailbox,
+            lanes,
+            seats,
         }
     }
 }

@@ -49,11 +49,21 @@ pub enum ProcessEnd {
 }
 
 /// The job of a process: its seats, what it has to do, and once it ran what became of it.
-#[derive(Drop)]
 pub struct ProcessJob<B: PortBody> {
     pub seats: ProcessSeats<B>,
     pub work: Option<ProcessWork>,
     pub end: Option<ProcessEnd>,
+}
+
+// Its parts go by one call, which is proved once and not in each function that may let one go.
+impl<B: PortBody> Drop for ProcessJob<B> {
+    fn drop(self) {
+        let Self {
+            seats: _,
+            work: _,
+            end: _,
+        } = self;
+    }
 }
 
 /// What is left of the job of a process that has run.
@@ -157,7 +167,11 @@ impl<B: PortBody> ProcessJob<B> {
         ensures seats { result.seats ≡ self.seats }
         ensures end { self.end ≡ Some result.end }
     {
-        let ProcessJob { seats, end, .. } = self;
+        let Self {
+            seats,
+            work: _,
+            end,
+        } = self;
         let Some(end) = end else { unreachable!() };
         JobEnd { seats, end }
     }

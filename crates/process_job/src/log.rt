@@ -26,10 +26,19 @@ pub(crate) enum DataWanted {
 }
 
 /// The mail that came to a process and that it added itself, in order, with a count of the data of each port, so that a step that waits for data needn't read all mail.
-#[derive(Drop)]
 pub(crate) struct MailLog {
     mails: Vec<Mail>,
     counts: Vec<DataCount>,
+}
+
+// Its parts go by one call, which is proved once and not in each function that may let one go.
+impl Drop for MailLog {
+    fn drop(self) {
+        let Self {
+            mails: _,
+            counts: _,
+        } = self;
+    }
 }
 
 impl Model for MailLog {
@@ -122,6 +131,7 @@ impl MailLog {
     pub(crate) fn into_mails(self) -> Vec<Mail>
         ensures { result.items ≡ self }
     {
-        self.mails
+        let Self { mails, counts: _ } = self;
+        mails
     }
 }

@@ -11,10 +11,9 @@ ghost use Rattle.recorded_port.specs.Openings.{AreUnused, IsOpened};
 ghost use Rattle.recorded_port.specs.Taking.{IsSameRecorded};
 
 use crate::fixed::Fixed;
-use crate::parts::{PortEnd, PortOutlets, PortParts};
-use crate::{Driver, Journal, NoMemory, RecordedPort, Row, ServedPort, Suspension};
+use crate::parts::{PortOutlets, PortParts};
+use crate::{Driver, NoMemory, RecordedPort, Row, ServedPort, Suspension};
 use port_driver::{Life, StartRefusal};
-use port_model::Rows;
 use served_port::PortPlace;
 use std::alloc::Global;
 use std::sync::Wait;
@@ -100,39 +99,5 @@ impl<D: Driver> RecordedPort<D> {
         ensures unchanged { self.old.port.state.service.stage ≢ Life.Started → self.new ≡ self.old }
     {
         self.port.end();
-    }
-
-    /// The driver, the ends, and the history.
-    pub fn into_end(self) -> PortEnd<D>
-        ensures kind { D.kind result.driver ≡ self.port.state.service.kind }
-        ensures own { D.own result.driver ≡ self.port.state.service.own }
-        ensures stage { D.stage result.driver ≡ self.port.state.service.stage }
-        ensures program { D.program result.driver ≡ self.port.state.service.program }
-        ensures faults { D.faults result.driver ≡ self.port.state.service.faults }
-        ensures outlets { result.outlets ≡ record { mailboxes = self.ends; seat = self.seat; ends = record { asks = self.port.events.asks; pool = self.port.jobs.lanes } } }
-        ensures journal { result.journal.rows ≡ self.rows }
-        ensures config { result.config ≡ self.opening.config }
-    {
-        let RecordedPort {
-            fixed,
-            port,
-            mailboxes,
-            seat,
-            rows,
-            ..
-        } = self;
-        let (driver, ends) = port.into_parts();
-        PortEnd {
-            driver,
-            config: fixed.config,
-            journal: Journal {
-                rows: Rows::of_vec(rows),
-            },
-            outlets: PortOutlets {
-                mailboxes,
-                seat,
-                ends,
-            },
-        }
     }
 }

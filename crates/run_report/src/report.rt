@@ -6,7 +6,6 @@ use process_receipts::Receipts;
 pub type Mails = Log<Mail>;
 
 /// A process as it is reported.
-#[derive(Drop)]
 pub struct ProcessRecord {
     pub name: Reason,
     /// What its calls answered, in their order.
@@ -14,9 +13,29 @@ pub struct ProcessRecord {
     pub mails: Mails,
 }
 
+// Its parts go by one call, which is proved once and not in each function that may let one go.
+impl Drop for ProcessRecord {
+    fn drop(self) {
+        let Self {
+            name: _,
+            receipts: _,
+            mails: _,
+        } = self;
+    }
+}
+
 /// The report of a run: its ports and its processes, each in the order of declaration.
-#[derive(Drop)]
 pub struct Report {
     pub ports: Items<PortReport>,
     pub processes: Items<ProcessRecord>,
+}
+
+// Its parts go by one call, which is proved once and not in each function that may let one go.
+impl Drop for Report {
+    fn drop(self) {
+        let Self {
+            ports: _,
+            processes: _,
+        } = self;
+    }
 }

@@ -7,10 +7,10 @@ use Rattle.process_receipts.specs.Asks.{Asked, task_of}
 use Rattle.process_receipts.specs.Receipts.{accepted, is_put}
 use Rattle.process_receipts.specs.declared.how.How.{How}
 use Rattle.process_receipts.specs.declared.how.How.TheVariants as how
-use Rattle.echoed_commands.specs.run_setting.run_end.process_end.Commanded.{command_of}
+use Rattle.echoed_commands.specs.run_opening.run_end.process_end.Commanded.{command_of}
 use Rattle.process_receipts.specs.declared.receipt.Receipt.{Receipt}
-use Rattle.echoed_commands.specs.run_setting.run_end.process_end.Ended.{gone_asks}
-use Rattle.echoed_commands.specs.run_setting.run_end.process_job.Asks.{pieces, vector_of, command_ask, how_of, asks_of, calls_of, end_reason, ends_file, files_after, made_asks, made_of, made_of_step, next_content}
+use Rattle.echoed_commands.specs.run_opening.run_end.process_end.Ended.{gone_asks}
+use Rattle.echoed_commands.specs.run_opening.run_end.process_job.Asks.{pieces, vector_of, command_ask, how_of, asks_of, calls_of, end_reason, ends_file, files_after, made_asks, made_of, made_of_step, next_content}
 use Rattle.script_plan.specs.Monitors.{is_die}
 use Rattle.script_plan.specs.declared.step.Step.{Step}
 use Rattle.script_plan.specs.declared.step.Act.{Act}

@@ -8,9 +8,9 @@ use Rattle.port_model.specs.declared.signal.Signal.{Signal}
 use Rattle.port_model.specs.declared.signal.Signal.TheVariants as signal
 use Rattle.process_receipts.specs.Asks.{Asked}
 use Rattle.process_receipts.specs.declared.receipt.Receipt.{Receipt}
-use Rattle.echoed_commands.specs.run_setting.run_end.process_job.Mails.{Came, is_closed, is_source, mail_from, noproc_mail, own_mails, readable, resumes}
+use Rattle.echoed_commands.specs.run_opening.run_end.process_job.Mails.{Came, is_closed, is_source, mail_from, noproc_mail, own_mails, readable, resumes}
 use Rattle.port_history.specs.Counts.{saved_mail, saved_of}
-use Rattle.echoed_commands.specs.run_setting.run_end.Merge.{IsFromPort}
+use Rattle.echoed_commands.specs.run_opening.run_end.Merge.{IsFromPort}
 use Rattle.unframed_output.proofs.Events.{eqb-same}
 use Rattle.saved_output.proofs.Lists.{all-append}
 

@@ -15,10 +15,10 @@ use Rattle.port_model.specs.declared.mail.Mail.{Mail}
 use Rattle.port_history.specs.Counts.{saved_of}
 use Rattle.port_history.specs.Mail.{mails}
 use Rattle.echoed_commands.specs.script_run.run_opening.port_body.LanePort.{rows_from}
-use Rattle.echoed_commands.specs.run_setting.run_end.process_job.Mails.{Came, is_source, mail_from, readable}
+use Rattle.echoed_commands.specs.run_opening.run_end.process_job.Mails.{Came, is_source, mail_from, readable}
 use Rattle.echoed_commands.specs.script_run.run_opening.driver_hosts.declared.hosted.Hosted.{Hosted}
-use Rattle.echoed_commands.specs.run_setting.run_end.Merge.{IsFromPort}
-use Rattle.echoed_commands.specs.run_setting.run_seats.declared.plans.ProcessSteps.{ProcessSteps}
+use Rattle.echoed_commands.specs.run_opening.run_end.Merge.{IsFromPort}
+use Rattle.echoed_commands.specs.run_opening.run_seats.declared.plans.ProcessSteps.{ProcessSteps}
 use Rattle.script_plan.specs.declared.decl.PortDecl.{PortDecl}
 use Rattle.script_plan.specs.declared.step.Step.{Step}
 use Rattle.echoed_commands.specs.script_run.declared.running.PortLeft.{PortLeft}

@@ -9,8 +9,8 @@ use Rattle.echoed_commands.specs.script_run.run_opening.driver_hosts.declared.ho
 use Rattle.script_plan.specs.declared.decl.PortDecl.{PortDecl}
 use Rattle.script_plan.specs.declared.step.Act.{Act}
 use Rattle.script_plan.specs.declared.step.Act.TheVariants.{Connect, SendConnect}
-use Rattle.echoed_commands.specs.run_setting.run_seats.declared.plans.ProcessSteps.{ProcessSteps}
-use Rattle.echoed_commands.specs.run_setting.declared.RunScript.{RunScript}
+use Rattle.echoed_commands.specs.run_opening.run_seats.declared.plans.ProcessSteps.{ProcessSteps}
+use Rattle.echoed_commands.specs.run_opening.declared.run_script.RunScript.{RunScript}
 use Rattle.echoed_commands.specs.script_run.declared.running.PortLeft.{PortLeft}
 use Rattle.echoed_commands.specs.script_run.declared.running.ProcessLeft.{ProcessLeft}
 use Rattle.echoed_commands.specs.script_run.declared.running.ScriptRan.{ScriptRan}

@@ -8,7 +8,7 @@ use Rattle.port_history.specs.Opening.{Opening}
 use Rattle.port_history.specs.State.{state}
 use Rattle.port_model.specs.declared.row.Row.{Row}
 use Rattle.echoed_commands.specs.script_run.run_opening.driver_hosts.declared.hosted.Hosted.{Hosted}
-use Rattle.echoed_commands.specs.run_setting.declared.RunScript.{RunScript}
+use Rattle.echoed_commands.specs.run_opening.declared.run_script.RunScript.{RunScript}
 use Rattle.echoed_commands.specs.script_run.declared.running.PortLeft.{PortLeft}
 use Rattle.echoed_commands.specs.script_run.declared.running.ScriptRan.{ScriptRan}
 use Rattle.echoed_commands.specs.script_run.Ran.{HasRun, history_of, opening_of}

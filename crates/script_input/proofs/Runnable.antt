@@ -4,10 +4,10 @@ use Rattle.std.specs.Prelude.{All}
 use Rattle.std.proofs.lemmas.List.Elements.{All-filter}
 use Rattle.script_plan.specs.declared.step.Step.{Step}
 use Rattle.script_plan.specs.Plan.{Plan, IsPlan, IsWithin}
-use Rattle.run_setting.specs.run_seats.process_job.Jobs.{AreWithin}
-use Rattle.run_setting.specs.run_seats.declared.plans.ProcessSteps.{ProcessSteps}
-use Rattle.run_setting.specs.declared.RunScript.{RunScript}
-use Rattle.run_setting.specs.Script.{IsRunnable}
+use Rattle.run_opening.specs.run_seats.process_job.Jobs.{AreWithin}
+use Rattle.run_opening.specs.run_seats.declared.plans.ProcessSteps.{ProcessSteps}
+use Rattle.run_opening.specs.declared.run_script.RunScript.{RunScript}
+use Rattle.run_opening.specs.Script.{IsRunnable}
 use Rattle.script_input.specs.StepsDealt.{AreStepsOfAll}
 use Rattle.script_input.specs.Input.{IsRunOf}
 

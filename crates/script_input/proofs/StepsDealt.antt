@@ -10,7 +10,7 @@ use Rattle.std.proofs.lemmas.Bool.Decides.{eqb_tells}
 use Rattle.std.proofs.lemmas.List.{get_or_append_left, get_or_push, get_or-set_same, get_or-set_other, length-set, length_push, map-append}
 use Rattle.std.proofs.lemmas.List.Elements.{filter-append}
 use Rattle.script_plan.specs.declared.step.Step.{Step}
-use Rattle.run_setting.specs.run_seats.declared.plans.ProcessSteps.{ProcessSteps}
+use Rattle.run_opening.specs.run_seats.declared.plans.ProcessSteps.{ProcessSteps}
 use Rattle.script_input.specs.Contents.{file_of, file_names}
 use Rattle.script_input.specs.StepsDealt.{steps_of, sending, files_of, AreStepsOf, AreStepsOfAll}
 

@@ -1,7 +1,7 @@
 -- What is run of a script and of the contents of its files.
 use Rattle.std.specs.Prelude.{◌≡◌, ℕ, List, length}
 use Rattle.script_plan.specs.Plan.{Plan}
-use Rattle.run_setting.specs.declared.RunScript.{RunScript}
+use Rattle.run_opening.specs.declared.run_script.RunScript.{RunScript}
 use Rattle.script_input.specs.declared.input.RunInput.{RunInput}
 use Rattle.program_io.specs.Files.{FilesView}
 use Rattle.script_input.specs.Contents.{HaveRead}

@@ -2,7 +2,7 @@
 use Rattle.std.specs.Prelude.{◌≡◌, ℕ, ◌<◌, ◌==◌, List, length, map, filter, is_some, slice_index_or}
 use Rattle.std.specs.List.{zip}
 use Rattle.script_plan.specs.declared.step.Step.{Step}
-use Rattle.run_setting.specs.run_seats.declared.plans.ProcessSteps.{ProcessSteps}
+use Rattle.run_opening.specs.run_seats.declared.plans.ProcessSteps.{ProcessSteps}
 use Rattle.script_input.specs.Contents.{file_of}
 
 -- the steps of a process, in their order

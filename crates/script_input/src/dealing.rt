@@ -7,7 +7,7 @@ ghost use Rattle.script_input.specs.StepsDealt.{sending, AreStepsOfAll};
 use io_vector::Piece;
 use no_memory::NoMemory;
 use run_lanes::next_of;
-use run_setting::ProcessSteps;
+use run_opening::ProcessSteps;
 use script_plan::{Act, PortDecl, Step};
 use std::alloc::Global;
 use std::collections::VecDeque;

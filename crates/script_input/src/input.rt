@@ -1,5 +1,5 @@
 use port_model::Reason;
-use run_setting::RunScript;
+use run_opening::RunScript;
 use script_plan::{FileName, SaveDecl};
 
 /// A port as its script declares it.
@@ -20,11 +20,20 @@ pub struct RunNames {
 }
 
 /// What a run writes beside its report.
-#[derive(Drop)]
 pub struct RunWrites {
     pub saves: Vec<SaveDecl>,
     /// The file to which the journal is written.
     pub journal: Option<FileName>,
+}
+
+// Its parts go by one call, which is proved once and not in each function that may let one go.
+impl Drop for RunWrites {
+    fn drop(self) {
+        let Self {
+            saves: _,
+            journal: _,
+        } = self;
+    }
 }
 
 /// All that a run needs of a script and its files.

@@ -11,5 +11,5 @@ mod words;
 pub use input::{PortName, RunInput, RunNames, RunWrites};
 pub use loading::load_steps;
 pub use program_io::{InputFault, input_cause, read_run_script};
-pub use run_setting::{ProcessSteps, RunScript};
+pub use run_opening::{ProcessSteps, RunScript};
 pub use words::{RunSource, RunWords, run_words};

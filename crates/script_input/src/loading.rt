@@ -1,5 +1,5 @@
 ghost use Rattle.std.specs.Prelude.{◌≤◌, IfOk, IfErr};
-ghost use Rattle.run_setting.specs.Script.{IsRunnable};
+ghost use Rattle.run_opening.specs.Script.{IsRunnable};
 ghost use Rattle.program_io.specs.Files.{files_view, NothingWritten};
 ghost use Rattle.script_input.specs.Contents.{FilesEnd};
 ghost use Rattle.script_input.specs.Input.{IsInputOf};

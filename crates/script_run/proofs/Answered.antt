@@ -18,16 +18,16 @@ use Rattle.port_body.specs.served_port.ready_select.Answered.{times}
 use Rattle.port_body.specs.served_port.ready_select.Polling.{Poller as PollerView, entry_of}
 use Rattle.process_end.specs.Views.{LaneEnd}
 use Rattle.driver_hosts.specs.declared.hosted.Hosted.{Hosted}
-use Rattle.seated_script.specs.run_setting.run_seats.run_jobs.declared.poller.PollerEnd.TheVariants.{Finished}
-use Rattle.seated_script.specs.run_setting.run_seats.run_jobs.Rounds.{PollsTo, all_found, poller_of, tasks_of}
-use Rattle.seated_script.specs.run_setting.run_seats.run_jobs.Telling.{PortTask, parcels_for}
+use Rattle.seated_script.specs.run_opening.run_seats.run_jobs.declared.poller.PollerEnd.TheVariants.{Finished}
+use Rattle.seated_script.specs.run_opening.run_seats.run_jobs.Rounds.{PollsTo, all_found, poller_of, tasks_of}
+use Rattle.seated_script.specs.run_opening.run_seats.run_jobs.Telling.{PortTask, parcels_for}
 use Rattle.run_lanes.specs.declared.parts.PollerLanes.{PollerLanes}
-use Rattle.seated_script.specs.run_setting.run_end.Ran.{RanProcess}
-use Rattle.seated_script.specs.run_setting.run_opening.Opened.{limits_of}
-use Rattle.seated_script.specs.run_setting.run_seats.declared.plans.ProcessPlan.{ProcessPlan}
-use Rattle.seated_script.specs.run_setting.Setting.{Setting, IsSetting}
+use Rattle.seated_script.specs.run_opening.run_end.Ran.{RanProcess}
+use Rattle.seated_script.specs.run_opening.Opened.{limits_of}
+use Rattle.seated_script.specs.run_opening.run_seats.declared.plans.ProcessPlan.{ProcessPlan}
+use Rattle.seated_script.specs.run_opening.Setting.{Setting, IsSetting}
 use Rattle.script_plan.specs.declared.decl.PortDecl.{PortDecl}
-use Rattle.seated_script.specs.run_setting.run_seats.threaded_jobs.declared.ended.EndedJobs.{EndedJobs}
+use Rattle.seated_script.specs.run_opening.run_seats.threaded_jobs.declared.ended.EndedJobs.{EndedJobs}
 use Rattle.closed_lanes.specs.Closed.{tasks_sent}
 use Rattle.script_run.specs.declared.running.PortLeft.{PortLeft}
 use Rattle.script_run.specs.declared.running.ScriptRan.{ScriptRan}

@@ -8,8 +8,8 @@ use Rattle.port_body.specs.Body.{BodyName}
 use Rattle.port_words.specs.busy.Known.{PortKnown}
 use Rattle.process_receipts.specs.declared.receipt.Receipt.{Receipt}
 use Rattle.closed_mail.specs.served_port.View.{end_names}
-use Rattle.seated_script.specs.run_setting.run_end.Ran.{RanProcess}
-use Rattle.seated_script.specs.run_setting.Setting.{Setting}
+use Rattle.seated_script.specs.run_opening.run_end.Ran.{RanProcess}
+use Rattle.seated_script.specs.run_opening.Setting.{Setting}
 use Rattle.closed_lanes.specs.declared.closing.ClosedPort.{ClosedPort}
 use Rattle.closed_mail.specs.declared.joining.ProcessPeers.{ProcessPeers}
 use Rattle.closed_mail.specs.Joined.{AreJoined, ArePortsNamed, rows_of}

@@ -1,23 +1,23 @@
 -- The parts of what the jobs of a run leave are those of its setting.
 use Rattle.std.proofs.Common.{◌≡◌, ◌<◌, ℕ, List, [], length, map, get_or, sym, ap, ◌∙◌, subst, arith}
 use Rattle.port_body.specs.Body.{BodyName}
-use Rattle.seated_script.specs.run_setting.run_end.Ran.{HasRunWhole}
-use Rattle.seated_script.specs.run_setting.run_seats.run_jobs.declared.finish.FinishEnd.TheVariants.{Told}
-use Rattle.seated_script.specs.run_setting.run_seats.run_jobs.Finishing.{TellsWorkers}
-use Rattle.seated_script.specs.run_setting.run_seats.run_jobs.Telling.{Sends}
+use Rattle.seated_script.specs.run_opening.run_end.Ran.{HasRunWhole}
+use Rattle.seated_script.specs.run_opening.run_seats.run_jobs.declared.finish.FinishEnd.TheVariants.{Told}
+use Rattle.seated_script.specs.run_opening.run_seats.run_jobs.Finishing.{TellsWorkers}
+use Rattle.seated_script.specs.run_opening.run_seats.run_jobs.Telling.{Sends}
 use Rattle.run_lanes.specs.declared.parts.PollerLanes.{PollerLanes}
 use Rattle.run_lanes.specs.declared.parts.ProcessLanes.{ProcessLanes}
 use Rattle.run_lanes.specs.declared.parts.WorkerLanes.{WorkerLanes}
 use Rattle.run_lanes.specs.declared.parts.FinishEnds.{FinishEnds}
-use Rattle.seated_script.specs.run_setting.run_seats.declared.plans.ProcessPlan.{ProcessPlan}
-use Rattle.seated_script.specs.run_setting.run_seats.declared.plans.ProcessSteps.{ProcessSteps}
-use Rattle.seated_script.specs.run_setting.run_seats.Dealt.{proc_of}
-use Rattle.seated_script.specs.run_setting.run_seats.Plans.{IsPlanOf}
-use Rattle.seated_script.specs.run_setting.run_seats.threaded_jobs.declared.ended.EndedJobs.{EndedJobs}
-use Rattle.seated_script.specs.run_setting.run_seats.threaded_jobs.declared.parting.WorkerLeft.{WorkerLeft}
+use Rattle.seated_script.specs.run_opening.run_seats.declared.plans.ProcessPlan.{ProcessPlan}
+use Rattle.seated_script.specs.run_opening.run_seats.declared.plans.ProcessSteps.{ProcessSteps}
+use Rattle.seated_script.specs.run_opening.run_seats.Dealt.{proc_of}
+use Rattle.seated_script.specs.run_opening.run_seats.Plans.{IsPlanOf}
+use Rattle.seated_script.specs.run_opening.run_seats.threaded_jobs.declared.ended.EndedJobs.{EndedJobs}
+use Rattle.seated_script.specs.run_opening.run_seats.threaded_jobs.declared.parting.WorkerLeft.{WorkerLeft}
 use Rattle.process_end.specs.Views.{proc_view}
-use Rattle.seated_script.specs.run_setting.Setting.{Setting}
-use Rattle.seated_script.specs.run_setting.Jobs.{HasWorkedLane, HaveRunIn, IsSetUp}
+use Rattle.seated_script.specs.run_opening.Setting.{Setting}
+use Rattle.seated_script.specs.run_opening.Jobs.{HasWorkedLane, HaveRunIn, IsSetUp}
 use Rattle.closed_lanes.specs.declared.closing.LaneEnds.{LaneEnds}
 use Rattle.closed_mail.specs.declared.joining.ProcessPeers.{ProcessPeers}
 use Rattle.closed_mail.specs.Joined.{AreOfProcesses}

@@ -2,9 +2,9 @@
 use Rattle.std.proofs.Common.{◌≡◌, ◌<◌, ℕ, zero, suc, List, [], ◌∷◌, length, map, get_or, refl, ap, arith}
 use Rattle.port_model.specs.declared.mail.Mail.{Mail}
 use Rattle.process_end.specs.declared.answers.ProcEnd.{ProcEnd}
-use Rattle.seated_script.specs.run_setting.run_end.process_job.declared.job.EndedProcess.{EndedProcess}
-use Rattle.seated_script.specs.run_setting.run_end.Ran.{RanProcess}
-use Rattle.seated_script.specs.run_setting.run_seats.declared.plans.ProcessPlan.{ProcessPlan}
+use Rattle.seated_script.specs.run_opening.run_end.process_job.declared.job.EndedProcess.{EndedProcess}
+use Rattle.seated_script.specs.run_opening.run_end.Ran.{RanProcess}
+use Rattle.seated_script.specs.run_opening.run_seats.declared.plans.ProcessPlan.{ProcessPlan}
 use Rattle.ended_jobs.specs.Ended.{ran_of}
 use Rattle.script_run.specs.Parted.{ran_processes}
 

@@ -9,15 +9,15 @@ use Rattle.port_sched.specs.declared.body.PortBody.{Ghosts}
 use Rattle.port_body.specs.Body.{BodyView, name_of}
 use Rattle.driver_hosts.specs.declared.hosted.Hosted.{Hosted}
 use Rattle.no_memory.specs.declared.NoMemory.{NoMemory as Wanting}
-use Rattle.seated_script.specs.run_setting.declared.RunScript.{RunScript}
+use Rattle.seated_script.specs.run_opening.declared.run_script.RunScript.{RunScript}
 use Rattle.script_plan.specs.declared.decl.PortDecl.{PortDecl}
-use Rattle.seated_script.specs.run_setting.Setting.{AreNamedIn}
+use Rattle.seated_script.specs.run_opening.Setting.{AreNamedIn}
 use Rattle.seated_script.specs.declared.seating.SeatedScript.{SeatedScript}
 use Rattle.seated_script.specs.Seated.{IsSeatedScript}
 use Rattle.ended_jobs.specs.Ended.{HaveEndedFor, StopComes}
-use Rattle.seated_script.specs.run_setting.run_seats.threaded_jobs.declared.ended.EndedJobs.{EndedJobs}
-use Rattle.seated_script.specs.run_setting.run_seats.threaded_jobs.declared.ended.Stop.{Stop}
-use Rattle.seated_script.specs.run_setting.run_seats.threaded_jobs.declared.ended.Stop.TheVariants as stop
+use Rattle.seated_script.specs.run_opening.run_seats.threaded_jobs.declared.ended.EndedJobs.{EndedJobs}
+use Rattle.seated_script.specs.run_opening.run_seats.threaded_jobs.declared.ended.Stop.{Stop}
+use Rattle.seated_script.specs.run_opening.run_seats.threaded_jobs.declared.ended.Stop.TheVariants as stop
 use Rattle.script_run.specs.declared.running.RunFault.{RunFault}
 use Rattle.script_run.specs.declared.running.RunFault.TheVariants as fault
 use Rattle.script_run.specs.declared.running.ScriptRan.{ScriptRan}

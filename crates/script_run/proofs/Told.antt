@@ -25,8 +25,8 @@ use Rattle.port_body.specs.served_port.ready_select.declared.ask.Polled.{Polled}
 use Rattle.port_body.specs.served_port.ready_select.declared.ask.Polled.TheVariants as polled
 use Rattle.port_body.specs.served_port.ready_select.Answered.{tells}
 use Rattle.port_body.specs.served_port.ready_select.Polling.{Poller as PollerView, IsRound, entry_of}
-use Rattle.seated_script.specs.run_setting.run_seats.run_jobs.Rounds.{FoundRound, RoundsTo, dropped_task, ready_task, tasks_of}
-use Rattle.seated_script.specs.run_setting.run_seats.run_jobs.Telling.{parcels_for, plain_parcel}
+use Rattle.seated_script.specs.run_opening.run_seats.run_jobs.Rounds.{FoundRound, RoundsTo, dropped_task, ready_task, tasks_of}
+use Rattle.seated_script.specs.run_opening.run_seats.run_jobs.Telling.{parcels_for, plain_parcel}
 use Rattle.script_run.specs.Readiness.{is_ready_row, says_ready}
 
 -- how often a thing passes, in a list with one more, and in two lists

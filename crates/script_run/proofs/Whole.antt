@@ -33,24 +33,24 @@ use Rattle.closed_lanes.specs.closed_ports.Closed.{HaveComeBack}
 use Rattle.closed_lanes.specs.settled_ports.Senders.{IsOfAnEnd}
 use Rattle.closed_lanes.specs.closed_ports.told_jobs.Told.{WorkersTell}
 use Rattle.script_plan.specs.declared.decl.PortDecl.{PortDecl}
-use Rattle.seated_script.specs.run_setting.run_end.Ran.{RanProcess, calls_made}
+use Rattle.seated_script.specs.run_opening.run_end.Ran.{RanProcess, calls_made}
 use Rattle.run_lanes.specs.declared.parts.PortLanes.{PortLanes}
-use Rattle.seated_script.specs.run_setting.run_opening.Opened.{room_of}
-use Rattle.seated_script.specs.run_setting.declared.RunScript.{RunScript}
-use Rattle.seated_script.specs.run_setting.Setting.{Setting, IsNamedIn, all_limits}
+use Rattle.seated_script.specs.run_opening.Opened.{room_of}
+use Rattle.seated_script.specs.run_opening.declared.run_script.RunScript.{RunScript}
+use Rattle.seated_script.specs.run_opening.Setting.{Setting, IsNamedIn, all_limits}
 use Rattle.seated_script.specs.declared.seating.SeatedScript.{SeatedScript}
 use Rattle.seated_script.specs.Seated.{IsSeatedScript}
 use Rattle.closed_lanes.specs.declared.closing.ClosedPort.{ClosedPort}
 use Rattle.closed_lanes.specs.Closed.{IsClosedPort}
-use Rattle.seated_script.specs.run_setting.run_end.Shown.{Calls, HasCause, adds_of}
+use Rattle.seated_script.specs.run_opening.run_end.Shown.{Calls, HasCause, adds_of}
 use Rattle.port_words.specs.busy.Queue.{bytes_of, period_of}
 use Rattle.process_end.specs.Bounds.{queue_bound}
-use Rattle.seated_script.specs.run_setting.run_seats.declared.plans.ProcessSteps.{ProcessSteps}
+use Rattle.seated_script.specs.run_opening.run_seats.declared.plans.ProcessSteps.{ProcessSteps}
 use Rattle.process_end.specs.Views.{LaneEnd, ProcView}
-use Rattle.seated_script.specs.run_setting.run_end.process_job.Asks.{made_asks}
+use Rattle.seated_script.specs.run_opening.run_end.process_job.Asks.{made_asks}
 use Rattle.port_model.specs.declared.mail.Mail.{Mail}
-use Rattle.seated_script.specs.run_setting.Setting.{IsSetting}
-use Rattle.seated_script.specs.run_setting.Jobs.{HaveRunIn}
+use Rattle.seated_script.specs.run_opening.Setting.{IsSetting}
+use Rattle.seated_script.specs.run_opening.Jobs.{HaveRunIn}
 use Rattle.script_run.specs.declared.running.PortLeft.{PortLeft}
 use Rattle.script_run.specs.declared.running.ProcessLeft.{ProcessLeft}
 use Rattle.script_run.specs.declared.running.ScriptRan.{ScriptRan}
@@ -60,29 +60,29 @@ use Rattle.script_run.specs.Left.{AreProcessesLeft, IsGathered, IsLeft}
 use Rattle.closed_mail.specs.Joined.{rows_of, PortWordsHold as WordsOfPort}
 use Rattle.port_body.specs.recorded_port.Asks.{resumed_words}
 use Rattle.port_mail.specs.Ends.{MailEnd}
-use Rattle.seated_script.specs.run_setting.run_end.process_job.Mails.{Came, own_mails, readable, AreReplied, HasReply}
-use Rattle.seated_script.specs.run_setting.run_end.process_job.Waits.{WaitsAreShown}
+use Rattle.seated_script.specs.run_opening.run_end.process_job.Mails.{Came, own_mails, readable, AreReplied, HasReply}
+use Rattle.seated_script.specs.run_opening.run_end.process_job.Waits.{WaitsAreShown}
 use Rattle.process_receipts.specs.Asks.{Asked}
 use Rattle.process_receipts.specs.declared.receipt.Receipt.{Receipt}
 use Rattle.suspended_calls.specs.Listed.{ListedCallsAreInOrder, SuspendedCallsAreListed}
-use Rattle.seated_script.specs.run_setting.run_end.process_job.declared.job.EndedProcess.{EndedProcess}
-use Rattle.seated_script.specs.run_setting.run_end.Merge.{IsFromPort}
-use Rattle.seated_script.specs.run_setting.run_end.Tell.{AllCallsTell}
-use Rattle.seated_script.specs.run_setting.run_end.Waited.{AllWaitsAreShown}
-use Rattle.seated_script.specs.run_setting.run_opening.Opened.{soft_at}
+use Rattle.seated_script.specs.run_opening.run_end.process_job.declared.job.EndedProcess.{EndedProcess}
+use Rattle.seated_script.specs.run_opening.run_end.Merge.{IsFromPort}
+use Rattle.seated_script.specs.run_opening.run_end.Tell.{AllCallsTell}
+use Rattle.seated_script.specs.run_opening.run_end.Waited.{AllWaitsAreShown}
+use Rattle.seated_script.specs.run_opening.Opened.{soft_at}
 use Rattle.run_lanes.specs.declared.size.LaneSize.{LaneSize}
 use Rattle.run_lanes.specs.Keyed.{key_of}
 use Rattle.port_body.specs.recorded_port.View.{stat_marks}
 use Rattle.port_history.specs.State.{state}
 use Rattle.port_words.specs.busy.Known.{PortKnown}
 use Rattle.port_body.specs.Ends.{HaveRows, IsLeftByCalls}
-use Rattle.seated_script.specs.run_setting.run_end.Shown.{WordsHold}
+use Rattle.seated_script.specs.run_opening.run_end.Shown.{WordsHold}
 use Rattle.process_receipts.specs.Receipts.{AreReceipts, accepted}
 use Rattle.port_history.specs.Mail.{mails}
 use Rattle.port_body.specs.LanePort.{rows_from}
 use Rattle.std.specs.Str.{bytes_eq}
 use Rattle.std.specs.Option.{option_map_or}
-use Rattle.seated_script.specs.run_setting.run_opening.Opened.{limits_of}
+use Rattle.seated_script.specs.run_opening.Opened.{limits_of}
 use Rattle.closed_mail.specs.served_port.View.{end_name}
 use Rattle.script_run.specs.Parted.{port_left, ran_processes}
 use Rattle.script_run.proofs.Parts.{some}

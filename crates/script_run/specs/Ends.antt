@@ -7,11 +7,11 @@ use Rattle.script_plan.specs.declared.decl.PortDecl.{PortDecl}
 use Rattle.driver_hosts.specs.declared.hosted.Hosted.{Hosted}
 use Rattle.driver_hosts.specs.Back.{HaveServed}
 use Rattle.driver_hosts.specs.Finding.{Found}
-use Rattle.seated_script.specs.run_setting.run_opening.declared.opening.OpenFault.{OpenFault}
-use Rattle.seated_script.specs.run_setting.run_opening.declared.opening.OpenFault.TheVariants as opening
-use Rattle.seated_script.specs.run_setting.run_opening.Faults.{LacksAt, RefusedAt}
-use Rattle.seated_script.specs.run_setting.run_seats.threaded_jobs.declared.ended.Stop.{Stop}
-use Rattle.seated_script.specs.run_setting.run_seats.threaded_jobs.declared.ended.Stop.TheVariants as stop
+use Rattle.seated_script.specs.run_opening.declared.opening.OpenFault.{OpenFault}
+use Rattle.seated_script.specs.run_opening.declared.opening.OpenFault.TheVariants as opening
+use Rattle.seated_script.specs.run_opening.Faults.{LacksAt, RefusedAt}
+use Rattle.seated_script.specs.run_opening.run_seats.threaded_jobs.declared.ended.Stop.{Stop}
+use Rattle.seated_script.specs.run_opening.run_seats.threaded_jobs.declared.ended.Stop.TheVariants as stop
 use Rattle.script_run.specs.declared.running.RunFault.{RunFault}
 use Rattle.script_run.specs.declared.running.RunFault.TheVariants.{NoDriver, StartRefused, PollFault, NoMemory}
 use Rattle.script_run.specs.declared.running.ScriptRan.{ScriptRan}

@@ -5,24 +5,24 @@ use Rattle.driver_model.specs.Programs.{ToldProgram}
 use Rattle.port_model.specs.declared.mail.Mail.{Mail}
 use Rattle.port_body.specs.Body.{BodyName}
 use Rattle.driver_hosts.specs.declared.hosted.Hosted.{Hosted}
-use Rattle.seated_script.specs.run_setting.run_end.Ran.{RanProcess}
-use Rattle.seated_script.specs.run_setting.run_seats.declared.plans.ProcessPlan.{ProcessPlan}
-use Rattle.seated_script.specs.run_setting.run_seats.declared.seating.OtherLanes.{OtherLanes}
-use Rattle.seated_script.specs.run_setting.run_seats.threaded_jobs.declared.ended.EndedJobs.{EndedJobs}
+use Rattle.seated_script.specs.run_opening.run_end.Ran.{RanProcess}
+use Rattle.seated_script.specs.run_opening.run_seats.declared.plans.ProcessPlan.{ProcessPlan}
+use Rattle.seated_script.specs.run_opening.run_seats.declared.seating.OtherLanes.{OtherLanes}
+use Rattle.seated_script.specs.run_opening.run_seats.threaded_jobs.declared.ended.EndedJobs.{EndedJobs}
 use Rattle.closed_lanes.specs.declared.closing.ClosedPort.{ClosedPort}
 use Rattle.closed_lanes.specs.declared.closing.LaneEnds.{LaneEnds}
 use Rattle.closed_lanes.specs.Closed.{AreClosedIn, GiveBack, IsClosedPort}
 use Rattle.async_jobs.specs.Pool.{PoolEnd}
 use Rattle.process_end.specs.Views.{LaneEnd}
-use Rattle.seated_script.specs.run_setting.run_end.process_job.declared.job.EndedProcess.{EndedProcess}
-use Rattle.seated_script.specs.run_setting.run_seats.threaded_jobs.declared.parting.WorkerLeft.{WorkerLeft}
+use Rattle.seated_script.specs.run_opening.run_end.process_job.declared.job.EndedProcess.{EndedProcess}
+use Rattle.seated_script.specs.run_opening.run_seats.threaded_jobs.declared.parting.WorkerLeft.{WorkerLeft}
 use Rattle.closed_mail.specs.declared.joining.ProcessPeers.{ProcessPeers}
 use Rattle.closed_mail.specs.Joined.{AreJoined, AreOfProcesses}
 use Rattle.process_receipts.specs.declared.receipt.Receipt.{Receipt}
 use Rattle.ended_jobs.specs.Ended.{HaveEndedFor}
 use Rattle.seated_script.specs.Seated.{AreDealt}
-use Rattle.seated_script.specs.run_setting.Setting.{Setting, IsSetting, AreNamedIn}
-use Rattle.seated_script.specs.run_setting.Jobs.{HaveRunIn}
+use Rattle.seated_script.specs.run_opening.Setting.{Setting, IsSetting, AreNamedIn}
+use Rattle.seated_script.specs.run_opening.Jobs.{HaveRunIn}
 use Rattle.script_run.specs.declared.parting.PartedPorts.{PartedPorts}
 use Rattle.script_run.specs.declared.parting.ProcessParts.{ProcessParts}
 use Rattle.script_run.specs.declared.running.ProcessLeft.{ProcessLeft}

@@ -3,9 +3,9 @@ use Rattle.std.specs.Prelude.{◌≡◌, ◌<◌, ℕ, List, [], ◌∷◌, leng
 use Rattle.std.specs.Global.{Vec}
 use Rattle.port_model.specs.declared.mail.Mail.{Mail}
 use Rattle.process_receipts.specs.declared.receipt.Receipt.{Receipt}
-use Rattle.seated_script.specs.run_setting.run_end.process_job.declared.job.EndedProcess.{EndedProcess}
-use Rattle.seated_script.specs.run_setting.run_end.Ran.{RanProcess}
-use Rattle.seated_script.specs.run_setting.run_seats.declared.plans.ProcessPlan.{ProcessPlan}
+use Rattle.seated_script.specs.run_opening.run_end.process_job.declared.job.EndedProcess.{EndedProcess}
+use Rattle.seated_script.specs.run_opening.run_end.Ran.{RanProcess}
+use Rattle.seated_script.specs.run_opening.run_seats.declared.plans.ProcessPlan.{ProcessPlan}
 use Rattle.closed_lanes.specs.declared.closing.ClosedPort.{ClosedPort}
 use Rattle.ended_jobs.specs.Ended.{ran_of}
 use Rattle.script_run.specs.declared.parting.PartedPorts.{PartedPorts}

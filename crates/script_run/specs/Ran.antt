@@ -15,9 +15,9 @@ use Rattle.port_model.specs.declared.row.Row.TheVariants.{Handled, Late}
 use Rattle.port_model.specs.declared.signal.Sender.{Sender}
 use Rattle.port_model.specs.declared.signal.Sender.TheVariants.{Process, Poller, Worker, Timer}
 use Rattle.process_receipts.specs.Receipts.{accepted, AreReceipts}
-use Rattle.seated_script.specs.run_setting.run_end.process_job.Asks.{made_asks}
-use Rattle.seated_script.specs.run_setting.run_end.process_job.Mails.{Came, mail_from, own_mails, readable, AreReplied}
-use Rattle.seated_script.specs.run_setting.run_end.process_job.Waits.{WaitsAreShown}
+use Rattle.seated_script.specs.run_opening.run_end.process_job.Asks.{made_asks}
+use Rattle.seated_script.specs.run_opening.run_end.process_job.Mails.{Came, mail_from, own_mails, readable, AreReplied}
+use Rattle.seated_script.specs.run_opening.run_end.process_job.Waits.{WaitsAreShown}
 use Rattle.port_body.specs.recorded_port.Asks.{resumed_words}
 use Rattle.port_body.specs.recorded_port.View.{stat_marks}
 use Rattle.port_body.specs.Ends.{HaveRows, IsLeftByCalls}
@@ -25,14 +25,14 @@ use Rattle.port_body.specs.LanePort.{rows_from}
 use Rattle.driver_hosts.specs.declared.hosted.Hosted.{Hosted}
 use Rattle.driver_hosts.specs.Back.{HaveServed}
 use Rattle.driver_hosts.specs.Finding.{Found}
-use Rattle.seated_script.specs.run_setting.run_end.Merge.{IsFromPort}
-use Rattle.seated_script.specs.run_setting.run_end.Shown.{Calls, QueueWordsHold, WordsHold}
-use Rattle.seated_script.specs.run_setting.run_opening.Opened.{limits_of, soft_at}
-use Rattle.seated_script.specs.run_setting.run_seats.declared.plans.ProcessSteps.{ProcessSteps}
+use Rattle.seated_script.specs.run_opening.run_end.Merge.{IsFromPort}
+use Rattle.seated_script.specs.run_opening.run_end.Shown.{Calls, QueueWordsHold, WordsHold}
+use Rattle.seated_script.specs.run_opening.Opened.{limits_of, soft_at}
+use Rattle.seated_script.specs.run_opening.run_seats.declared.plans.ProcessSteps.{ProcessSteps}
 use Rattle.script_plan.specs.declared.decl.PortDecl.{PortDecl}
 use Rattle.closed_lanes.specs.closed_ports.told_jobs.Told.{WorkersTell}
 use Rattle.suspended_calls.specs.Numbers.{listed_numbers, resumed_numbers, suspended_numbers}
-use Rattle.seated_script.specs.run_setting.declared.RunScript.{RunScript}
+use Rattle.seated_script.specs.run_opening.declared.run_script.RunScript.{RunScript}
 use Rattle.script_run.specs.declared.running.PortLeft.{PortLeft}
 use Rattle.script_run.specs.declared.running.ProcessLeft.{ProcessLeft}
 use Rattle.script_run.specs.declared.running.ScriptRan.{ScriptRan}

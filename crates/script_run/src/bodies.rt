@@ -1,9 +1,9 @@
 //! The seated run of a script, with the bodies of its ports, is run to its end.
 ghost use Rattle.std.specs.Prelude.{◌≡◌, ◌≤◌, ℕ, [], List, length, map, IfOk, IfErr, vec_capacity};
 ghost use Rattle.port_body.specs.Body.{BodyView, name_of};
-ghost use Rattle.seated_script.specs.run_setting.run_seats.declared.plans.ProcessPlan.{ProcessPlan as Plan};
-ghost use Rattle.seated_script.specs.run_setting.run_seats.declared.seating.OtherLanes.{OtherLanes as Lanes};
-ghost use Rattle.seated_script.specs.run_setting.run_seats.Seated.{IsSeated};
+ghost use Rattle.seated_script.specs.run_opening.run_seats.declared.plans.ProcessPlan.{ProcessPlan as Plan};
+ghost use Rattle.seated_script.specs.run_opening.run_seats.declared.seating.OtherLanes.{OtherLanes as Lanes};
+ghost use Rattle.seated_script.specs.run_opening.run_seats.Seated.{IsSeated};
 ghost use Rattle.ended_jobs.specs.Ended.{HaveEndedFor, StopComes};
 
 use driver_hosts::Body;

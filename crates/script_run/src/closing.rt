@@ -2,9 +2,9 @@
 ghost use Rattle.std.specs.Prelude.{◌≡◌, ◌≢◌, ◌<◌, List, length, map, All, AllPairs, IfOk};
 ghost use Rattle.closed_lanes.specs.closed_ports.Closed.{HaveComeBack};
 ghost use Rattle.port_body.specs.Body.{BodyName, name_of};
-ghost use Rattle.seated_script.specs.run_setting.run_end.Ran.{RanProcess};
-ghost use Rattle.seated_script.specs.run_setting.run_seats.declared.plans.ProcessPlan.{ProcessPlan as Plan};
-ghost use Rattle.seated_script.specs.run_setting.Setting.{Setting};
+ghost use Rattle.seated_script.specs.run_opening.run_end.Ran.{RanProcess};
+ghost use Rattle.seated_script.specs.run_opening.run_seats.declared.plans.ProcessPlan.{ProcessPlan as Plan};
+ghost use Rattle.seated_script.specs.run_opening.Setting.{Setting};
 ghost use Rattle.script_run.specs.Left.{AreJobParts, CanGather, HasEndedIn, HaveJobParts, IsGathered, IsLeft};
 ghost use Rattle.script_run.specs.Parted.{ran_processes};
 

@@ -2,7 +2,7 @@ ghost use Rattle.std.specs.Prelude.{◌≡◌, All, Ok, IfOk, IfErr, MatchResult
 ghost use Rattle.std.specs.Option.{option_map};
 ghost use Rattle.driver_hosts.specs.Back.{AllCameBack};
 ghost use Rattle.driver_hosts.specs.Hosts.{IsUnused};
-ghost use Rattle.seated_script.specs.run_setting.Script.{IsRunnable};
+ghost use Rattle.seated_script.specs.run_opening.Script.{IsRunnable};
 ghost use Rattle.script_run.specs.declared.running.RunFault.TheVariants as fault;
 ghost use Rattle.script_run.specs.Ends.{IsNotRun, PollIsBack, stopped, unopened};
 ghost use Rattle.script_run.specs.Ran.{HasRun};

@@ -2,15 +2,15 @@
 use Rattle.std.proofs.Common.{◌≡◌, ◌<◌, ℕ, None, List, length, map, ap, sym, subst, ◌∙◌, get_or, refl, slice_index}
 use Rattle.std.proofs.lemmas.List.{get_or-map, length-map}
 use Rattle.driver_model.specs.Calls.{Kind}
-use Rattle.run_setting.specs.run_opening.driver_hosts.port_body.Body.{BodyView, name_of}
-use Rattle.run_setting.specs.run_opening.driver_hosts.declared.hosted.Hosted.{Hosted}
-use Rattle.run_setting.specs.run_opening.driver_hosts.declared.room.PortRoom.{PortRoom}
-use Rattle.run_setting.specs.run_opening.driver_hosts.Opening.{AreOpened, HasOpened}
-use Rattle.run_setting.specs.run_opening.declared.opening.OpenPorts.{OpenPorts}
-use Rattle.run_setting.specs.run_opening.Opened.{HaveOpened, room_of, soft_of}
-use Rattle.run_setting.specs.declared.RunScript.{RunScript}
-use Rattle.run_setting.specs.Script.{IsRunnable, size_of}
-use Rattle.run_setting.specs.Setting.{Setting, IsSetting, AreNamedIn}
+use Rattle.run_opening.specs.driver_hosts.port_body.Body.{BodyView, name_of}
+use Rattle.run_opening.specs.driver_hosts.declared.hosted.Hosted.{Hosted}
+use Rattle.run_opening.specs.driver_hosts.declared.room.PortRoom.{PortRoom}
+use Rattle.run_opening.specs.driver_hosts.Opening.{AreOpened, HasOpened}
+use Rattle.run_opening.specs.declared.opening.OpenPorts.{OpenPorts}
+use Rattle.run_opening.specs.Opened.{HaveOpened, room_of, soft_of}
+use Rattle.run_opening.specs.declared.run_script.RunScript.{RunScript}
+use Rattle.run_opening.specs.Script.{IsRunnable, size_of}
+use Rattle.run_opening.specs.Setting.{Setting, IsSetting, AreNamedIn}
 use Rattle.seated_script.specs.Seated.{IsSettingOf}
 use Rattle.seated_script.proofs.Ready.{some}
 

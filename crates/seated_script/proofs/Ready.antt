@@ -6,19 +6,19 @@ use Rattle.port_words.specs.declared.busy.view.QueueLimits.{QueueLimits}
 use Rattle.port_lanes.specs.Keys.{Key, EndsAreNumbered, end_of, is_within, sender_at}
 use Rattle.port_model.specs.declared.signal.Sender.{Sender}
 use Rattle.port_model.specs.declared.signal.Sender.TheVariants as sender
-use Rattle.run_setting.specs.run_end.process_job.process_end.Views.{LaneEnd}
-use Rattle.run_setting.specs.run_end.process_job.Jobs.{AreWithin}
-use Rattle.run_setting.specs.run_seats.run_jobs.Telling.{AreEndsOf}
-use Rattle.run_setting.specs.run_opening.run_lanes.declared.parts.PortLanes.{PortLanes}
-use Rattle.run_setting.specs.run_opening.run_lanes.declared.parts.ProcessLanes.{ProcessLanes}
-use Rattle.run_setting.specs.run_opening.run_lanes.declared.size.LaneSize.{LaneSize}
-use Rattle.run_setting.specs.run_opening.run_lanes.Opened.{CanBegin, HasLaneEnds, HasProcess}
-use Rattle.run_setting.specs.run_opening.Opened.{limits_of}
-use Rattle.run_setting.specs.run_seats.declared.plans.ProcessPlan.{ProcessPlan}
-use Rattle.run_setting.specs.run_seats.declared.plans.ProcessSteps.{ProcessSteps}
-use Rattle.run_setting.specs.run_seats.Plans.{ArePlansOf, IsPlanOf, IsReadyPlan, IsReadyWorker}
-use Rattle.run_setting.specs.run_seats.Seated.{AreReadyLanes}
-use Rattle.run_setting.specs.Setting.{Setting, IsSetting}
+use Rattle.run_opening.specs.run_end.process_job.process_end.Views.{LaneEnd}
+use Rattle.run_opening.specs.run_end.process_job.Jobs.{AreWithin}
+use Rattle.run_opening.specs.run_seats.run_jobs.Telling.{AreEndsOf}
+use Rattle.run_opening.specs.run_lanes.declared.parts.PortLanes.{PortLanes}
+use Rattle.run_opening.specs.run_lanes.declared.parts.ProcessLanes.{ProcessLanes}
+use Rattle.run_opening.specs.run_lanes.declared.size.LaneSize.{LaneSize}
+use Rattle.run_opening.specs.run_lanes.Opened.{CanBegin, HasLaneEnds, HasProcess}
+use Rattle.run_opening.specs.Opened.{limits_of}
+use Rattle.run_opening.specs.run_seats.declared.plans.ProcessPlan.{ProcessPlan}
+use Rattle.run_opening.specs.run_seats.declared.plans.ProcessSteps.{ProcessSteps}
+use Rattle.run_opening.specs.run_seats.Plans.{ArePlansOf, IsPlanOf, IsReadyPlan, IsReadyWorker}
+use Rattle.run_opening.specs.run_seats.Seated.{AreReadyLanes}
+use Rattle.run_opening.specs.Setting.{Setting, IsSetting}
 use Rattle.seated_script.specs.declared.dealing.JobParts.{JobParts}
 use Rattle.seated_script.specs.Parts.{ArePartsOf, AreParts, others_of}
 

@@ -4,16 +4,16 @@ use Rattle.std.specs.Prelude.{All, vec_capacity}
 use Rattle.std.proofs.lemmas.List.{length-map}
 use Rattle.driver_model.specs.Calls.{Kind}
 use Rattle.port_driver.specs.declared.life.Life.{Life}
-use Rattle.run_setting.specs.run_opening.driver_hosts.port_body.Body.{BodyView}
+use Rattle.run_opening.specs.driver_hosts.port_body.Body.{BodyView}
 use Rattle.port_sched.specs.declared.body.PortBody.{Ghosts}
-use Rattle.run_setting.specs.run_opening.driver_hosts.declared.hosted.Hosted.{Hosted}
-use Rattle.run_setting.specs.run_opening.driver_hosts.Hosts.{IsUnused}
-use Rattle.run_setting.specs.run_opening.run_lanes.declared.size.LaneSize.{LaneSize}
-use Rattle.run_setting.specs.run_opening.declared.opening.OpenPorts.{OpenPorts}
-use Rattle.run_setting.specs.run_opening.Opened.{HaveOpened, limits_of, room_of}
-use Rattle.run_setting.specs.run_seats.Plans.{ArePlansOf}
-use Rattle.run_setting.specs.declared.RunScript.{RunScript}
-use Rattle.run_setting.specs.Script.{IsRunnable, size_of}
+use Rattle.run_opening.specs.driver_hosts.declared.hosted.Hosted.{Hosted}
+use Rattle.run_opening.specs.driver_hosts.Hosts.{IsUnused}
+use Rattle.run_opening.specs.run_lanes.declared.size.LaneSize.{LaneSize}
+use Rattle.run_opening.specs.declared.opening.OpenPorts.{OpenPorts}
+use Rattle.run_opening.specs.Opened.{HaveOpened, limits_of, room_of}
+use Rattle.run_opening.specs.run_seats.Plans.{ArePlansOf}
+use Rattle.run_opening.specs.declared.run_script.RunScript.{RunScript}
+use Rattle.run_opening.specs.Script.{IsRunnable, size_of}
 use Rattle.seated_script.specs.declared.dealing.JobParts.{JobParts}
 use Rattle.seated_script.specs.declared.seating.SeatedScript.{SeatedScript}
 use Rattle.seated_script.specs.Opened.{WereOpened}

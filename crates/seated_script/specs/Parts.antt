@@ -1,15 +1,15 @@
 -- What the jobs of a run are made of, and a run that is seated with it.
 use Rattle.std.specs.Prelude.{◌≡◌, ℕ, List, All, length}
 use Rattle.port_sched.specs.declared.body.PortBody.{Ghosts}
-use Rattle.run_setting.specs.run_end.process_job.Jobs.{AreWithin}
-use Rattle.run_setting.specs.run_opening.declared.opening.JobLanes.{JobLanes}
-use Rattle.run_setting.specs.run_opening.Opened.{IsPartOf}
-use Rattle.run_setting.specs.run_seats.declared.plans.ProcessPlan.{ProcessPlan}
-use Rattle.run_setting.specs.run_seats.declared.seating.OtherLanes.{OtherLanes}
-use Rattle.run_setting.specs.run_seats.declared.seating.SeatedRun.{SeatedRun}
-use Rattle.run_setting.specs.run_seats.Plans.{ArePlansOf}
-use Rattle.run_setting.specs.run_seats.Seated.{IsSeated}
-use Rattle.run_setting.specs.Setting.{Setting, IsSetting}
+use Rattle.run_opening.specs.run_end.process_job.Jobs.{AreWithin}
+use Rattle.run_opening.specs.declared.opening.JobLanes.{JobLanes}
+use Rattle.run_opening.specs.Opened.{IsPartOf}
+use Rattle.run_opening.specs.run_seats.declared.plans.ProcessPlan.{ProcessPlan}
+use Rattle.run_opening.specs.run_seats.declared.seating.OtherLanes.{OtherLanes}
+use Rattle.run_opening.specs.run_seats.declared.seating.SeatedRun.{SeatedRun}
+use Rattle.run_opening.specs.run_seats.Plans.{ArePlansOf}
+use Rattle.run_opening.specs.run_seats.Seated.{IsSeated}
+use Rattle.run_opening.specs.Setting.{Setting, IsSetting}
 use Rattle.seated_script.specs.declared.dealing.JobParts.{JobParts}
 
 -- what is dealt to the jobs beside the processes

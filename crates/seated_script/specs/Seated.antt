@@ -1,19 +1,19 @@
 -- A run of a script that can begin.
 use Rattle.std.specs.Prelude.{◌≡◌, ◌≤◌, ℕ, List, [], length, map, vec_capacity}
 use Rattle.driver_model.specs.Calls.{Kind}
-use Rattle.run_setting.specs.run_opening.driver_hosts.port_body.Body.{BodyView, name_of}
+use Rattle.run_opening.specs.driver_hosts.port_body.Body.{BodyView, name_of}
 use Rattle.port_sched.specs.declared.body.PortBody.{Ghosts}
-use Rattle.run_setting.specs.run_opening.driver_hosts.declared.hosted.Hosted.{Hosted}
-use Rattle.run_setting.specs.run_opening.driver_hosts.Finding.{Found}
-use Rattle.run_setting.specs.run_opening.driver_hosts.Opening.{AreOpened}
-use Rattle.run_setting.specs.run_opening.Opened.{room_of, soft_at}
-use Rattle.run_setting.specs.run_seats.declared.plans.ProcessPlan.{ProcessPlan}
-use Rattle.run_setting.specs.run_seats.declared.seating.OtherLanes.{OtherLanes}
-use Rattle.run_setting.specs.run_seats.Plans.{ArePlansOf}
-use Rattle.run_setting.specs.run_seats.Seated.{IsSeated}
-use Rattle.run_setting.specs.declared.RunScript.{RunScript}
-use Rattle.run_setting.specs.Script.{size_of}
-use Rattle.run_setting.specs.Setting.{Setting, IsSetting, AreNamedIn}
+use Rattle.run_opening.specs.driver_hosts.declared.hosted.Hosted.{Hosted}
+use Rattle.run_opening.specs.driver_hosts.Finding.{Found}
+use Rattle.run_opening.specs.driver_hosts.Opening.{AreOpened}
+use Rattle.run_opening.specs.Opened.{room_of, soft_at}
+use Rattle.run_opening.specs.run_seats.declared.plans.ProcessPlan.{ProcessPlan}
+use Rattle.run_opening.specs.run_seats.declared.seating.OtherLanes.{OtherLanes}
+use Rattle.run_opening.specs.run_seats.Plans.{ArePlansOf}
+use Rattle.run_opening.specs.run_seats.Seated.{IsSeated}
+use Rattle.run_opening.specs.declared.run_script.RunScript.{RunScript}
+use Rattle.run_opening.specs.Script.{size_of}
+use Rattle.run_opening.specs.Setting.{Setting, IsSetting, AreNamedIn}
 use Rattle.seated_script.specs.declared.seating.SeatedScript.{SeatedScript}
 
 -- it is set up with what the script says, and with the drivers at these places

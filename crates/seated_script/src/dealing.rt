@@ -4,7 +4,7 @@ ghost use Rattle.seated_script.specs.Parts.{AreParts, IsRunOf};
 
 use outside::PollSet;
 use port_lanes::each_sender_has_an_end;
-use run_setting::{
+use run_opening::{
     Body, Driver, JobLanes, OtherLanes, ProcessSteps, SeatedRun, process_plans, seat_run,
 };
 use std::alloc::Global;

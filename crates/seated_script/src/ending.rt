@@ -1,9 +1,9 @@
 //! Ports that were opened, but whose run isn't seated, are ended.
 ghost use Rattle.std.specs.Prelude.{List};
-ghost use Rattle.run_setting.specs.run_opening.driver_hosts.Back.{AllCameBack};
+ghost use Rattle.run_opening.specs.driver_hosts.Back.{AllCameBack};
 ghost use Rattle.seated_script.specs.Opened.{WereOpened};
 
-use run_setting::{Body, Driver, Hosted, all_drivers_come_back, take_back};
+use run_opening::{Body, Driver, Hosted, all_drivers_come_back, take_back};
 use std::alloc::Global;
 
 /// Ends ports that have made no turn, and puts their drivers back. What the ports leave is given up.

@@ -5,7 +5,7 @@ mod dealing;
 mod ending;
 mod seating;
 
-pub use run_setting::{
+pub use run_opening::{
     Driver, EndedJobs, EndedProcess, FinishLeft, Hosted, OpenFault, PollerLeft, ProcessSteps,
     RunScript, SeatedRun, StartRefusal, Stop, Watch, WorkerLeft, calls_tell, waits_are_shown,
 };

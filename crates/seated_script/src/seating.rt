@@ -1,16 +1,16 @@
 ghost use Rattle.std.specs.Prelude.{◌≡◌, ◌≢◌, All, Some, IfOk, IfErr};
-ghost use Rattle.run_setting.specs.run_opening.driver_hosts.Back.{AllCameBack};
-ghost use Rattle.run_setting.specs.run_opening.driver_hosts.Hosts.{IsUnused};
-ghost use Rattle.run_setting.specs.run_opening.declared.opening.OpenFault.TheVariants as fault;
-ghost use Rattle.run_setting.specs.run_opening.Faults.{AreNotOpened};
-ghost use Rattle.run_setting.specs.Script.{IsRunnable, size_of};
+ghost use Rattle.run_opening.specs.driver_hosts.Back.{AllCameBack};
+ghost use Rattle.run_opening.specs.driver_hosts.Hosts.{IsUnused};
+ghost use Rattle.run_opening.specs.declared.opening.OpenFault.TheVariants as fault;
+ghost use Rattle.run_opening.specs.Faults.{AreNotOpened};
+ghost use Rattle.run_opening.specs.Script.{IsRunnable, size_of};
 ghost use Rattle.seated_script.specs.Seated.{IsSeatedScript};
 
 use crate::dealing::{JobParts, seat_bodies};
 use crate::ending::end_opened;
 use outside::PollSet;
 use port_sched::PortBody;
-use run_setting::{
+use run_opening::{
     Body, Driver, EndedProcess, Hosted, LaneSize, OpenFault, OpenPorts, RunScript, SeatedRun,
     open_ports_of,
 };

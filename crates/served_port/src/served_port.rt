@@ -7,7 +7,7 @@ ghost use Rattle.port_events.specs.port_history.Jobs.{is_done};
 ghost use Rattle.port_events.specs.port_history.Laws.{is_given_back};
 ghost use Rattle.served_port.specs.View.{IsAt};
 
-use crate::{Driver, Links};
+use crate::{Driver, Links, PortEnds};
 use port_events::PortEvents;
 use port_jobs::PortJobs;
 use port_state::PortState;
@@ -16,11 +16,21 @@ use std::marker::Model;
 /// A port, its driver, the driver's events and its jobs.
 ///
 /// Each call that puts something to the poller or to a worker may spin while another thread is in a call of the same lane.
-#[derive(Drop)]
 pub struct ServedPort<D: Driver> {
     pub(crate) state: PortState<D>,
     pub(crate) events: PortEvents,
     pub(crate) jobs: PortJobs,
+}
+
+// Its parts go by one call, which is proved once and not in each function that may let one go.
+impl<D: Driver> Drop for ServedPort<D> {
+    fn drop(self) {
+        let Self {
+            state: _,
+            events: _,
+            jobs: _,
+        } = self;
+    }
 }
 
 impl<D: Driver> Model for ServedPort<D> {
@@ -74,5 +84,26 @@ impl<D: Driver> ServedPort<D> {
             → result ≡ (s.stopped && list_all is_given_back s.events && list_all (λ job. is_done job.number s.done) s.jobs) }
     {
         self.state.is_stopped() && self.events.is_given_back() && self.jobs.are_done()
+    }
+
+    /// The driver, and where the port put what it asked of others.
+    pub fn into_parts(self) -> (D, PortEnds)
+        ensures kind { D.kind result.0 ≡ self.state.service.kind }
+        ensures own { D.own result.0 ≡ self.state.service.own }
+        ensures stage { D.stage result.0 ≡ self.state.service.stage }
+        ensures program { D.program result.0 ≡ self.state.service.program }
+        ensures faults { D.faults result.0 ≡ self.state.service.faults }
+        ensures ends { result.1 ≡ record { asks = self.events.asks; pool = self.jobs.lanes } }
+    {
+        let Self {
+            state,
+            events,
+            jobs,
+        } = self;
+        let ends = PortEnds {
+            asks: events.into_asks(),
+            pool: jobs.into_pool(),
+        };
+        (state.into_driver(), ends)
     }
 }

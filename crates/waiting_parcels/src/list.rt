@@ -16,7 +16,6 @@ const MOST: u64 = 0x8000_0000_0000_0000;
 /// A sender is a process, by its number from 0. `reserve` makes a place for the next task, whoever sends it, and
 /// `push` uses it up. `take_first` looks at the first task of each sender that waits, and at no other; the other
 /// calls look at no task of a queue, and `reserve` moves tasks only where the queue of one sender has to grow.
-#[derive(Drop)]
 pub struct WaitingList {
     // A queue for each sender.
     queues: Vec<VecDeque<Arrival>>,
@@ -28,6 +27,19 @@ pub struct WaitingList {
     next: u64,
     // The task that came last, until `reserve` puts it into its queue.
     newest: Option<Item<Parcel>>,
+}
+
+// Its parts go by one call, which is proved once and not in each function that may let one go.
+impl Drop for WaitingList {
+    fn drop(self) {
+        let Self {
+            queues: _,
+            waiting: _,
+            queued: _,
+            next: _,
+            newest: _,
+        } = self;
+    }
 }
 
 impl Model for WaitingList {

@@ -1,5 +1,5 @@
 use Rattle.std.proofs.Common.{length, sym}
-use Rattle.run_setting.specs.run_seats.Plans.{ArePlansOf}
+use Rattle.run_opening.specs.run_seats.Plans.{ArePlansOf}
 use Rattle.seated_script.proofs.Ready.{others-ready, plans-ready}
 use Rattle.seated_script.proofs.dealing.seat_bodies.Goals as goal
 

@@ -1,7 +1,7 @@
 use Rattle.std.proofs.Common.{ap, refl}
 use Rattle.std.proofs.lemmas.List.{get_or_default}
-use Rattle.run_setting.specs.run_opening.driver_hosts.port_body.Body.{name_of}
-use Rattle.run_setting.specs.run_opening.driver_hosts.Laws.{KeepNames}
+use Rattle.run_opening.specs.driver_hosts.port_body.Body.{name_of}
+use Rattle.run_opening.specs.driver_hosts.Laws.{KeepNames}
 use Rattle.seated_script.proofs.ending.end_opened.Goals as goal
 
 pub take_back-requires-clause-within : goal.take_back-requires-clause-within

@@ -12,7 +12,7 @@ use Rattle.run_end.specs.run_lanes.declared.parts.ProcessLanes.{ProcessLanes}
 use Rattle.run_end.specs.run_lanes.declared.parts.WorkerLanes.{WorkerLanes}
 use Rattle.run_seats.specs.declared.plans.ProcessSteps.{ProcessSteps}
 use Rattle.run_seats.specs.threaded_jobs.declared.parting.WorkerLeft.{WorkerLeft}
-use Rattle.run_setting.specs.Setting.{Setting}
+use Rattle.run_opening.specs.Setting.{Setting}
 
 -- the process of this number had these lanes and these steps to begin with, and had made no call
 pub record IsSetUp (s : Setting) (number : ℕ) (lanes : ProcessLanes) (own_steps : ProcessSteps) (process : RanProcess) : Type 0 where

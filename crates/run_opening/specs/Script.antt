@@ -3,7 +3,7 @@ use Rattle.std.specs.Prelude.{◌<◌, ◌≤◌, All, length}
 use Rattle.run_end.specs.process_job.Jobs.{AreWithin}
 use Rattle.run_end.specs.run_lanes.declared.size.LaneSize.{LaneSize}
 use Rattle.run_opening.specs.Opened.{AreDeclared}
-use Rattle.run_setting.specs.declared.RunScript.{RunScript}
+use Rattle.run_opening.specs.declared.run_script.RunScript.{RunScript}
 
 -- how many processes and workers it has, and for how many rows its ports get room
 abbrev pub size_of : RunScript → LaneSize

@@ -1,11 +1,11 @@
 -- What a run is set up with, and the names of its bodies.
 use Rattle.std.specs.Prelude.{◌≡◌, ◌<◌, ℕ, Bool, List, length, map, slice_index_or}
-use Rattle.run_opening.specs.driver_model.Calls.{Kind}
+use Rattle.driver_hosts.specs.driver_model.Calls.{Kind}
 use Rattle.run_end.specs.port_words.declared.busy.view.QueueLimits.{QueueLimits}
 use Rattle.script_plan.specs.declared.decl.PortDecl.{PortDecl}
-use Rattle.run_opening.specs.port_body.Body.{BodyName}
-use Rattle.run_opening.specs.port_body.Openings.{IsNameOf}
-use Rattle.run_opening.specs.driver_hosts.Opening.{place_of}
+use Rattle.driver_hosts.specs.port_body.Body.{BodyName}
+use Rattle.driver_hosts.specs.port_body.Openings.{IsNameOf}
+use Rattle.driver_hosts.specs.Opening.{place_of}
 use Rattle.run_end.specs.run_lanes.declared.size.LaneSize.{LaneSize}
 use Rattle.run_end.specs.run_lanes.declared.parts.PortLanes.{PortLanes}
 use Rattle.run_end.specs.run_lanes.declared.parts.RunLanes.{RunLanes}
