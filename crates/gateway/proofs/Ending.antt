@@ -8,11 +8,11 @@ use Rattle.port_driver.specs.declared.life.Life.{Life}
 use Rattle.driver_hosts.specs.declared.hosted.Hosted.{Hosted}
 use Rattle.driver_hosts.specs.Back.{AllCameBack}
 use Rattle.driver_hosts.specs.Hosts.{IsUnused}
-use Rattle.load_summary.specs.run_output.run_opening.Faults.{LacksAt, RefusedAt}
-use Rattle.load_summary.specs.run_output.declared.writing.OutputFault.{OutputFault}
-use Rattle.load_summary.specs.run_output.declared.writing.OutputFault.TheVariants as output
-use Rattle.load_summary.specs.run_output.Ends.{SinkView}
-use Rattle.load_summary.specs.run_output.Reported.{report_of}
+use Rattle.run_laws.specs.run_output.run_opening.Faults.{LacksAt, RefusedAt}
+use Rattle.run_laws.specs.run_output.declared.writing.OutputFault.{OutputFault}
+use Rattle.run_laws.specs.run_output.declared.writing.OutputFault.TheVariants as output
+use Rattle.run_laws.specs.run_output.Ends.{SinkView}
+use Rattle.run_laws.specs.run_output.Reported.{report_of}
 use Rattle.run_report.specs.declared.cause.Cause.{Cause}
 use Rattle.run_report.specs.declared.cause.Cause.TheVariants.{Done, Usage, Script, ReadFault, WriteFault, NoDriver, StartRefused, PollFault, NoMemory, Illegal, Limit, JournalText}
 use Rattle.run_report.specs.declared.report.Report.{Report}
@@ -23,12 +23,12 @@ use Rattle.script_input.proofs.Contents.{all-done}
 use Rattle.script_input.specs.Words.{AskedRun, Source, FromFile, FromLoad}
 use Rattle.script_plan.specs.declared.decl.PortDecl.{PortDecl}
 use Rattle.script_plan.specs.Plan.{Plan}
-use Rattle.load_summary.specs.run_output.script_run.declared.running.RunFault.{RunFault}
-use Rattle.load_summary.specs.run_output.script_run.declared.running.RunFault.TheVariants as ran
-use Rattle.load_summary.specs.run_output.script_run.declared.running.ScriptRan.{ScriptRan}
-use Rattle.load_summary.specs.run_output.script_run.Ends.{HaveAllServed, IsNotRun}
-use Rattle.load_summary.specs.run_output.script_run.Ran.{HasRun}
-use Rattle.load_summary.specs.run_output.saved_output.Served.{ProgramsServed}
+use Rattle.run_laws.specs.run_output.script_run.declared.running.RunFault.{RunFault}
+use Rattle.run_laws.specs.run_output.script_run.declared.running.RunFault.TheVariants as ran
+use Rattle.run_laws.specs.run_output.script_run.declared.running.ScriptRan.{ScriptRan}
+use Rattle.run_laws.specs.run_output.script_run.Ends.{HaveAllServed, IsNotRun}
+use Rattle.run_laws.specs.run_output.script_run.Ran.{HasRun}
+use Rattle.run_laws.specs.Served.{ProgramsServed}
 use Rattle.gateway.specs.Fixed.{AnswersAreFixed, IsSummaryOf}
 use Rattle.gateway.specs.Run.{Run, AskFor, PlanFound, HasInput}
 use Rattle.gateway.specs.Ran.{PutOut, Ran}

@@ -3,12 +3,12 @@ use Rattle.std.proofs.Common.{ℕ, List, Option, Result, subst}
 use Rattle.driver_model.specs.Calls.{Kind, Own}
 use Rattle.driver_model.specs.Programs.{ToldProgram}
 use Rattle.driver_hosts.specs.declared.hosted.Hosted.{Hosted}
-use Rattle.load_summary.specs.Law.{SummaryIsOfNumber}
-use Rattle.load_summary.specs.run_output.Reported.{report_of}
-use Rattle.load_summary.specs.run_output.echoed_commands.Echoed.{AllIsEchoed, CommandsAreEchoed, NoneIsRefused}
-use Rattle.load_summary.specs.run_output.saved_output.Saved.{OutputIsSavedIn}
-use Rattle.load_summary.specs.run_output.script_run.declared.running.ScriptRan.{ScriptRan}
-use Rattle.load_summary.specs.run_output.script_run.Ran.{HasRun}
+use Rattle.run_laws.specs.Law.{SummaryIsOfNumber}
+use Rattle.run_laws.specs.run_output.Reported.{report_of}
+use Rattle.run_laws.specs.Echoed.{AllIsEchoed, CommandsAreEchoed, NoneIsRefused}
+use Rattle.run_laws.specs.Saved.{OutputIsSavedIn}
+use Rattle.run_laws.specs.run_output.script_run.declared.running.ScriptRan.{ScriptRan}
+use Rattle.run_laws.specs.run_output.script_run.Ran.{HasRun}
 use Rattle.port_driver.specs.declared.life.Life.{Life}
 use Rattle.script_input.specs.declared.input.RunInput.{RunInput}
 use Rattle.script_input.specs.Files.{FilesView}

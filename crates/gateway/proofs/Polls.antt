@@ -5,17 +5,17 @@ use Rattle.outside.specs.Causes.{Rose}
 use Rattle.driver_model.specs.Calls.{Kind}
 use Rattle.port_driver.specs.declared.life.Life.{Life}
 use Rattle.driver_hosts.specs.declared.hosted.Hosted.{Hosted}
-use Rattle.load_summary.specs.run_output.Ends.{SinkView}
+use Rattle.run_laws.specs.run_output.Ends.{SinkView}
 use Rattle.run_report.specs.declared.cause.Cause.{Cause}
 use Rattle.run_report.specs.declared.cause.Cause.TheVariants.{Done, Usage, Script, ReadFault, WriteFault, NoDriver, StartRefused, PollFault, NoMemory, Illegal, Limit, JournalText}
 use Rattle.run_report.specs.declared.report.Report.{Report}
 use Rattle.script_input.specs.declared.input.RunWrites.{RunWrites}
 use Rattle.script_input.specs.Files.{FilesView}
 use Rattle.script_input.specs.Words.{AskedRun, Source}
-use Rattle.load_summary.specs.run_output.script_run.declared.running.RunFault.{RunFault}
-use Rattle.load_summary.specs.run_output.script_run.declared.running.RunFault.TheVariants as ran
-use Rattle.load_summary.specs.run_output.script_run.declared.running.ScriptRan.{ScriptRan}
-use Rattle.load_summary.specs.run_output.script_run.Ends.{PollIsBack}
+use Rattle.run_laws.specs.run_output.script_run.declared.running.RunFault.{RunFault}
+use Rattle.run_laws.specs.run_output.script_run.declared.running.RunFault.TheVariants as ran
+use Rattle.run_laws.specs.run_output.script_run.declared.running.ScriptRan.{ScriptRan}
+use Rattle.run_laws.specs.run_output.script_run.Ends.{PollIsBack}
 use Rattle.gateway.specs.Causes.{PollEnds}
 use Rattle.gateway.specs.Stages.{run_cause, InputEnds, WriteEnds}
 

@@ -5,7 +5,7 @@ use Rattle.std.specs.Result.{IsErrAnd}
 use Rattle.driver_model.specs.Calls.{Kind}
 use Rattle.port_driver.specs.declared.life.Life.{Life}
 use Rattle.driver_hosts.specs.declared.hosted.Hosted.{Hosted}
-use Rattle.load_summary.specs.run_output.run_opening.Faults.{LacksAt}
+use Rattle.run_laws.specs.run_output.run_opening.Faults.{LacksAt}
 use Rattle.run_report.specs.declared.cause.Cause.{Cause}
 use Rattle.run_report.specs.declared.cause.Cause.TheVariants.{Done, Usage, Script, ReadFault, WriteFault, NoDriver, StartRefused, PollFault, NoMemory, Illegal, Limit, JournalText}
 use Rattle.script_input.specs.program_io.Cause.{input_cause}

@@ -11,7 +11,7 @@ use Rattle.port_model.specs.declared.row.Row.{Row}
 use Rattle.port_model.specs.declared.row.Row.TheVariants.{Handled, Late, Listed, Resumed, Mark}
 use Rattle.port_model.specs.declared.signal.Sender.TheVariants as sender
 use Rattle.gateway.proofs.Paired.{paired-many, paired-at}
-use Rattle.load_summary.specs.run_output.Reported.{port_report, process_report, report_of}
+use Rattle.run_laws.specs.run_output.Reported.{port_report, process_report, report_of}
 use Rattle.run_report.specs.Ports.{IsFrom as IsFromProcess, HasEnded, opening_of as plain_opening}
 use Rattle.run_report.proofs.Same.{same_counts}
 use Rattle.script_input.specs.declared.input.PortName.{PortName}
@@ -23,9 +23,9 @@ use Rattle.script_plan.specs.declared.decl.PortDecl.{PortDecl}
 use Rattle.script_plan.specs.declared.decl.ProcessDecl.{ProcessDecl}
 use Rattle.script_plan.specs.declared.decl.SaveDecl.{SaveDecl}
 use Rattle.script_plan.specs.Plan.{Plan}
-use Rattle.load_summary.specs.run_output.script_run.declared.running.PortLeft.{PortLeft}
-use Rattle.load_summary.specs.run_output.script_run.declared.running.ScriptRan.{ScriptRan}
-use Rattle.load_summary.specs.run_output.script_run.Ran.{HasRun, PortHolds, IsFrom, history_of, opening_of}
+use Rattle.run_laws.specs.run_output.script_run.declared.running.PortLeft.{PortLeft}
+use Rattle.run_laws.specs.run_output.script_run.declared.running.ScriptRan.{ScriptRan}
+use Rattle.run_laws.specs.run_output.script_run.Ran.{HasRun, PortHolds, IsFrom, history_of, opening_of}
 use Rattle.gateway.specs.Run.{HasInput}
 use Rattle.gateway.proofs.Closing.{finished-has-end}
 

@@ -20,7 +20,7 @@ use Rattle.driver_hosts.specs.declared.hosted.Hosted.{Hosted}
 use Rattle.driver_hosts.specs.Finding.{HasDrivers}
 use Rattle.driver_hosts.specs.Hosts.{is_named}
 use Rattle.gateway_script.specs.Script.{script}
-use Rattle.load_summary.specs.run_output.run_opening.Faults.{IsOfDriver, LacksAt, RefusedAt}
+use Rattle.run_laws.specs.run_output.run_opening.Faults.{IsOfDriver, LacksAt, RefusedAt}
 use Rattle.run_report.specs.declared.cause.Cause.{Cause}
 use Rattle.run_report.specs.declared.cause.Cause.TheVariants.{Done, Usage, Script, ReadFault, WriteFault, NoDriver, StartRefused, PollFault, NoMemory, Illegal, Limit, JournalText}
 use Rattle.script_input.specs.Contents.{file_of, file_names, named, total, StopsAt}

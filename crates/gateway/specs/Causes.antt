@@ -12,9 +12,9 @@ use Rattle.driver_hosts.specs.declared.hosted.Hosted.{Hosted}
 use Rattle.driver_hosts.specs.Back.{AllCameBack}
 use Rattle.driver_hosts.specs.Finding.{HasDrivers}
 use Rattle.gateway_script.specs.Script.{script}
-use Rattle.load_summary.specs.run_output.run_opening.Faults.{LacksAt, RefusedAt}
-use Rattle.load_summary.specs.run_output.declared.writing.OutputFault.TheVariants as output
-use Rattle.load_summary.specs.run_output.script_run.Ends.{HaveAllServed}
+use Rattle.run_laws.specs.run_output.run_opening.Faults.{LacksAt, RefusedAt}
+use Rattle.run_laws.specs.run_output.declared.writing.OutputFault.TheVariants as output
+use Rattle.run_laws.specs.run_output.script_run.Ends.{HaveAllServed}
 use Rattle.run_report.specs.declared.cause.Cause.{Cause}
 use Rattle.run_report.specs.declared.cause.Cause.TheVariants.{Done, Usage, Script, ReadFault, WriteFault, NoDriver, StartRefused, PollFault, NoMemory, Illegal, Limit, JournalText}
 use Rattle.run_report.specs.declared.report.Report.{Report}

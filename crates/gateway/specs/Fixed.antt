@@ -1,12 +1,12 @@
 -- What of a run is the same for every schedule, however many schedulers and workers it has.
 use Rattle.std.specs.Prelude.{◌≡◌, ◌<◌, ℕ, length, slice_index_or}
-use Rattle.load_summary.specs.Summary.{load_summary}
-use Rattle.load_summary.specs.run_output.echoed_commands.Echoed.{EchoesTo, EchoesAllTo, RefusesNoneOf}
-use Rattle.load_summary.specs.run_output.echoed_commands.Sending.{IsEchoPort}
-use Rattle.load_summary.specs.run_output.saved_output.Saved.{IsSaved, ServesProgram}
-use Rattle.load_summary.specs.run_output.script_run.declared.running.PortLeft.{PortLeft}
-use Rattle.load_summary.specs.run_output.script_run.declared.running.ProcessLeft.{ProcessLeft}
-use Rattle.load_summary.specs.run_output.script_run.declared.running.ScriptRan.{ScriptRan}
+use Rattle.run_laws.specs.Summary.{load_summary}
+use Rattle.run_laws.specs.Echoed.{EchoesTo, EchoesAllTo, RefusesNoneOf}
+use Rattle.run_laws.specs.Sending.{IsEchoPort}
+use Rattle.run_laws.specs.Saved.{IsSaved, ServesProgram}
+use Rattle.run_laws.specs.run_output.script_run.declared.running.PortLeft.{PortLeft}
+use Rattle.run_laws.specs.run_output.script_run.declared.running.ProcessLeft.{ProcessLeft}
+use Rattle.run_laws.specs.run_output.script_run.declared.running.ScriptRan.{ScriptRan}
 use Rattle.run_report.specs.declared.report.Report.{Report}
 use Rattle.run_report.specs.Report.{summary_of}
 use Rattle.script_input.specs.run_opening.declared.run_script.RunScript.{RunScript}

@@ -3,10 +3,10 @@ use Rattle.std.specs.Prelude.{◌≡◌, ℕ, Option, Result}
 use Rattle.driver_model.specs.Calls.{Kind, Own}
 use Rattle.driver_model.specs.Programs.{ToldProgram}
 use Rattle.port_driver.specs.declared.life.Life.{Life}
-use Rattle.load_summary.specs.run_output.declared.writing.OutputFault.{OutputFault}
-use Rattle.load_summary.specs.run_output.Ends.{OutputEnds, SinkView, TextEnds}
-use Rattle.load_summary.specs.run_output.Reported.{report_of}
-use Rattle.load_summary.specs.run_output.Writes.{writes_of}
+use Rattle.run_laws.specs.run_output.declared.writing.OutputFault.{OutputFault}
+use Rattle.run_laws.specs.run_output.Ends.{OutputEnds, SinkView, TextEnds}
+use Rattle.run_laws.specs.run_output.Reported.{report_of}
+use Rattle.run_laws.specs.run_output.Writes.{writes_of}
 use Rattle.run_report.specs.declared.report.Report.{Report}
 use Rattle.run_report.specs.Report.{summary_of, text_of}
 use Rattle.script_input.specs.declared.input.RunInput.{RunInput}
@@ -14,9 +14,9 @@ use Rattle.script_input.specs.declared.input.RunWrites.{RunWrites}
 use Rattle.script_input.specs.Files.{FilesView, NothingWritten}
 use Rattle.script_input.specs.Words.{Source, FromFile, FromLoad}
 use Rattle.script_plan.specs.Plan.{Plan}
-use Rattle.load_summary.specs.run_output.script_run.declared.running.ScriptRan.{ScriptRan}
-use Rattle.load_summary.specs.run_output.script_run.Ran.{HasRun}
-use Rattle.load_summary.specs.run_output.saved_output.Served.{ProgramsServed}
+use Rattle.run_laws.specs.run_output.script_run.declared.running.ScriptRan.{ScriptRan}
+use Rattle.run_laws.specs.run_output.script_run.Ran.{HasRun}
+use Rattle.run_laws.specs.Served.{ProgramsServed}
 use Rattle.gateway.specs.Fixed.{AnswersAreFixed, IsSummaryOf}
 use Rattle.gateway.specs.Run.{Run, HasInput}
 

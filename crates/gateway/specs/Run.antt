@@ -2,7 +2,7 @@
 use Rattle.std.specs.Prelude.{◌≡◌, ℕ, List, Option, Result, Ok}
 use Rattle.driver_hosts.specs.declared.hosted.Hosted.{Hosted}
 use Rattle.script_plan.specs.Plan.{Plan, IsPlan}
-use Rattle.load_summary.specs.run_output.Ends.{SinkView}
+use Rattle.run_laws.specs.run_output.Ends.{SinkView}
 use Rattle.script_input.specs.declared.input.RunInput.{RunInput}
 use Rattle.script_input.specs.Contents.{HaveRead, SomeRead}
 use Rattle.script_input.specs.Files.{FilesView}

@@ -3,9 +3,9 @@ use Rattle.std.specs.Prelude.{◌≡◌, ℕ, ◌⊎◌, List, Option, Some, Non
 use Rattle.driver_model.specs.Calls.{Kind}
 use Rattle.port_driver.specs.declared.life.Life.{Life}
 use Rattle.driver_hosts.specs.declared.hosted.Hosted.{Hosted}
-use Rattle.load_summary.specs.run_output.run_opening.Faults.{LacksAt}
-use Rattle.load_summary.specs.run_output.declared.writing.OutputFault.TheVariants as output
-use Rattle.load_summary.specs.run_output.Ends.{SinkView}
+use Rattle.run_laws.specs.run_output.run_opening.Faults.{LacksAt}
+use Rattle.run_laws.specs.run_output.declared.writing.OutputFault.TheVariants as output
+use Rattle.run_laws.specs.run_output.Ends.{SinkView}
 use Rattle.run_report.specs.declared.cause.Cause.{Cause}
 use Rattle.run_report.specs.declared.cause.Cause.TheVariants.{Done, Usage, Script, ReadFault, WriteFault, NoDriver, StartRefused, PollFault, NoMemory, Limit}
 use Rattle.run_report.specs.declared.report.Report.{Report}
@@ -17,8 +17,8 @@ use Rattle.script_input.specs.Script.{ScriptEnds}
 use Rattle.script_input.specs.Words.{AskedRun, Source, FromFile, FromLoad}
 use Rattle.script_plan.specs.declared.decl.PortDecl.{PortDecl}
 use Rattle.script_plan.specs.Plan.{Plan}
-use Rattle.load_summary.specs.run_output.script_run.declared.running.RunFault.{RunFault}
-use Rattle.load_summary.specs.run_output.script_run.declared.running.RunFault.TheVariants as ran
+use Rattle.run_laws.specs.run_output.script_run.declared.running.RunFault.{RunFault}
+use Rattle.run_laws.specs.run_output.script_run.declared.running.RunFault.TheVariants as ran
 use Rattle.gateway.specs.Run.{PlanFound}
 use Rattle.gateway.specs.Ran.{PutOut}
 use Rattle.gateway.specs.Causes.{IsNoScript, ScriptUnread, ScriptOver, StepUnread, StepOver}

@@ -1,7 +1,7 @@
 ghost use Rattle.std.specs.Prelude.{◌≡◌, map, string_bytes, All};
 ghost use Rattle.std.specs.Option.{option_map};
 ghost use Rattle.driver_hosts.specs.Hosts.{IsUnused};
-ghost use Rattle.load_summary.specs.run_output.Ends.{sink_view};
+ghost use Rattle.run_laws.specs.run_output.Ends.{sink_view};
 ghost use Rattle.run_report.specs.Cause.{status_of};
 ghost use Rattle.script_input.specs.Files.{files_view};
 ghost use Rattle.script_input.specs.Words.{asked};
@@ -11,11 +11,11 @@ ghost use Rattle.gateway.specs.Stages.{run_cause};
 use crate::preparing::{Prepared, prepare};
 use crate::writing::{Output, Written, write_left};
 use driver_hosts::{Driver, Hosted};
-use load_summary::{
+use outside::{Files, Gate, PollSet, Sink};
+use run_laws::{
     RunEnd, RunFault, commands_are_echoed, output_is_saved_in_every_run,
     programs_are_served_in_every_run, run_script, summary_is_of_number,
 };
-use outside::{Files, Gate, PollSet, Sink};
 use run_report::{Cause, Report};
 use script_input::RunInput;
 use std::alloc::Global;

@@ -1,14 +1,14 @@
 ghost use Rattle.std.specs.Prelude.{◌<◌, ◌≤◌, length, All};
-ghost use Rattle.load_summary.specs.run_output.Ends.{sink_view};
-ghost use Rattle.load_summary.specs.run_output.Reported.{report_of as reported};
+ghost use Rattle.run_laws.specs.run_output.Ends.{sink_view};
+ghost use Rattle.run_laws.specs.run_output.Reported.{report_of as reported};
 ghost use Rattle.run_report.specs.Ports.{HasEnded};
 ghost use Rattle.script_input.specs.Files.{files_view};
 ghost use Rattle.script_input.specs.Words.{source_of};
 ghost use Rattle.gateway.specs.Ran.{PutOut};
 ghost use Rattle.gateway.specs.Stages.{WriteEnds};
 
-use load_summary::{OutputFault, ScriptRan, report_of, write_output, write_summary};
 use outside::{Files, Sink};
+use run_laws::{OutputFault, ScriptRan, report_of, write_output, write_summary};
 use run_report::{Cause, Report};
 use script_input::{RunNames, RunSource, RunWrites};
 use std::alloc::Global;

@@ -6,9 +6,9 @@ use Rattle.run_report.specs.declared.report.ProcessRecord.{ProcessRecord}
 use Rattle.run_report.specs.declared.report.Report.{Report}
 use Rattle.script_input.specs.declared.input.PortName.{PortName}
 use Rattle.script_input.specs.declared.input.RunNames.{RunNames}
-use Rattle.saved_output.specs.script_run.declared.running.PortLeft.{PortLeft}
-use Rattle.saved_output.specs.script_run.declared.running.ProcessLeft.{ProcessLeft}
-use Rattle.saved_output.specs.script_run.declared.running.ScriptRan.{ScriptRan}
+use Rattle.script_run.specs.declared.running.PortLeft.{PortLeft}
+use Rattle.script_run.specs.declared.running.ProcessLeft.{ProcessLeft}
+use Rattle.script_run.specs.declared.running.ScriptRan.{ScriptRan}
 
 -- a port as it is declared, with what it left
 abbrev pub port_report : PortName → PortLeft → PortReport

@@ -5,8 +5,5 @@ mod reporting;
 mod writing;
 
 pub use reporting::report_of;
-pub use saved_output::{
-    RunEnd, RunFault, ScriptRan, commands_are_echoed, output_is_saved_in_every_run,
-    programs_are_served_in_every_run, run_script,
-};
+pub use script_run::{RunEnd, RunFault, ScriptRan, run_script};
 pub use writing::{OutputFault, write_output, write_summary};

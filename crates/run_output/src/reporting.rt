@@ -4,8 +4,8 @@ ghost use Rattle.run_output.specs.Reported.{port_report, port_reports, process_r
 use no_memory::NoMemory;
 use port_model::{Items, Reason};
 use run_report::{Mails, PortReport, ProcessRecord, Report};
-use saved_output::{PortLeft, ProcessLeft, ScriptRan};
 use script_input::{PortName, RunNames};
+use script_run::{PortLeft, ProcessLeft, ScriptRan};
 use std::alloc::Global;
 
 /// A port as it is declared, with what it left.

@@ -1,0 +1,15 @@
+//! What is the same in each run of a script, whatever the schedule: what the owner of a port has to save of it, what its program took and gave, and the summary of a load.
+//!
+//! These are laws of the definitions alone, as contracts of functions that do nothing.
+#![tactic(auto)]
+
+mod echoed;
+mod saved;
+mod summary;
+
+pub use echoed::commands_are_echoed;
+pub use run_output::{
+    OutputFault, RunEnd, RunFault, ScriptRan, report_of, run_script, write_output, write_summary,
+};
+pub use saved::{output_is_saved_in_every_run, programs_are_served_in_every_run};
+pub use summary::summary_is_of_number;

@@ -1,5 +1,0 @@
-use Rattle.saved_output.proofs.Programs.{programs-served-in}
-use Rattle.saved_output.proofs.programs_are_served_in_every_run.Goals as goal
-
-pub returns : goal.returns
-returns g c = programs-served-in _ _ _ _ _
