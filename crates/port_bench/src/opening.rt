@@ -138,11 +138,6 @@ fn opened<D: Driver, R: Wait>(rt: &R, alloc: Global, parts: BodyParts<D>) -> Res
     }
 }
 
-/// Drops a port, which first becomes its parts, since to drop it whole costs the proof more.
-fn close<D: Driver>(body: Body<D>) {
-    let _end = body.into_end();
-}
-
 /// Does a work on the open port of these parts.
 fn on_body<D: Driver, R: Clock + Wait>(
     rt: &R,
@@ -157,9 +152,7 @@ fn on_body<D: Driver, R: Clock + Wait>(
     requires fits { FitsPlace (record { number = 0; owner = 0; processes = 9; rows = 0 }) parts.workers parts.port.outlets parts.lane }
 {
     let mut body = opened(rt, alloc, parts)?;
-    let time = timed(rt, &mut body, crew, work, commands);
-    close(body);
-    time
+    timed(rt, &mut body, crew, work, commands)
 }
 
 /// Opens a port with this driver, whose message queue has limits or none, and does a work on it.
