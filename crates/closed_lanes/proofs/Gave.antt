@@ -4,8 +4,8 @@ use Rattle.run_opening.specs.driver_hosts.port_body.Body.{BodyView}
 use Rattle.closed_ports.specs.Closed.{ArePortsOfLanes}
 use Rattle.run_end.specs.Ran.{RanProcess}
 use Rattle.run_opening.specs.Setting.{Setting}
-use Rattle.closed_ports.specs.settled_ports.Ends.{AreOfBodies, LaneEnd}
-use Rattle.closed_ports.specs.settled_ports.Laws.{AreAllColumns}
+use Rattle.closed_ports.specs.Ends.{AreOfBodies, LaneEnd}
+use Rattle.closed_ports.specs.Laws.{AreAllColumns}
 use Rattle.closed_lanes.specs.declared.closing.LaneEnds.{LaneEnds}
 use Rattle.closed_lanes.proofs.LaneColumns.{IsColumnOf}
 use Rattle.closed_lanes.proofs.Lists.{some-of}

@@ -8,3 +8,5 @@ mod Polled
 mod Workers
 mod Ports
 mod Parts
+mod Peers
+mod Together

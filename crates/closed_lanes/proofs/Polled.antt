@@ -9,8 +9,8 @@ use Rattle.run_opening.specs.driver_hosts.port_body.Body.{BodyView, name_of}
 use Rattle.run_opening.specs.driver_hosts.port_body.LanePort.{rows_from}
 use Rattle.run_opening.specs.driver_hosts.declared.ending.EndedPort.{EndedPort}
 use Rattle.closed_ports.specs.Closed.{AreClosed}
-use Rattle.closed_ports.specs.settled_ports.Ends.{LaneEnd}
-use Rattle.closed_ports.specs.settled_ports.Laws.{ends_at}
+use Rattle.closed_ports.specs.Ends.{LaneEnd}
+use Rattle.closed_ports.specs.Laws.{ends_at}
 use Rattle.run_end.specs.Ran.{RanProcess}
 use Rattle.run_opening.specs.Setting.{Setting}
 use Rattle.run_opening.specs.run_seats.threaded_jobs.declared.parting.WorkerLeft.{WorkerLeft}

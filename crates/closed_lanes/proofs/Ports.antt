@@ -18,7 +18,7 @@ use Rattle.run_opening.specs.driver_hosts.Returning.{AreReturned}
 use Rattle.run_opening.specs.driver_hosts.port_driver.declared.life.Life.{Life}
 use Rattle.run_end.specs.Ran.{RanProcess}
 use Rattle.run_opening.specs.Setting.{Setting}
-use Rattle.closed_ports.specs.settled_ports.Ends.{LaneEnd}
+use Rattle.closed_ports.specs.Ends.{LaneEnd}
 use Rattle.closed_ports.specs.told_jobs.Runs.{WorkerRun}
 use Rattle.closed_ports.specs.told_jobs.Told.{WorkersTell}
 use Rattle.closed_lanes.specs.Closed.{AreClosedIn, HasStopped, IsClosedPort, history_of}

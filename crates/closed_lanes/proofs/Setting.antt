@@ -9,7 +9,7 @@ use Rattle.run_lanes.specs.declared.parts.WorkerLanes.{WorkerLanes}
 use Rattle.run_lanes.specs.Opened.{HasProcess, HasWorker}
 use Rattle.run_opening.specs.Setting.{Setting, IsSetting, AreNamedIn}
 use Rattle.run_opening.specs.Jobs.{HaveRunIn, HasWorkedLane}
-use Rattle.closed_ports.specs.settled_ports.Ends.{LaneEnd}
+use Rattle.closed_ports.specs.Ends.{LaneEnd}
 use Rattle.run_opening.specs.run_seats.threaded_jobs.declared.parting.WorkerLeft.{WorkerLeft}
 use Rattle.closed_lanes.specs.Closed.{GiveBack}
 use Rattle.closed_lanes.specs.Parts.{all_columns}

@@ -18,7 +18,7 @@ use Rattle.run_lanes.specs.Ends.{AreLaneRows, AreOfLanes, HaveEmptied, made_by, 
 use Rattle.run_lanes.specs.Opened.{HasWorker}
 use Rattle.run_opening.specs.Setting.{Setting}
 use Rattle.run_opening.specs.driver_hosts.served_port.View.{EndName, end_name, end_names}
-use Rattle.closed_ports.specs.settled_ports.Ends.{LaneEnd}
+use Rattle.closed_ports.specs.Ends.{LaneEnd}
 use Rattle.task_queue.specs.Ends.{ended_of}
 use Rattle.run_opening.specs.run_seats.threaded_jobs.declared.parting.WorkerLeft.{WorkerLeft}
 use Rattle.closed_ports.specs.told_jobs.Runs.{HasSettled, WorkerRun}

@@ -20,8 +20,8 @@ use Rattle.run_opening.specs.driver_hosts.port_body.LanePort.{rows_from}
 use Rattle.run_opening.specs.driver_hosts.declared.hosted.Hosted.{Hosted}
 use Rattle.run_end.specs.Ran.{RanProcess, calls_made}
 use Rattle.run_opening.specs.driver_hosts.served_port.View.{end_names}
-use Rattle.closed_ports.specs.settled_ports.Ends.{LaneEnd}
-use Rattle.closed_ports.specs.settled_ports.Senders.{IsOfAnEnd}
+use Rattle.closed_ports.specs.Ends.{LaneEnd}
+use Rattle.closed_ports.specs.Senders.{IsOfAnEnd}
 use Rattle.closed_ports.specs.told_jobs.Told.{WorkersTell}
 use Rattle.run_opening.specs.Setting.{Setting}
 use Rattle.run_opening.specs.Jobs.{HaveWorkedIn, HasToldPorts, HasToldWorkers}

@@ -6,7 +6,7 @@ use Rattle.run_opening.specs.driver_hosts.declared.ending.EndedPort.{EndedPort}
 use Rattle.run_opening.specs.driver_hosts.declared.hosted.Hosted.{Hosted}
 use Rattle.driver_model.specs.Calls.{Own}
 use Rattle.driver_model.specs.Drivers.{read_event_of, write_event_of}
-use Rattle.closed_ports.specs.settled_ports.Ends.{LaneEnd}
+use Rattle.closed_ports.specs.Ends.{LaneEnd}
 use Rattle.closed_lanes.specs.declared.closing.ClosedPort.{ClosedPort}
 
 -- the ends of the ports' lanes, by the numbers of their senders: those of the processes, then the poller's, then those of the workers

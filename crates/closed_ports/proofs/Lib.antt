@@ -1,3 +1,9 @@
+mod Places
+mod TakingIn
+mod Settled
+mod Sent
+mod Columns
+mod Senders
 mod Rest
 mod Workers
 mod Signalled

@@ -13,13 +13,13 @@ use Rattle.driver_hosts.specs.port_body.Ends.{IsLeftByCalls}
 use Rattle.driver_hosts.specs.declared.ending.EndedPort.{EndedPort}
 use Rattle.driver_hosts.specs.declared.hosted.Hosted.{Hosted}
 use Rattle.driver_hosts.specs.Returning.{AreReturned, HasLeft, HasReturned, LeaveAll}
-use Rattle.settled_ports.specs.Ends.{LaneEnd}
-use Rattle.settled_ports.specs.Laws.{AreAllColumns, HasAllEnds, RowsAreSent, TakeColumnsIn, ends_at}
-use Rattle.settled_ports.specs.Senders.{IsOfAnEnd}
-use Rattle.settled_ports.specs.Settling.{AreSamePorts, AreSettled, IsSettled}
-use Rattle.settled_ports.proofs.Columns.{columns-are-all-ends}
-use Rattle.settled_ports.proofs.Senders.{every-row-is-of-an-end}
-use Rattle.settled_ports.proofs.Sent.{rows-are-sent}
+use Rattle.closed_ports.specs.Ends.{LaneEnd}
+use Rattle.closed_ports.specs.Laws.{AreAllColumns, HasAllEnds, RowsAreSent, TakeColumnsIn, ends_at}
+use Rattle.closed_ports.specs.Senders.{IsOfAnEnd}
+use Rattle.closed_ports.specs.Settling.{AreSamePorts, AreSettled, IsSettled}
+use Rattle.closed_ports.proofs.Columns.{columns-are-all-ends}
+use Rattle.closed_ports.proofs.Senders.{every-row-is-of-an-end}
+use Rattle.closed_ports.proofs.Sent.{rows-are-sent}
 use Rattle.closed_ports.specs.Closed.{AreClosed, HaveComeBack, HaveEndedFrom, IsClosed, StandsAsLeft}
 
 -- a settled port leaves what its history says

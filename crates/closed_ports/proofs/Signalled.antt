@@ -11,8 +11,8 @@ use Rattle.driver_hosts.specs.port_body.Body.{BodyView, name_of}
 use Rattle.driver_hosts.specs.port_body.LanePort.{rows_from}
 use Rattle.run_end.specs.Tell.{CallsTell}
 use Rattle.run_end.proofs.Tells.{tells}
-use Rattle.settled_ports.specs.Ends.{LaneEnd}
-use Rattle.settled_ports.specs.Laws.{RowsAreSent, ends_at}
+use Rattle.closed_ports.specs.Ends.{LaneEnd}
+use Rattle.closed_ports.specs.Laws.{RowsAreSent, ends_at}
 use Rattle.closed_ports.specs.Signals.{AcceptedSignalsHaveRows, MailIsOfHistories}
 use Rattle.closed_ports.proofs.Rest.{any-end}
 

@@ -16,9 +16,9 @@ use Rattle.driver_hosts.specs.port_body.Body.{BodyView, BodyName, name_of}
 use Rattle.driver_hosts.specs.port_body.LanePort.{HasEnd, rows_from, task_from}
 use Rattle.driver_hosts.specs.declared.ending.EndedPort.{EndedPort}
 use Rattle.driver_hosts.specs.served_port.View.{EndName, end_name, end_names}
-use Rattle.settled_ports.specs.Ends.{LaneEnd}
-use Rattle.settled_ports.specs.Laws.{RowsAreSent, ends_at}
-use Rattle.settled_ports.specs.Senders.{IsOfAnEnd}
+use Rattle.closed_ports.specs.Ends.{LaneEnd}
+use Rattle.closed_ports.specs.Laws.{RowsAreSent, ends_at}
+use Rattle.closed_ports.specs.Senders.{IsOfAnEnd}
 use Rattle.port_history.specs.Lawful.{Lawful}
 use Rattle.told_jobs.proofs.Worked.{workers-tell}
 use Rattle.told_jobs.specs.Runs.{HasGiven, HasRun, HasSettled, PortRun}

@@ -12,9 +12,9 @@ use Rattle.driver_hosts.specs.declared.ending.EndedPort.{EndedPort}
 use Rattle.driver_hosts.specs.declared.hosted.Hosted.{Hosted}
 use Rattle.driver_hosts.specs.Returning.{AreReturned}
 use Rattle.driver_hosts.specs.served_port.View.{end_name, end_names}
-use Rattle.settled_ports.specs.Ends.{AreOfBodies, LaneEnd}
-use Rattle.settled_ports.specs.Laws.{AreAllColumns, RowsAreSent, ends_at}
-use Rattle.settled_ports.specs.Senders.{IsOfAnEnd}
+use Rattle.closed_ports.specs.Ends.{AreOfBodies, LaneEnd}
+use Rattle.closed_ports.specs.Laws.{AreAllColumns, RowsAreSent, ends_at}
+use Rattle.closed_ports.specs.Senders.{IsOfAnEnd}
 
 -- the columns are all ends of the ports' lanes, by the numbers of their senders, each with one end of each port
 pub record ArePortsOfLanes (bodies : List BodyView) (columns : List (List LaneEnd)) : Type 0 where

@@ -5,8 +5,8 @@ use Rattle.port_history.specs.Lawful.{Lawful}
 use Rattle.driver_hosts.specs.port_body.Body.{BodyView, BodyName, name_of}
 use Rattle.driver_hosts.specs.declared.ending.EndedPort.{EndedPort}
 use Rattle.driver_hosts.specs.served_port.View.{EndName}
-use Rattle.settled_ports.specs.Ends.{LaneEnd}
-use Rattle.settled_ports.specs.Laws.{AreAllColumns}
+use Rattle.closed_ports.specs.Ends.{LaneEnd}
+use Rattle.closed_ports.specs.Laws.{AreAllColumns}
 use Rattle.told_jobs.specs.Runs.{HasSettled, WorkerRun}
 use Rattle.told_jobs.specs.Told.{WorkersTell}
 use Rattle.closed_ports.specs.Closed.{AreClosed}

@@ -8,8 +8,8 @@ use Rattle.driver_hosts.specs.port_body.Body.{BodyView, name_of}
 use Rattle.driver_hosts.specs.port_body.LanePort.{rows_from}
 use Rattle.driver_hosts.specs.declared.ending.EndedPort.{EndedPort}
 use Rattle.run_end.specs.Ran.{RanProcess, HasRunWhole, calls_made}
-use Rattle.settled_ports.specs.Ends.{LaneEnd}
-use Rattle.settled_ports.specs.Laws.{AreAllColumns}
+use Rattle.closed_ports.specs.Ends.{LaneEnd}
+use Rattle.closed_ports.specs.Laws.{AreAllColumns}
 use Rattle.closed_ports.specs.Closed.{AreClosed}
 
 -- The processes of a run with these ports: each had an end of each port's lane, and what it gives back of them is the column of its number

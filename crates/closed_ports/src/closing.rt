@@ -1,15 +1,16 @@
 //! The last turns of the ports, and their ends.
 ghost use Rattle.std.specs.Prelude.{◌≡◌, ◌≢◌, ◌<◌, length, map, All, AllPairs, IfOk};
 ghost use Rattle.closed_ports.specs.Closed.{AreClosed, ArePortsOfLanes, HaveEndedFrom, HaveComeBack};
-ghost use Rattle.settled_ports.specs.Laws.{TakeColumnsIn};
+ghost use Rattle.closed_ports.specs.Laws.{TakeColumnsIn};
 
+use crate::laws::{
+    every_row_is_of_a_sender, settled_ports_have_all_ends, settled_rows_are_what_was_sent,
+};
+use crate::settling::settle_all;
+use crate::taking_in::take_in_ends;
 use crate::{Body, Driver, EndedPort, Hosted, Parcel};
 use driver_hosts::take_back;
 use no_memory::NoMemory;
-use settled_ports::{
-    every_row_is_of_a_sender, settle_all, settled_ports_have_all_ends,
-    settled_rows_are_what_was_sent, take_in_ends,
-};
 use std::alloc::Global;
 use std::sync::Wait;
 use task_queue::SendEnd;

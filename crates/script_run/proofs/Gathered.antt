@@ -7,12 +7,12 @@ use Rattle.port_model.specs.declared.mail.Mail.{Mail}
 use Rattle.port_body.specs.Body.{BodyName}
 use Rattle.port_words.specs.busy.Known.{PortKnown}
 use Rattle.process_receipts.specs.declared.receipt.Receipt.{Receipt}
-use Rattle.closed_mail.specs.served_port.View.{end_names}
+use Rattle.closed_lanes.specs.served_port.View.{end_names}
 use Rattle.seated_script.specs.run_opening.run_end.Ran.{RanProcess}
 use Rattle.seated_script.specs.run_opening.Setting.{Setting}
 use Rattle.closed_lanes.specs.declared.closing.ClosedPort.{ClosedPort}
-use Rattle.closed_mail.specs.declared.joining.ProcessPeers.{ProcessPeers}
-use Rattle.closed_mail.specs.Joined.{AreJoined, ArePortsNamed, rows_of}
+use Rattle.closed_lanes.specs.declared.joining.ProcessPeers.{ProcessPeers}
+use Rattle.closed_lanes.specs.Joined.{AreJoined, ArePortsNamed, rows_of}
 use Rattle.script_run.specs.declared.parting.PartedPorts.{PartedPorts}
 use Rattle.script_run.specs.declared.running.ProcessLeft.{ProcessLeft}
 use Rattle.script_run.specs.declared.running.ScriptRan.{ScriptRan}

@@ -19,8 +19,8 @@ use Rattle.process_end.specs.Views.{proc_view}
 use Rattle.seated_script.specs.run_opening.Setting.{Setting}
 use Rattle.seated_script.specs.run_opening.Jobs.{HasWorkedLane, HaveRunIn, IsSetUp}
 use Rattle.closed_lanes.specs.declared.closing.LaneEnds.{LaneEnds}
-use Rattle.closed_mail.specs.declared.joining.ProcessPeers.{ProcessPeers}
-use Rattle.closed_mail.specs.Joined.{AreOfProcesses}
+use Rattle.closed_lanes.specs.declared.joining.ProcessPeers.{ProcessPeers}
+use Rattle.closed_lanes.specs.Joined.{AreOfProcesses}
 use Rattle.process_receipts.specs.declared.receipt.Receipt.{Receipt}
 use Rattle.script_run.specs.Left.{AreJobParts, HasEndedIn, HaveJobParts}
 use Rattle.script_run.specs.Parted.{ran_processes}

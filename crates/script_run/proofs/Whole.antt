@@ -30,7 +30,7 @@ use Rattle.driver_hosts.specs.Laws.{KeepNames}
 use Rattle.driver_hosts.specs.Opening.{place_of}
 use Rattle.driver_hosts.proofs.ComingBack.{served-come-back}
 use Rattle.closed_lanes.specs.closed_ports.Closed.{HaveComeBack}
-use Rattle.closed_lanes.specs.settled_ports.Senders.{IsOfAnEnd}
+use Rattle.closed_lanes.specs.closed_ports.Senders.{IsOfAnEnd}
 use Rattle.closed_lanes.specs.closed_ports.told_jobs.Told.{WorkersTell}
 use Rattle.script_plan.specs.declared.decl.PortDecl.{PortDecl}
 use Rattle.seated_script.specs.run_opening.run_end.Ran.{RanProcess, calls_made}
@@ -57,7 +57,7 @@ use Rattle.script_run.specs.declared.running.ScriptRan.{ScriptRan}
 use Rattle.script_run.specs.Ran.{HasCounted, HasRun, IsAmong, IsFrom, PairHolds, PortHolds, PortServed, PortWordsHold, ProcessHolds, all_calls, calls_of, opening_of}
 use Rattle.script_run.specs.Readiness.{ReadyRowsAreAnswered}
 use Rattle.script_run.specs.Left.{AreProcessesLeft, IsGathered, IsLeft}
-use Rattle.closed_mail.specs.Joined.{rows_of, PortWordsHold as WordsOfPort}
+use Rattle.closed_lanes.specs.Joined.{rows_of, PortWordsHold as WordsOfPort}
 use Rattle.port_body.specs.recorded_port.Asks.{resumed_words}
 use Rattle.port_mail.specs.Ends.{MailEnd}
 use Rattle.seated_script.specs.run_opening.run_end.process_job.Mails.{Came, own_mails, readable, AreReplied, HasReply}
@@ -83,7 +83,7 @@ use Rattle.port_body.specs.LanePort.{rows_from}
 use Rattle.std.specs.Str.{bytes_eq}
 use Rattle.std.specs.Option.{option_map_or}
 use Rattle.seated_script.specs.run_opening.Opened.{limits_of}
-use Rattle.closed_mail.specs.served_port.View.{end_name}
+use Rattle.closed_lanes.specs.served_port.View.{end_name}
 use Rattle.script_run.specs.Parted.{port_left, ran_processes}
 use Rattle.script_run.proofs.Parts.{some}
 

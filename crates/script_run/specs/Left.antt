@@ -16,8 +16,8 @@ use Rattle.async_jobs.specs.Pool.{PoolEnd}
 use Rattle.process_end.specs.Views.{LaneEnd}
 use Rattle.seated_script.specs.run_opening.run_end.process_job.declared.job.EndedProcess.{EndedProcess}
 use Rattle.seated_script.specs.run_opening.run_seats.threaded_jobs.declared.parting.WorkerLeft.{WorkerLeft}
-use Rattle.closed_mail.specs.declared.joining.ProcessPeers.{ProcessPeers}
-use Rattle.closed_mail.specs.Joined.{AreJoined, AreOfProcesses}
+use Rattle.closed_lanes.specs.declared.joining.ProcessPeers.{ProcessPeers}
+use Rattle.closed_lanes.specs.Joined.{AreJoined, AreOfProcesses}
 use Rattle.process_receipts.specs.declared.receipt.Receipt.{Receipt}
 use Rattle.ended_jobs.specs.Ended.{HaveEndedFor}
 use Rattle.seated_script.specs.Seated.{AreDealt}

@@ -3,8 +3,7 @@ ghost use Rattle.std.specs.Prelude.{◌≡◌, length, IfOk};
 ghost use Rattle.script_run.specs.Parted.{AreLeftOf, ArePartedPorts, AreProcessParts};
 
 use crate::running::{PortLeft, ProcessLeft};
-use closed_lanes::ClosedPort;
-use closed_mail::{PortPeers, ProcessPeers};
+use closed_lanes::{ClosedPort, PortPeers, ProcessPeers};
 use no_memory::NoMemory;
 use port_lanes::Parcel;
 use port_model::Mail;

@@ -2,9 +2,9 @@ use Rattle.std.proofs.Common.{◌∙◌, [], length, map, ap, sym, subst, arith}
 use Rattle.std.proofs.lemmas.List.{get_or-map, length-map, map_push}
 use Rattle.std.proofs.lemmas.Iterator.Adapters.{YieldsList-from_vec}
 use Rattle.std.proofs.lemmas.Iterator.Consumers.{YieldsList-turn}
-use Rattle.settled_ports.specs.Ends.{AreOfBodies}
-use Rattle.settled_ports.specs.Laws.{TakeColumnsIn}
-use Rattle.settled_ports.proofs.Columns.{columns-stay-of-bodies, one-column-more}
+use Rattle.closed_ports.specs.Ends.{AreOfBodies}
+use Rattle.closed_ports.specs.Laws.{TakeColumnsIn}
+use Rattle.closed_ports.proofs.Columns.{columns-stay-of-bodies, one-column-more}
 use Rattle.closed_ports.proofs.closing.take_in_columns.Goals as goal
 
 pub take_in_ends-requires : goal.take_in_ends-requires

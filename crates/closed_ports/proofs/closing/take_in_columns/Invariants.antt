@@ -1,5 +1,5 @@
 use Rattle.std.proofs.Common.{map}
-use Rattle.settled_ports.specs.Laws.{TakeColumnsIn}
+use Rattle.closed_ports.specs.Laws.{TakeColumnsIn}
 use Rattle.closed_ports.proofs.closing.take_in_columns.Given as goal
 
 -- the columns so far were taken in

@@ -1,2 +1,0 @@
-mod Peers
-mod Together

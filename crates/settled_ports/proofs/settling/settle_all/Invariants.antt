@@ -1,5 +1,0 @@
-use Rattle.settled_ports.proofs.Settled.{SettleBelow}
-use Rattle.settled_ports.proofs.settling.settle_all.Given as goal
-
-abbrev pub invariant-ports : goal.invariant-ports
-invariant-ports g l = SettleBelow l.port l.fn.bodies.items l.bodies.items l.all

@@ -1,4 +1,0 @@
-pub mod Ends
-pub mod Settling
-pub mod Laws
-pub mod Senders
