@@ -9,7 +9,7 @@ use outside_programs::{PipeServer, RealPoll, RealSpawner};
 use plain_command::{PlainEnd, is_plain, plain_command};
 use port_driver::Driver;
 use sample_drivers::{Digest, Echo, Refuse, Refused, Store, Tally, Valve};
-use spawn_driver::spawn_driver;
+use spawn_driver::{SpawnDriver, spawn_driver};
 use std::alloc::Global;
 use std::env::{Env, FillError};
 use std::mem::forget;
@@ -48,6 +48,9 @@ const SAMPLES: [SampleKind; 9] = [
     SampleKind::Refuse(Refused::Errno),
     SampleKind::Refuse(Refused::Badarg),
 ];
+
+/// A driver of the program: one that needs nothing of the machine, or one whose program a spawner starts.
+type ProgramDriver<S> = EitherDriver<Box<dyn Driver + Send>, SpawnDriver<S>>;
 
 /// The status of a run for which no memory was found.
 const NO_MEMORY: u8 = 8;
@@ -129,6 +132,50 @@ fn run_over<
     Ok(status)
 }
 
+/// A fresh driver of this kind.
+fn fresh_sample(alloc: Global, kind: SampleKind) -> Result<Box<dyn Driver + Send>, NoMemory> {
+    match kind {
+        SampleKind::Echo => Ok(Box::new(alloc, Echo::new())?),
+        SampleKind::Tally => Ok(Box::new(alloc, Tally::new())?),
+        SampleKind::Store => Ok(Box::new(alloc, Store::new())?),
+        SampleKind::Valve => Ok(Box::new(alloc, Valve::new())?),
+        SampleKind::ValveSoft => Ok(Box::new(alloc, Valve::soft())?),
+        SampleKind::Digest => Ok(Box::new(alloc, Digest::new())?),
+        SampleKind::Refuse(refused) => Ok(Box::new(alloc, Refuse::new(refused))?),
+    }
+}
+
+/// Puts fresh drivers of each kind that needs nothing of the machine, as many as a script may have ports.
+fn put_samples<S: Spawner + Drop>(
+    alloc: Global,
+    drivers: &mut Vec<ProgramDriver<S>>,
+) -> Result<(), NoMemory>
+where
+    S::Program: Drop,
+{
+    for kind in SAMPLES {
+        for _ in 0..DRIVERS {
+            let sample = fresh_sample(alloc, kind)?;
+            drivers.push(EitherDriver::First(sample))?;
+        }
+    }
+    Ok(())
+}
+
+/// Puts a fresh driver of each program that these start.
+fn put_spawned<S: Spawner + Drop>(
+    spawners: Vec<S>,
+    drivers: &mut Vec<ProgramDriver<S>>,
+) -> Result<(), NoMemory>
+where
+    S::Program: Drop,
+{
+    for spawner in spawners {
+        drivers.push(EitherDriver::Second(spawn_driver(spawner)))?;
+    }
+    Ok(())
+}
+
 /// Runs what the words ask for, over fresh drivers of each kind, and returns the status. These start the programs, whose events are those of the poll set.
 fn run<
     S: Spawner + Drop + Send,
@@ -140,24 +187,23 @@ where
 {
     let alloc = rt.alloc();
     let mut drivers = Vec::new(alloc);
-    for sample in SAMPLES {
-        for _ in 0..DRIVERS {
-            let driver: Box<dyn Driver + Send> = match sample {
-                SampleKind::Echo => Box::new(alloc, Echo::new())?,
-                SampleKind::Tally => Box::new(alloc, Tally::new())?,
-                SampleKind::Store => Box::new(alloc, Store::new())?,
-                SampleKind::Valve => Box::new(alloc, Valve::new())?,
-                SampleKind::ValveSoft => Box::new(alloc, Valve::soft())?,
-                SampleKind::Digest => Box::new(alloc, Digest::new())?,
-                SampleKind::Refuse(refused) => Box::new(alloc, Refuse::new(refused))?,
-            };
-            drivers.push(EitherDriver::First(driver))?;
-        }
-    }
-    for spawner in spawners {
-        drivers.push(EitherDriver::Second(spawn_driver(spawner)))?;
-    }
+    put_samples(alloc, &mut drivers)?;
+    put_spawned(spawners, &mut drivers)?;
     run_over(rt, words, drivers, poll)
+}
+
+/// What starts the programs of a script, as many as it may have ports: each with two events of its own.
+fn spawners_of<R: Copy + Drop>(
+    alloc: Global,
+    rt: R,
+    pipes: &PipeServer,
+) -> Result<Vec<RealSpawner<R>>, NoMemory> {
+    let mut spawners = Vec::new(alloc);
+    for number in 0..DRIVERS {
+        let spawner = RealSpawner::new(rt, pipes, 2 * number, 2 * number + 1)?;
+        spawners.push(spawner)?;
+    }
+    Ok(spawners)
 }
 
 /// The end of the program with this status, where memory was found for it.
@@ -179,14 +225,8 @@ fn main(rt: HostRuntime) -> ExitCode {
     let Ok(pipes) = PipeServer::new(alloc, rt, &poll) else {
         return ExitCode::from(NO_MEMORY);
     };
-    let mut spawners = Vec::new(alloc);
-    for number in 0..DRIVERS {
-        let Ok(spawner) = RealSpawner::new(rt, &pipes, 2 * number, 2 * number + 1) else {
-            return ExitCode::from(NO_MEMORY);
-        };
-        if spawners.push(spawner).is_err() {
-            return ExitCode::from(NO_MEMORY);
-        }
-    }
+    let Ok(spawners) = spawners_of(alloc, rt, &pipes) else {
+        return ExitCode::from(NO_MEMORY);
+    };
     ended(run(&rt, words.as_slice(), spawners, poll))
 }
