@@ -132,36 +132,6 @@ fn run_over<
     Ok(status)
 }
 
-/// A fresh driver of this kind.
-fn fresh_sample(alloc: Global, kind: SampleKind) -> Result<Box<dyn Driver + Send>, NoMemory> {
-    match kind {
-        SampleKind::Echo => Ok(Box::new(alloc, Echo::new())?),
-        SampleKind::Tally => Ok(Box::new(alloc, Tally::new())?),
-        SampleKind::Store => Ok(Box::new(alloc, Store::new())?),
-        SampleKind::Valve => Ok(Box::new(alloc, Valve::new())?),
-        SampleKind::ValveSoft => Ok(Box::new(alloc, Valve::soft())?),
-        SampleKind::Digest => Ok(Box::new(alloc, Digest::new())?),
-        SampleKind::Refuse(refused) => Ok(Box::new(alloc, Refuse::new(refused))?),
-    }
-}
-
-/// Puts fresh drivers of each kind that needs nothing of the machine, as many as a script may have ports.
-fn put_samples<S: Spawner + Drop>(
-    alloc: Global,
-    drivers: &mut Vec<ProgramDriver<S>>,
-) -> Result<(), NoMemory>
-where
-    S::Program: Drop,
-{
-    for kind in SAMPLES {
-        for _ in 0..DRIVERS {
-            let sample = fresh_sample(alloc, kind)?;
-            drivers.push(EitherDriver::First(sample))?;
-        }
-    }
-    Ok(())
-}
-
 /// Puts a fresh driver of each program that these start.
 fn put_spawned<S: Spawner + Drop>(
     spawners: Vec<S>,
@@ -187,7 +157,20 @@ where
 {
     let alloc = rt.alloc();
     let mut drivers = Vec::new(alloc);
-    put_samples(alloc, &mut drivers)?;
+    for sample in SAMPLES {
+        for _ in 0..DRIVERS {
+            let driver: Box<dyn Driver + Send> = match sample {
+                SampleKind::Echo => Box::new(alloc, Echo::new())?,
+                SampleKind::Tally => Box::new(alloc, Tally::new())?,
+                SampleKind::Store => Box::new(alloc, Store::new())?,
+                SampleKind::Valve => Box::new(alloc, Valve::new())?,
+                SampleKind::ValveSoft => Box::new(alloc, Valve::soft())?,
+                SampleKind::Digest => Box::new(alloc, Digest::new())?,
+                SampleKind::Refuse(refused) => Box::new(alloc, Refuse::new(refused))?,
+            };
+            drivers.push(EitherDriver::First(driver))?;
+        }
+    }
     put_spawned(spawners, &mut drivers)?;
     run_over(rt, words, drivers, poll)
 }
