@@ -88,6 +88,7 @@ impl<D: Driver> LanePort<D> {
     }
 
     /// Brings a task to its row. Where the port isn't open after it, each task that waits comes to its row too.
+    #[inline(always)]
     fn settle<R: Wait>(&mut self, rt: &R, alloc: Global, item: Item<Parcel>) -> Result<(), NoMemory>
         requires holds { Holds self.old (item ∷ self.old.waiting.items) }
         requires free { MayGo self.old item }

@@ -164,6 +164,7 @@ impl DriverCtx {
     }
 
     /// Adds an effect. The first one gets room for itself alone: most callbacks have no second one, and the list is kept in the row.
+    #[inline(always)]
     fn add(&mut self, effect: Effect) -> Result<(), NoMemory>
         requires { length self.old.effects < 1048576 }
         ensures ok { OnOk result (self.new ≡ did self.old effect) }

@@ -65,6 +65,7 @@ impl PortEvents {
     }
 
     /// Follows the effects of a callback, and appends the events that are given back at once.
+    #[inline(always)]
     pub(crate) fn follow<R: Wait>(
         &mut self,
         rt: &R,

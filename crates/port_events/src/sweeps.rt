@@ -71,6 +71,7 @@ impl PortEvents {
     }
 
     /// Arms each event where it is selected.
+    #[inline(always)]
     pub(crate) fn arm_selected<R: Wait>(&mut self, rt: &R) -> Result<(), NoMemory>
         ensures ok { OnOk result (Does (arming self.old.port) self.old self.new [] []) }
         ensures same { KeepsEnd self.old self.new }

@@ -79,6 +79,7 @@ impl PortJobs {
     }
 
     /// Takes in a signal that has a row, handled or late: the job that it tells done, if it does.
+    #[inline(always)]
     pub fn note_done(&mut self, signal: &Signal) -> Result<(), NoMemory>
         ensures ok { OnOk result ((jobs : List Submitted) (done : List ℕ) → Agrees self.old jobs done → Agrees self.new jobs (done_by signal.now done)) }
         ensures same { self.new ≡ record self.old { told = self.new.told; waiting = self.new.waiting } }

@@ -198,6 +198,7 @@ impl<D: Driver> Service<D> {
 }
 
 /// A context in which nothing was done.
+#[inline(always)]
 fn context(
     alloc: Global,
     caller: u32,

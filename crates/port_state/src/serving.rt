@@ -91,6 +91,7 @@ fn first_reason(reason: Option<Reason>, other: Option<Reason>) -> Option<Reason>
 }
 
 /// What the ties of a port that closes for this reason send, if it does. Its links and its monitors go.
+#[inline(always)]
 fn untie(
     links: &mut Links,
     alloc: Global,

@@ -166,6 +166,7 @@ impl Sides {
     }
 
     /// Makes a call: sends a signal to a port, with a receipt of what became of it.
+    #[inline(always)]
     pub(crate) fn ask<R: Wait>(
         &mut self,
         rt: &R,

@@ -39,6 +39,7 @@ impl<D: Driver> RecordedPort<D> {
 
     /// Resumes all senders that wait, in their order, where the port isn't open, or where it isn't busy and one load of MSGQ finds that its message queue
     /// isn't either. Where nobody waits nothing is loaded.
+    #[inline(always)]
     pub fn resume<R: Wait>(&mut self, rt: &R) -> Result<(), NoMemory>
         requires settled { IsSettled self.old }
         requires room { length (state_of self.old).listed ≤ self.old.room }

@@ -83,6 +83,7 @@ impl Driver for Echo {
         Ok(())
     }
 
+    #[inline(always)]
     fn outputv(
         &mut self,
         _alloc: Global,

@@ -76,6 +76,7 @@ impl WaitingList {
     }
 
     /// Nothing waits.
+    #[inline(always)]
     pub fn is_empty(&self) -> bool
         ensures { IsTrue result ↔ (self.now.items ≡ []) }
     {
@@ -83,6 +84,7 @@ impl WaitingList {
     }
 
     /// How many tasks wait.
+    #[inline(always)]
     pub fn len(&self) -> usize
         ensures { result ≡ length self.now.items }
     {
@@ -90,6 +92,7 @@ impl WaitingList {
     }
 
     /// A task of this sender waits.
+    #[inline(always)]
     pub fn has_sender(&self, sender: u32) -> bool
         requires { sender < self.now.senders }
         ensures { result ≡ has_sender sender self.now.items }
@@ -99,6 +102,7 @@ impl WaitingList {
 
     /// Makes a place for one task more, whoever sends it, where there is none. It is refused where memory is
     /// wanting, and where 2^63 tasks have come in all.
+    #[inline(always)]
     pub fn reserve(&mut self) -> Result<(), NoMemory>
         ensures room { OnOk result (0 < self.new.room) }
         ensures there { 0 < self.old.room → IsOk result }
@@ -130,6 +134,7 @@ impl WaitingList {
     }
 
     /// Adds a task at the end. It takes no memory.
+    #[inline(always)]
     pub fn push(&mut self, item: Item<Parcel>)
         requires room { 0 < self.old.room }
         requires known { item.sender < self.old.senders }
@@ -141,6 +146,7 @@ impl WaitingList {
 
     /// Takes the first task that may go: no earlier one has its sender, and it isn't a command, or is a forced one, or
     /// the port isn't busy. It takes no memory. Where the port isn't busy, that is the first task of the list.
+    #[inline(always)]
     pub fn take_first(&mut self, busy: bool) -> Option<Item<Parcel>>
         ensures some { IfSome result (λ x. GoesFirst busy self.old.items x self.new.items) }
         ensures none { IfNone result (NoneGoes busy self.old.items) }
