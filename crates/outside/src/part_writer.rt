@@ -10,6 +10,9 @@ use std::io::Write;
 /// For how many bytes the buffer has room in which small parts are gathered.
 const ROOM: usize = 64 * 1024;
 
+/// A part of so many bytes is written from where it lies.
+const LARGE: usize = 16 * 1024;
+
 /// A buffer in which small parts are gathered.
 pub(crate) fn part_buffer(alloc: Global) -> Result<Vec<u8>, AllocError>
     ensures { IfOk result (λ buffer. buffer.items ≡ []) }
@@ -18,7 +21,7 @@ pub(crate) fn part_buffer(alloc: Global) -> Result<Vec<u8>, AllocError>
 }
 
 /// Writes the parts in their order, and leaves none in a buffer. Parts that are small are gathered in the buffer, so that
-/// each isn't a call of the system, and a part that is larger than the buffer is written from where it lies.
+/// each isn't a call of the system, and a part of 16,384 bytes or more is written from where it lies, so that it isn't copied.
 pub(crate) fn write_parts<W: Write>(
     output: &mut W,
     buffer: &mut Vec<u8>,
@@ -37,11 +40,12 @@ pub(crate) fn write_parts<W: Write>(
 fn write_part<W: Write>(output: &mut W, buffer: &mut Vec<u8>, part: &[u8]) -> io::Result<()>
     ensures { OnOk result (Appends (append_known (W.contents output.old) buffer.old.items) (append_known (W.contents output.new) buffer.new.items) part.now) }
 {
-    if part.len() > buffer.capacity() - buffer.len() {
+    let is_large = part.len() >= LARGE;
+    if is_large || part.len() > buffer.capacity() - buffer.len() {
         output.write_all(buffer.as_slice())?;
         buffer.clear();
     }
-    if part.len() > buffer.capacity() - buffer.len() {
+    if is_large {
         return output.write_all(part);
     }
     buffer.extend_from_slice(part)?;
