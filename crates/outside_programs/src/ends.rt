@@ -3,7 +3,8 @@ ghost use Rattle.std.specs.Prelude.{◌≡◌, ◌<◌, ◌≤◌, ◌++◌, [],
 ghost use Rattle.outside_programs.specs.Ends.{Gives, GivesFront, HandsFront, InOrder, Notes, Takes};
 
 use crate::counts::Counts;
-use crate::threads::{CHUNK, OutputPart};
+use crate::growing::CHUNK;
+use crate::threads::OutputPart;
 use crossbeam_channel::{Receiver, Sender, TryRecvError};
 use outside::{ByteLog, Fetched, Offered};
 use std::alloc::Global;
@@ -57,7 +58,10 @@ impl OutputEnd {
             return Fetched::Failed;
         };
         match messages.try_recv(rt) {
-            Ok(OutputPart::Chunk(chunk)) => self.begin(alloc, chunk, max),
+            Ok(OutputPart::Chunk(chunk)) => {
+                let chunk = chunk.take(rt).unwrap_or(Vec::new(alloc));
+                self.begin(alloc, chunk, max)
+            }
             Ok(OutputPart::End) => {
                 self.counts.lower(self.event);
                 Fetched::End

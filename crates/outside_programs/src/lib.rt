@@ -11,6 +11,7 @@
 
 mod counts;
 mod ends;
+mod growing;
 mod pauses;
 mod pipe_server;
 mod real_child;

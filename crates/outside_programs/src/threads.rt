@@ -1,5 +1,6 @@
 //! The threads behind the pipes of children: each reads what one child writes, or writes what it reads.
 use crate::counts::Counts;
+use crate::growing::{CHUNK, GrowingChunk};
 use crossbeam_channel::{Receiver, Sender};
 use outside::NoMemory;
 use std::alloc::Global;
@@ -9,13 +10,10 @@ use std::sync::Wait;
 use std::thread;
 use std::thread::Threads;
 
-/// The most bytes of one message, and of one piece.
-pub(crate) const CHUNK: usize = 65_536;
-
 /// What a reading thread tells of a child's output. Want of memory for a chunk is a failure.
 #[derive(Drop)]
 pub(crate) enum OutputPart {
-    Chunk(Vec<u8>),
+    Chunk(GrowingChunk),
     End,
     Failed,
 }
@@ -44,18 +42,40 @@ pub(crate) struct Pipes {
     pub(crate) served: Sender<bool>,
 }
 
-/// The next bytes of an output, or why there are none. They are read into the buffer, and copied out of it, so that they take no more memory than they have bytes.
-fn read_chunk(alloc: Global, stdout: &mut ChildStdout, buffer: &mut [u8]) -> OutputPart {
+/// Keeps what was read: in the chunk that was told of last, where that grows by it, or else in a new one, which is to be told of.
+fn keep<R: Wait>(
+    rt: &R,
+    alloc: Global,
+    last: &mut Option<GrowingChunk>,
+    bytes: &[u8],
+) -> Result<Option<GrowingChunk>, NoMemory> {
+    if let Some(chunk) = last {
+        if chunk.has_taker() && chunk.append(rt, bytes) {
+            return Ok(None);
+        }
+    }
+    let chunk = GrowingChunk::new(alloc, bytes)?;
+    *last = Some(chunk.share()?);
+    Ok(Some(chunk))
+}
+
+/// Reads once, and keeps what was read. Answers what is to be told, where there is something. The bytes are read into the buffer, and copied out of it, so that
+/// they take no more memory than they have bytes.
+fn read_once<R: Wait>(
+    rt: &R,
+    alloc: Global,
+    stdout: &mut ChildStdout,
+    last: &mut Option<GrowingChunk>,
+    buffer: &mut [u8],
+) -> Option<OutputPart> {
     match stdout.read(buffer) {
-        Ok(0) => OutputPart::End,
-        Ok(count) => match buffer.get(..count) {
-            Some(bytes) => match Vec::from_slice(alloc, bytes) {
-                Ok(chunk) => OutputPart::Chunk(chunk),
-                Err(_) => OutputPart::Failed,
-            },
-            None => OutputPart::Failed,
+        Ok(0) => Some(OutputPart::End),
+        Ok(count) => match keep(rt, alloc, last, &buffer[..count]) {
+            Ok(Some(chunk)) => Some(OutputPart::Chunk(chunk)),
+            Ok(None) => None,
+            Err(NoMemory) => Some(OutputPart::Failed),
         },
-        Err(_) => OutputPart::Failed,
+        Err(_) => Some(OutputPart::Failed),
     }
 }
 
@@ -72,8 +92,12 @@ fn read_output<R: Wait>(rt: &R, alloc: Global, counts: &Counts, reading: OutputP
         counts.raise(event);
         return;
     };
+    let mut last = None;
     for _ in rt.forever() {
-        let output = read_chunk(alloc, &mut stdout, buffer.as_mut_slice());
+        let Some(output) = read_once(rt, alloc, &mut stdout, &mut last, buffer.as_mut_slice())
+        else {
+            continue;
+        };
         let is_last = !matches!(&output, OutputPart::Chunk(_));
         if messages.send(rt, output).is_err() {
             return;
