@@ -25,6 +25,8 @@ has a name, the project's figure, that of Erlang/OTP, and the project's in perce
   cat_stream_process, cat_line_process
                        the project's whole processes, with the reading of the file, and the report with its SHA-256, which Erlang/OTP's side doesn't make
   cat_floor            the same bytes through `cat` by two pipes in C
+  cat_stream_floor, cat_stream_floor_run
+                       the two of cat_stream by a program in C with the same threads and copies
   cat_memory           the most memory of the run in stream mode, in percent of the file
   wait                 processor time of a run that waits five seconds for a slow program, in microseconds
   read_33, read_1000   how many megabytes of a script `check` reads in a second, of 16,000 commands of 33 bytes and of 1,000 commands of 1,000 bytes: behind the time that
@@ -193,6 +195,18 @@ def time_cat(program, runs, erlang):
     row("cat_memory", statistics.median(most_memory([program, "run", "stream.txt"]) for _ in range(3)) * 100 / SIZE)
     subprocess.run(["gcc", "-O2", "-o", "pump", f"{HERE}/erlang/pump.c"], check=True)
     row("cat_floor", median(runs, ["./pump", "in.txt", "floor.txt"]))
+    subprocess.run(["gcc", "-O2", "-pthread", "-o", "relay", f"{HERE}/erlang/relay.c"], check=True)
+    threads, written = zip(*[relayed() for _ in range(runs)])
+    row("cat_stream_floor", statistics.median(written))
+    row("cat_stream_floor_run", statistics.median(threads))
+
+
+def relayed():
+    """The microseconds of a run of `cat` by relay.c until the run ends, and until what came is written."""
+    if os.path.exists("relayed.txt"):
+        os.remove("relayed.txt")
+    told = subprocess.run(["./relay", "in.txt", "relayed.txt"], check=True, capture_output=True, text=True).stdout
+    return tuple(map(float, told.split()))
 
 
 def anew(program, script):
