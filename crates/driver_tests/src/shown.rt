@@ -5,7 +5,7 @@ use port_model::{Dir, Effect, Flag};
 /// An effect.
 #[derive(Clone, Copy)]
 pub(crate) enum ShownEffect {
-    /// A message of these bytes, with any flag.
+    /// A message of these bytes, which is no line.
     Sent(&'static [u8]),
     /// A message of these bytes, a line's part.
     Part(&'static [u8]),
@@ -56,8 +56,13 @@ impl ShownEffect {
     /// Whether this effect is told, of those that are told by their bytes.
     fn has_bytes_of(self, effect: &Effect) -> bool {
         match (self, effect) {
-            (ShownEffect::Sent(wanted), Effect::Message { bytes, .. }) => bytes.as_slice()
-                == wanted,
+            (
+                ShownEffect::Sent(wanted),
+                Effect::Message {
+                    flag: Flag::Plain,
+                    bytes,
+                },
+            ) => bytes.as_slice() == wanted,
             (
                 ShownEffect::Part(wanted),
                 Effect::Message {

@@ -25,7 +25,7 @@ const STOPS: AfterTask = AfterTask {
 
 /// An effect of a row: an event is selected in a direction, or given up.
 #[derive(Clone, Copy)]
-enum RowEffect {
+enum EventEffect {
     Select(u32, Dir),
     Unuse(u32),
 }
@@ -42,11 +42,11 @@ enum RowSignal {
 #[derive(Clone, Copy)]
 enum EventStep {
     /// A start with these effects is refused so, or goes.
-    Start(&'static [RowEffect], Option<StartFault>),
+    Start(&'static [EventEffect], Option<StartFault>),
     /// A handled task with these effects gives these events back.
-    Handle(RowSignal, &'static [RowEffect], AfterTask, &'static [u32]),
+    Handle(RowSignal, &'static [EventEffect], AfterTask, &'static [u32]),
     /// A handled close with these effects, after which the driver runs on, is refused so.
-    Fault(&'static [RowEffect], EventFault),
+    Fault(&'static [EventEffect], EventFault),
     Late(RowSignal),
     /// These asks lie in the lane.
     Ask(&'static [PollAsk]),
@@ -63,20 +63,20 @@ enum EventLook {
     GivenBack(bool),
 }
 
-fn effect_of(effect: RowEffect) -> Effect {
+fn effect_of(effect: EventEffect) -> Effect {
     match effect {
-        RowEffect::Select(event, dir) => {
+        EventEffect::Select(event, dir) => {
             Effect::Select {
                 event,
                 dir,
                 on: true,
             }
         }
-        RowEffect::Unuse(event) => Effect::Unuse(event),
+        EventEffect::Unuse(event) => Effect::Unuse(event),
     }
 }
 
-fn effects_of(alloc: Global, row: &[RowEffect]) -> Result<Vec<Effect>, NoMemory> {
+fn effects_of(alloc: Global, row: &[EventEffect]) -> Result<Vec<Effect>, NoMemory> {
     let mut effects = Vec::new(alloc);
     for effect in row {
         effects.push(effect_of(*effect))?;
@@ -126,7 +126,7 @@ impl PolledPort {
     }
 
     /// Why a start with these effects is refused, if it is.
-    fn start_fault<R: Wait>(&mut self, rt: &R, row: &[RowEffect]) -> Option<StartFault> {
+    fn start_fault<R: Wait>(&mut self, rt: &R, row: &[EventEffect]) -> Option<StartFault> {
         match &effects_of(self.alloc, row) {
             Ok(effects) => self.events.start(rt, self.alloc, effects.as_slice()).err(),
             Err(_) => Some(StartFault::NoMemory),
@@ -143,7 +143,7 @@ impl PolledPort {
         &mut self,
         rt: &R,
         signal: RowSignal,
-        row: &[RowEffect],
+        row: &[EventEffect],
         ending: AfterTask,
     ) -> Result<Vec<u32>, EventFault> {
         let signal = signal_of(signal);
@@ -157,7 +157,7 @@ impl PolledPort {
     }
 
     /// Why a handled close is refused, after which the driver runs on, if it is.
-    fn fault<R: Wait>(&mut self, rt: &R, row: &[RowEffect]) -> Option<EventFault> {
+    fn fault<R: Wait>(&mut self, rt: &R, row: &[EventEffect]) -> Option<EventFault> {
         self.handled(rt, RowSignal::Close, row, RUNS).err()
     }
 
@@ -243,16 +243,16 @@ const DROP_OF_5: PollAsk = PollAsk::Drop { port: 3, event: 5 };
 const GIVEN_UP: [EventStep; 9] = [
     EventStep::Start(
         &[
-            RowEffect::Select(2, Dir::Read),
-            RowEffect::Select(1, Dir::Write),
-            RowEffect::Select(1, Dir::Read),
+            EventEffect::Select(2, Dir::Read),
+            EventEffect::Select(1, Dir::Write),
+            EventEffect::Select(1, Dir::Read),
         ],
         None,
     ),
     EventStep::Ask(&[READ_OF_1, WRITE_OF_1, READ_OF_2]),
     EventStep::Handle(
         RowSignal::Ready(1, Dir::Read),
-        &[RowEffect::Unuse(1)],
+        &[EventEffect::Unuse(1)],
         RUNS,
         &[],
     ),
@@ -275,8 +275,8 @@ fn an_event_that_is_given_up_while_it_is_armed_waits_for_the_poller(
 const CLOSED: [EventStep; 10] = [
     EventStep::Start(
         &[
-            RowEffect::Select(5, Dir::Write),
-            RowEffect::Select(4, Dir::Read),
+            EventEffect::Select(5, Dir::Write),
+            EventEffect::Select(4, Dir::Read),
         ],
         None,
     ),
@@ -299,12 +299,12 @@ fn a_close_ends_reading_and_the_stop_ends_what_is_left(rt: HostRuntime) -> Resul
 
 const REFUSED: [EventStep; 3] = [
     EventStep::Start(
-        &[RowEffect::Select(1, Dir::Read), RowEffect::Unuse(1)],
+        &[EventEffect::Select(1, Dir::Read), EventEffect::Unuse(1)],
         Some(StartFault::GaveUp),
     ),
-    EventStep::Start(&[RowEffect::Select(1, Dir::Read)], None),
+    EventStep::Start(&[EventEffect::Select(1, Dir::Read)], None),
     EventStep::Fault(
-        &[RowEffect::Unuse(1), RowEffect::Select(1, Dir::Read)],
+        &[EventEffect::Unuse(1), EventEffect::Select(1, Dir::Read)],
         EventFault::NoRoom,
     ),
 ];
@@ -318,10 +318,10 @@ fn a_start_that_gives_up_and_a_selection_while_waiting_are_refused(
 }
 
 /// A selection for reading of each event below this one.
-fn selections(alloc: Global, count: u32) -> Result<Vec<RowEffect>, NoMemory> {
+fn selections(alloc: Global, count: u32) -> Result<Vec<EventEffect>, NoMemory> {
     let mut row = Vec::new(alloc);
     for event in 0..count {
-        row.push(RowEffect::Select(event, Dir::Read))?;
+        row.push(EventEffect::Select(event, Dir::Read))?;
     }
     Ok(row)
 }
@@ -335,7 +335,7 @@ fn faults<R: Wait>(
     let mut port = PolledPort::new(alloc)?;
     let row = selections(alloc, count)?;
     let start = port.start_fault(rt, row.as_slice());
-    let then = port.fault(rt, &[RowEffect::Select(64, Dir::Read)]);
+    let then = port.fault(rt, &[EventEffect::Select(64, Dir::Read)]);
     Ok((start, then))
 }
 

@@ -9,7 +9,7 @@ use task_queue::{TakeEnd, lane};
 
 /// An effect of a row: a job of this number and code, or an end of file.
 #[derive(Clone, Copy)]
-enum RowEffect {
+enum JobEffect {
     Job(u64, u8),
     Eof,
 }
@@ -18,7 +18,7 @@ enum RowEffect {
 #[derive(Clone, Copy)]
 enum JobStep {
     /// The jobs of a row are submitted, or not all of them for this reason.
-    Submit(&'static [RowEffect], Option<SubmitFault>),
+    Submit(&'static [JobEffect], Option<SubmitFault>),
     /// The worker's next turn does the job of this port, number and code, or none.
     Work(Option<(u32, u64, u8)>),
     /// It is taken in that this job is done.
@@ -40,15 +40,15 @@ fn job(alloc: Global, number: u64, code: u8) -> Result<Effect, NoMemory> {
     })
 }
 
-fn effect_of(alloc: Global, effect: RowEffect) -> Result<Effect, NoMemory> {
+fn effect_of(alloc: Global, effect: JobEffect) -> Result<Effect, NoMemory> {
     match effect {
-        RowEffect::Job(number, code) => job(alloc, number, code),
-        RowEffect::Eof => Ok(Effect::Eof),
+        JobEffect::Job(number, code) => job(alloc, number, code),
+        JobEffect::Eof => Ok(Effect::Eof),
     }
 }
 
 /// The effects of a row.
-fn effects(alloc: Global, row: &[RowEffect]) -> Result<Vec<Effect>, NoMemory> {
+fn effects(alloc: Global, row: &[JobEffect]) -> Result<Vec<Effect>, NoMemory> {
     let mut effects = Vec::new(alloc);
     for effect in row {
         effects.push(effect_of(alloc, *effect)?)?;
@@ -77,7 +77,7 @@ impl OneWorker {
     }
 
     /// Why not all jobs of a row are submitted, if they aren't.
-    fn submit_fault<R: Wait>(&mut self, rt: &R, row: &[RowEffect]) -> Option<SubmitFault> {
+    fn submit_fault<R: Wait>(&mut self, rt: &R, row: &[JobEffect]) -> Option<SubmitFault> {
         match &effects(self.alloc, row) {
             Ok(effects) => self.jobs.submit(rt, effects.as_slice()).err(),
             Err(_) => Some(SubmitFault::NoMemory),
@@ -155,10 +155,10 @@ fn follow<R: Wait + Abort>(
 
 const IN_ORDER: [JobStep; 6] = [
     JobStep::Submit(
-        &[RowEffect::Job(0, 1), RowEffect::Eof, RowEffect::Job(1, 3)],
+        &[JobEffect::Job(0, 1), JobEffect::Eof, JobEffect::Job(1, 3)],
         None,
     ),
-    JobStep::Submit(&[RowEffect::Job(2, 2)], None),
+    JobStep::Submit(&[JobEffect::Job(2, 2)], None),
     JobStep::Work(Some((7, 0, 1))),
     JobStep::Work(Some((7, 1, 3))),
     JobStep::Work(Some((7, 2, 2))),
@@ -176,15 +176,15 @@ fn the_jobs_of_a_row_go_to_their_worker_in_order(rt: HostRuntime) -> Result<(), 
 const NOT_NEXT: Option<SubmitFault> = Some(SubmitFault::NotNext);
 
 const OUT_OF_ORDER: [JobStep; 9] = [
-    JobStep::Submit(&[RowEffect::Job(0, 1), RowEffect::Job(2, 1)], NOT_NEXT),
-    JobStep::Submit(&[RowEffect::Job(0, 4)], NOT_NEXT),
-    JobStep::Submit(&[RowEffect::Job(0, 0)], NOT_NEXT),
+    JobStep::Submit(&[JobEffect::Job(0, 1), JobEffect::Job(2, 1)], NOT_NEXT),
+    JobStep::Submit(&[JobEffect::Job(0, 4)], NOT_NEXT),
+    JobStep::Submit(&[JobEffect::Job(0, 0)], NOT_NEXT),
     JobStep::Work(None),
     JobStep::IsSubmitted(0, false),
-    JobStep::Submit(&[RowEffect::Job(0, 1)], None),
+    JobStep::Submit(&[JobEffect::Job(0, 1)], None),
     JobStep::IsSubmitted(0, true),
     JobStep::IsSubmitted(1, false),
-    JobStep::Submit(&[RowEffect::Job(0, 1)], NOT_NEXT),
+    JobStep::Submit(&[JobEffect::Job(0, 1)], NOT_NEXT),
 ];
 
 #[test]
@@ -198,13 +198,13 @@ const TOLD: [JobStep; 12] = [
     JobStep::Done(1),
     JobStep::Close,
     JobStep::AreDone(true),
-    JobStep::Submit(&[RowEffect::Job(0, 1), RowEffect::Job(1, 1)], None),
+    JobStep::Submit(&[JobEffect::Job(0, 1), JobEffect::Job(1, 1)], None),
     JobStep::AreDone(false),
     JobStep::Done(0),
     JobStep::AreDone(true),
     JobStep::Done(0),
     JobStep::AreDone(true),
-    JobStep::Submit(&[RowEffect::Job(2, 1)], None),
+    JobStep::Submit(&[JobEffect::Job(2, 1)], None),
     JobStep::AreDone(false),
 ];
 

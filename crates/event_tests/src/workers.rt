@@ -60,7 +60,7 @@ fn submit_sum<R: Wait>(rt: &R, alloc: Global, pool: &mut Pool) -> Result<(), NoM
 
 /// What a turn came to.
 #[derive(Clone, Copy, PartialEq, Eq)]
-enum Turn {
+enum WorkerTurn {
     /// Job 0 of port 4, the sum of two bytes, was done.
     Sum,
     OtherJob,
@@ -79,13 +79,13 @@ fn is_sum(done: &Done) -> bool {
 }
 
 /// What the worker's next turn comes to.
-fn next_turn<R: Wait>(rt: &R, alloc: Global, worker: &mut TakeEnd<WorkItem>) -> Turn {
+fn next_turn<R: Wait>(rt: &R, alloc: Global, worker: &mut TakeEnd<WorkItem>) -> WorkerTurn {
     match &Pool::worker_turn(rt, alloc, worker) {
-        Worked::Did(done) if is_sum(done) => Turn::Sum,
-        Worked::Did(_) => Turn::OtherJob,
-        Worked::Empty => Turn::Empty,
-        Worked::Finished => Turn::Finished,
-        Worked::NoMemory(_) => Turn::NoMemory,
+        Worked::Did(done) if is_sum(done) => WorkerTurn::Sum,
+        Worked::Did(_) => WorkerTurn::OtherJob,
+        Worked::Empty => WorkerTurn::Empty,
+        Worked::Finished => WorkerTurn::Finished,
+        Worked::NoMemory(_) => WorkerTurn::NoMemory,
     }
 }
 
@@ -95,7 +95,10 @@ fn finish<R: Wait>(rt: &R, pool: Pool) -> bool {
 }
 
 /// What two turns come to after a job was submitted, and one after the worker was told to finish, if it was told.
-fn turns<R: Wait>(rt: &R, alloc: Global) -> Result<(Turn, Turn, Option<Turn>), NoMemory> {
+fn turns<R: Wait>(
+    rt: &R,
+    alloc: Global,
+) -> Result<(WorkerTurn, WorkerTurn, Option<WorkerTurn>), NoMemory> {
     let (mut pool, mut worker) = one_worker(alloc)?;
     submit_sum(rt, alloc, &mut pool)?;
     let first = next_turn(rt, alloc, &mut worker);
@@ -110,7 +113,14 @@ fn turns<R: Wait>(rt: &R, alloc: Global) -> Result<(Turn, Turn, Option<Turn>), N
 
 #[test]
 fn a_turn_works_a_job_and_then_finishes(rt: HostRuntime) {
-    assert!(rt; turns(&rt, rt.alloc()) == Ok((Turn::Sum, Turn::Empty, Some(Turn::Finished))));
+    assert!(rt;
+        turns(&rt, rt.alloc())
+            == Ok((
+                WorkerTurn::Sum,
+                WorkerTurn::Empty,
+                Some(WorkerTurn::Finished)
+            ))
+    );
 }
 
 // Turns until a `Finish`, or until the lane is empty after all was submitted. What was done, in order.

@@ -18,7 +18,7 @@ const SCRIPT: &str = "process a\nport c a spawn run \"program\" exit_status\na f
 
 /// The drivers of a run.
 #[derive(Clone, Copy)]
-enum TestDriver {
+enum FaultTestDriver {
     /// Of the program.
     Program,
     /// One that has no port.
@@ -28,11 +28,11 @@ enum TestDriver {
 }
 
 /// One of the program, one that has no port, and two that refuse to start.
-const DRIVERS: [TestDriver; 4] = [
-    TestDriver::Program,
-    TestDriver::Echo,
-    TestDriver::RefuseGeneral,
-    TestDriver::RefuseBadarg,
+const DRIVERS: [FaultTestDriver; 4] = [
+    FaultTestDriver::Program,
+    FaultTestDriver::Echo,
+    FaultTestDriver::RefuseGeneral,
+    FaultTestDriver::RefuseBadarg,
 ];
 
 /// A fresh driver of the program.
@@ -54,14 +54,14 @@ fn fresh_refuse(alloc: Global, refused: Refused) -> Result<Box<dyn Driver + Send
 /// This driver, fresh.
 fn fresh(
     alloc: Global,
-    driver: TestDriver,
+    driver: FaultTestDriver,
     failing: FailingCall,
 ) -> Result<Box<dyn Driver + Send>, Fail> {
     match driver {
-        TestDriver::Program => fresh_spawn(alloc, failing),
-        TestDriver::Echo => fresh_echo(alloc),
-        TestDriver::RefuseGeneral => fresh_refuse(alloc, Refused::General),
-        TestDriver::RefuseBadarg => fresh_refuse(alloc, Refused::Badarg),
+        FaultTestDriver::Program => fresh_spawn(alloc, failing),
+        FaultTestDriver::Echo => fresh_echo(alloc),
+        FaultTestDriver::RefuseGeneral => fresh_refuse(alloc, Refused::General),
+        FaultTestDriver::RefuseBadarg => fresh_refuse(alloc, Refused::Badarg),
     }
 }
 

@@ -210,6 +210,7 @@ fn is_too_long<R: Sync + Threads + Wait>(
 #[test]
 fn a_script_has_at_most_1_048_576_bytes(rt: HostRuntime) -> Result<(), Fail> {
     assert!(rt; is_too_long(&rt, rt.alloc(), 1_048_577)?);
+    assert!(rt; !is_too_long(&rt, rt.alloc(), 1_048_576)?);
     Ok(())
 }
 
@@ -227,6 +228,7 @@ fn is_crowded<R: Sync + Threads + Wait>(rt: &R, alloc: Global, count: u32) -> Re
 #[test]
 fn a_script_has_at_most_32_processes(rt: HostRuntime) -> Result<(), Fail> {
     assert!(rt; is_crowded(&rt, rt.alloc(), 33)?);
+    assert!(rt; !is_crowded(&rt, rt.alloc(), 32)?);
     Ok(())
 }
 

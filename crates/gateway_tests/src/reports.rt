@@ -8,7 +8,7 @@ use std::test::Fail;
 use std::thread::Threads;
 
 /// Scripts, and what each may report: a single text but where it isn't said which of two processes is first.
-pub const RUNS: [(&str, &[&str]); 23] = [
+pub const RUNS: [(&str, &[&str]); 25] = [
     // Nothing is declared.
     ("", &["report processes=0 ports=0\n"]),
     // A process with no step.
@@ -130,6 +130,38 @@ pub const RUNS: [(&str, &[&str]); 23] = [
              port q driver=echo commands=1 late=0 bytes=2 end=normal\n\
              process a commands=0 dropped=0 suspended=0 data=1 sha256=4cd0e21a9a0795a14ec9aa5f0e7d1abff0492565770e43eafdf1e3e8afed1f33\n\
              process b commands=2 dropped=0 suspended=0 data=0 sha256=e3b0c44298fc1c149afbf4c8996fb92427ae41e4649b934ca495991b7852b855\n",
+        ],
+    ),
+    // The owner forms of a command and of a close, of the owner itself.
+    (
+        "process a\n\
+         port p a echo\n\
+         a send p \"abc\"\n\
+         a sendclose p\n",
+        &[
+            "report processes=1 ports=1\n\
+             port p driver=echo commands=1 late=0 bytes=3 end=normal\n\
+             process a commands=1 dropped=0 suspended=0 data=1 sha256=ba7816bf8f01cfea414140de5dae2223b00361a396177a9cb410ff61f20015ad\n",
+        ],
+    ),
+    // The owner hands its port on by the owner form; then the owner form of the new owner is a command.
+    (
+        "process a\n\
+         process b\n\
+         port p a echo\n\
+         port q b echo\n\
+         a sendconnect p b\n\
+         a control p 1 \"\"\n\
+         a command q \"go\"\n\
+         b expect q 1\n\
+         b send p \"x\"\n\
+         b expect p 1\n",
+        &[
+            "report processes=2 ports=2\n\
+             port p driver=echo commands=1 late=0 bytes=1 end=normal\n\
+             port q driver=echo commands=1 late=0 bytes=2 end=normal\n\
+             process a commands=1 dropped=0 suspended=0 data=0 sha256=e3b0c44298fc1c149afbf4c8996fb92427ae41e4649b934ca495991b7852b855\n\
+             process b commands=1 dropped=0 suspended=0 data=2 sha256=3fc515a8191466936e867c207ab4bb9cde2576f1b3c04fe1b344c62b0942e144\n",
         ],
     ),
     // An exit signal closes the port with its reason.
@@ -415,5 +447,7 @@ const LONG_REPORT: &str = "report processes=1 ports=1\n\
 fn a_command_has_at_most_262143_bytes(rt: HostRuntime) -> Result<(), Fail> {
     let written = commanded(&rt, rt.alloc(), 262_143)?;
     is_so(&rt, written.as_str() == LONG_REPORT, written.as_str());
+    let refused = commanded(&rt, rt.alloc(), 262_144)?;
+    is_so(&rt, refused.is_empty(), refused.as_str());
     Ok(())
 }

@@ -194,7 +194,7 @@ fn runs(alloc: Global, mode: Mode, chunks: &[&[u8]], expected: &[(Flag, &[u8])])
 }
 
 #[test]
-fn a_run_of_chunks(rt: HostRuntime) {
+fn packets_that_chunks_cut_come_whole(rt: HostRuntime) {
     let chunks: [&[u8]; 3] = [b"\x00\x03ab", b"c\x00\x00", b"\x00"];
     let packets: [(Flag, &[u8]); 2] = [(Flag::Plain, b"abc"), (Flag::Plain, b"")];
     is_right(&rt, runs(rt.alloc(), Mode::Packet2, &chunks, &packets));

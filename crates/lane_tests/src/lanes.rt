@@ -221,16 +221,28 @@ fn numbers(alloc: Global, start: u64, count: u64) -> Option<Vec<LaneNumber>> {
     Some(numbers)
 }
 
-// Whether each item is what its sender put. The senders are numbered from `first`, and put their numbers from these starts on.
-fn are_as_put(items: &[Item<LaneNumber>], first: u32, starts: &[u64]) -> bool {
+// Whether the items of this sender are so many numbers from this start on, in their order.
+fn come_in_order(items: &[Item<LaneNumber>], sender: u32, start: u64, count: u64) -> bool {
+    let mut next = 0u64;
     for item in items {
-        let place = item.sender.wrapping_sub(first) as usize;
-        let Some(start) = starts.get(place) else {
-            return false;
-        };
-        if item.value.0.checked_sub(*start) != Some(item.seq) {
+        if item.sender == sender {
+            if item.seq != next || item.value.0.checked_sub(start) != Some(next) {
+                return false;
+            }
+            next = next.wrapping_add(1);
+        }
+    }
+    next == count
+}
+
+// Whether each sender's items are so many numbers in their order. The senders are numbered from `first`, and put their numbers from these starts on.
+fn are_as_put(items: &[Item<LaneNumber>], first: u32, starts: &[u64], count: u64) -> bool {
+    let mut sender = first;
+    for start in starts {
+        if !come_in_order(items, sender, *start, count) {
             return false;
         }
+        sender = sender.wrapping_add(1);
     }
     true
 }
@@ -245,7 +257,7 @@ fn delivered<R: Threads + Wait + Sync>(rt: &R, alloc: Global) -> Option<Vec<Item
 // Whether both lists come whole, and in their order.
 fn delivers<R: Threads + Wait + Sync>(rt: &R, alloc: Global) -> bool {
     match &delivered(rt, alloc) {
-        Some(items) => items.len() == 2000 && are_as_put(items.as_slice(), 0, &[0, 5000]),
+        Some(items) => items.len() == 2000 && are_as_put(items.as_slice(), 0, &[0, 5000], 1000),
         None => false,
     }
 }
@@ -395,7 +407,7 @@ fn fanned_in<R: Threads + Wait + Sync>(rt: &R, alloc: Global) -> Option<Vec<Item
 // Whether all lists come whole, and in their order.
 fn fans_in<R: Threads + Wait + Sync>(rt: &R, alloc: Global) -> bool {
     match &fanned_in(rt, alloc) {
-        Some(items) => items.len() == 400 && are_as_put(items.as_slice(), 1, &STARTS),
+        Some(items) => items.len() == 400 && are_as_put(items.as_slice(), 1, &STARTS, 50),
         None => false,
     }
 }

@@ -1,5 +1,5 @@
 use crate::checks::{is_right, none_is_wrong};
-use io_vector::{Flag, IoVec, Past, Piece, PrefixFault};
+use io_vector::{IoVec, Past, Piece, PrefixFault};
 use std::alloc::Global;
 
 /// What is done with a vector, or seen of it.
@@ -176,9 +176,4 @@ fn is_shared_and_cut(alloc: Global, bytes: &[u8]) -> bool {
 #[test]
 fn a_piece_is_shared_and_cut(rt: HostRuntime) {
     is_right(&rt, is_shared_and_cut(rt.alloc(), b"abcd"));
-}
-
-#[test]
-fn flags_differ(rt: HostRuntime) {
-    is_right(&rt, Flag::Eol != Flag::Noeol && Flag::Plain != Flag::Eol);
 }

@@ -2,8 +2,8 @@ ghost use Rattle.std.specs.Prelude.{◌==◌};
 ghost use Rattle.std.specs.List.{IsDistinct};
 
 use outside::{
-    FileFault, Files, Gate, MemFiles, MemPoll, MemSink, OpenGate, PollFault, PollSet, RealFiles,
-    RealSink, Sink, SinkFault,
+    FileFault, Files, MemFiles, MemPoll, MemSink, PollFault, PollSet, RealFiles, RealSink, Sink,
+    SinkFault,
 };
 use std::alloc::Global;
 use std::path::PathBuf;
@@ -192,7 +192,7 @@ fn put_file<F: Files, K: Sink>(alloc: Global, files: &mut F, sink: &mut K) -> bo
 }
 
 #[test]
-fn objects_stand_behind_their_traits(rt: HostRuntime) -> Result<(), Fail> {
+fn a_file_is_read_and_put_out_by_the_traits_alone(rt: HostRuntime) -> Result<(), Fail> {
     let alloc = rt.alloc();
     let mut files = three_bytes(alloc)?;
     let mut sink = MemSink::new(alloc);
@@ -204,11 +204,8 @@ fn objects_stand_behind_their_traits(rt: HostRuntime) -> Result<(), Fail> {
 }
 
 #[test]
-fn the_real_sink_and_the_open_gate_let_all_through(rt: HostRuntime) -> Result<(), Fail> {
+fn a_put_to_the_real_sink_is_accepted(rt: HostRuntime) -> Result<(), Fail> {
     let mut sink = RealSink::new(rt.clone()?);
     assert!(rt; put_fault(&mut sink, b"put\n").is_none());
-    let gate = OpenGate;
-    gate.enter(0);
-    gate.leave(0);
     Ok(())
 }

@@ -1,6 +1,6 @@
 use crate::rig::{TakenTask, no_limits, small_limits};
 use crate::sender::{PERIOD, PortSender, SendAnswer, set_up, set_up_busy};
-use crate::steps::{Step, follow};
+use crate::steps::{ProcessStep, follow};
 use process_end::{How, Outcome, Receipt, SendRefusal, Shown};
 use std::alloc::Global;
 use std::sync::Wait;
@@ -13,10 +13,10 @@ fn freed<R: Wait>(rt: &R, alloc: Global) -> Option<PortSender> {
     is_freed.then_some(sender)
 }
 
-const FREED: [Step; 3] = [
-    Step::Send(2, 1, How::NoSuspend, SendAnswer::Accepted(0)),
-    Step::Look(8),
-    Step::Begin(Receipt {
+const FREED: [ProcessStep; 3] = [
+    ProcessStep::Send(2, 1, How::NoSuspend, SendAnswer::Accepted(0)),
+    ProcessStep::Look(8),
+    ProcessStep::FirstReceipt(Receipt {
         line: 1,
         port: 0,
         seq: None,
@@ -32,28 +32,28 @@ fn without_suspension_a_busy_port_drops(rt: HostRuntime) {
     follow(&rt, sender, &FREED);
 }
 
-const BUSY_QUEUE: [Step; 6] = [
-    Step::Send(1, 4, How::Plain, SendAnswer::Accepted(0)),
-    Step::Send(2, 4, How::Force, SendAnswer::Accepted(1)),
-    Step::Take(Some(TakenTask {
+const BUSY_QUEUE: [ProcessStep; 6] = [
+    ProcessStep::Send(1, 4, How::Plain, SendAnswer::Accepted(0)),
+    ProcessStep::Send(2, 4, How::Force, SendAnswer::Accepted(1)),
+    ProcessStep::Take(Some(TakenTask {
         seq: 0,
         suspends: false,
         is_end: false,
         msgq: Some(PERIOD + 4),
     })),
-    Step::Send(
+    ProcessStep::Send(
         3,
         1,
         How::NoSuspend,
         SendAnswer::Dropped(Shown::Msgq(1_099_511_627_780)),
     ),
-    Step::Take(Some(TakenTask {
+    ProcessStep::Take(Some(TakenTask {
         seq: 1,
         suspends: false,
         is_end: false,
         msgq: Some(2 * PERIOD),
     })),
-    Step::Send(4, 1, How::NoSuspend, SendAnswer::Accepted(2)),
+    ProcessStep::Send(4, 1, How::NoSuspend, SendAnswer::Accepted(2)),
 ];
 
 #[test]
@@ -71,7 +71,12 @@ fn refused_and_busy<R: Wait>(rt: &R, alloc: Global) -> Option<PortSender> {
     is_busy.then_some(sender)
 }
 
-const FORCED_TO_BUSY: [Step; 1] = [Step::Send(2, 1, How::ForceNoSuspend, NOT_SUPPORTED)];
+const FORCED_TO_BUSY: [ProcessStep; 1] = [ProcessStep::Send(
+    2,
+    1,
+    How::ForceNoSuspend,
+    NOT_SUPPORTED,
+)];
 
 #[test]
 fn a_driver_that_takes_no_force_refuses_it_busy_or_not(rt: HostRuntime) {
@@ -79,9 +84,9 @@ fn a_driver_that_takes_no_force_refuses_it_busy_or_not(rt: HostRuntime) {
     follow(&rt, sender, &FORCED_TO_BUSY);
 }
 
-const FORCED: [Step; 2] = [
-    Step::Send(1, 1, How::Force, SendAnswer::Accepted(0)),
-    Step::Begin(Receipt {
+const FORCED: [ProcessStep; 2] = [
+    ProcessStep::Send(1, 1, How::Force, SendAnswer::Accepted(0)),
+    ProcessStep::FirstReceipt(Receipt {
         line: 1,
         port: 0,
         seq: Some(0),
@@ -104,14 +109,14 @@ fn closed(alloc: Global) -> Option<PortSender> {
     is_closed.then_some(sender)
 }
 
-const CLOSED: [Step; 3] = [
-    Step::Send(
+const CLOSED: [ProcessStep; 3] = [
+    ProcessStep::Send(
         1,
         1,
         How::Plain,
         SendAnswer::Refused(SendRefusal::Closed { mark: 2 }),
     ),
-    Step::Begin(Receipt {
+    ProcessStep::FirstReceipt(Receipt {
         line: 1,
         port: 0,
         seq: None,
@@ -119,7 +124,7 @@ const CLOSED: [Step; 3] = [
         msgq: None,
         outcome: Outcome::Closed,
     }),
-    Step::Take(None),
+    ProcessStep::Take(None),
 ];
 
 #[test]
@@ -127,10 +132,10 @@ fn a_closed_port_refuses_and_tells_how_many_marks_it_made(rt: HostRuntime) {
     follow(&rt, closed(rt.alloc()), &CLOSED);
 }
 
-const REFUSED: [[Step; 2]; 2] = [
+const REFUSED: [[ProcessStep; 2]; 2] = [
     [
-        Step::Send(1, 1, How::Force, NOT_SUPPORTED),
-        Step::Begin(Receipt {
+        ProcessStep::Send(1, 1, How::Force, NOT_SUPPORTED),
+        ProcessStep::FirstReceipt(Receipt {
             line: 1,
             port: 0,
             seq: None,
@@ -140,13 +145,13 @@ const REFUSED: [[Step; 2]; 2] = [
         }),
     ],
     [
-        Step::Send(
+        ProcessStep::Send(
             1,
             262_144,
             How::Plain,
             SendAnswer::Refused(SendRefusal::TooLong { len: 262_144 }),
         ),
-        Step::Begin(Receipt {
+        ProcessStep::FirstReceipt(Receipt {
             line: 1,
             port: 0,
             seq: None,

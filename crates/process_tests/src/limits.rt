@@ -1,16 +1,16 @@
 use crate::rig::no_limits;
 use crate::sender::{SendAnswer, set_up};
-use crate::steps::{Step, follow};
+use crate::steps::{ProcessStep, follow};
 use process_end::{How, Outcome, Receipt, SendRefusal};
 
-const LONGEST: [Step; 2] = [
-    Step::Send(
+const LONGEST: [ProcessStep; 2] = [
+    ProcessStep::Send(
         1,
         262_144,
         How::Plain,
         SendAnswer::Refused(SendRefusal::TooLong { len: 262_144 }),
     ),
-    Step::Send(2, 262_143, How::Plain, SendAnswer::Accepted(0)),
+    ProcessStep::Send(2, 262_143, How::Plain, SendAnswer::Accepted(0)),
 ];
 
 #[test]
@@ -19,10 +19,10 @@ fn a_signal_has_at_most_262_143_bytes(rt: HostRuntime) {
     follow(&rt, sender, &LONGEST);
 }
 
-const UNLIMITED: [Step; 3] = [
-    Step::Send(1, 262_143, How::Plain, SendAnswer::Accepted(0)),
-    Step::Send(2, 262_143, How::NoSuspend, SendAnswer::Accepted(1)),
-    Step::Begin(Receipt {
+const UNLIMITED: [ProcessStep; 3] = [
+    ProcessStep::Send(1, 262_143, How::Plain, SendAnswer::Accepted(0)),
+    ProcessStep::Send(2, 262_143, How::NoSuspend, SendAnswer::Accepted(1)),
+    ProcessStep::FirstReceipt(Receipt {
         line: 1,
         port: 0,
         seq: Some(0),
@@ -40,11 +40,11 @@ fn a_queue_without_limits_is_never_busy(rt: HostRuntime) {
 
 const SENT_OUT: SendAnswer = SendAnswer::Refused(SendRefusal::SentOut);
 
-const CALLS: [Step; 4] = [
-    Step::Link(131_072, SendAnswer::Accepted(131_071)),
-    Step::Link(1, SENT_OUT),
-    Step::Send(3, 0, How::Plain, SENT_OUT),
-    Step::Make(131_075),
+const CALLS: [ProcessStep; 4] = [
+    ProcessStep::Link(131_072, SendAnswer::Accepted(131_071)),
+    ProcessStep::Link(1, SENT_OUT),
+    ProcessStep::Send(3, 0, How::Plain, SENT_OUT),
+    ProcessStep::ReceiptCount(131_075),
 ];
 
 #[test]

@@ -8,7 +8,7 @@ use suspend_list::StopNote;
 
 /// What a process with one port does or sees, and what has to come of it.
 #[derive(Clone, Copy)]
-pub(crate) enum Step {
+pub(crate) enum ProcessStep {
     /// A command of this line, of so many bytes, answers this.
     Send(u32, usize, How, SendAnswer),
     /// Of so many links the last one answers this, and the others are accepted.
@@ -18,9 +18,9 @@ pub(crate) enum Step {
     /// The port takes this task, or none.
     Take(Option<TakenTask>),
     /// The process ends, and this is its first receipt.
-    Begin(Receipt),
+    FirstReceipt(Receipt),
     /// The process ends, and has receipts of so many calls.
-    Make(usize),
+    ReceiptCount(usize),
     Stopped(StopStep),
 }
 
@@ -68,20 +68,21 @@ fn stop_goes<R: Wait>(rt: &R, sender: &mut PortSender, step: StopStep) -> bool {
 }
 
 /// Whether a step goes so.
-fn goes<R: Wait>(rt: &R, sender: &mut PortSender, step: &Step) -> bool {
+fn goes<R: Wait>(rt: &R, sender: &mut PortSender, step: &ProcessStep) -> bool {
     match step {
-        Step::Send(line, bytes, how, answer) => sender.send(rt, *line, *bytes, *how) == *answer,
-        Step::Link(times, answer) => sender.links(rt, *times) == *answer,
-        Step::Look(stat) => sender.look() == Some(*stat),
-        Step::Take(task) => sender.port.take(rt) == *task,
-        Step::Begin(receipt) => begins(rt, sender, receipt),
-        Step::Make(calls) => makes(rt, sender, *calls),
-        Step::Stopped(step) => stop_goes(rt, sender, *step),
+        ProcessStep::Send(line, bytes, how, answer) => sender.send(rt, *line, *bytes, *how)
+            == *answer,
+        ProcessStep::Link(times, answer) => sender.links(rt, *times) == *answer,
+        ProcessStep::Look(stat) => sender.look() == Some(*stat),
+        ProcessStep::Take(task) => sender.port.take(rt) == *task,
+        ProcessStep::FirstReceipt(receipt) => begins(rt, sender, receipt),
+        ProcessStep::ReceiptCount(calls) => makes(rt, sender, *calls),
+        ProcessStep::Stopped(step) => stop_goes(rt, sender, *step),
     }
 }
 
 /// The number of the first step that goes otherwise, if one does.
-fn first_wrong<R: Wait>(rt: &R, sender: &mut PortSender, steps: &[Step]) -> Option<usize> {
+fn first_wrong<R: Wait>(rt: &R, sender: &mut PortSender, steps: &[ProcessStep]) -> Option<usize> {
     for (at, step) in steps.iter().enumerate() {
         if !goes(rt, sender, step) {
             return Some(at);
@@ -91,7 +92,11 @@ fn first_wrong<R: Wait>(rt: &R, sender: &mut PortSender, steps: &[Step]) -> Opti
 }
 
 /// The same, or the number behind the last step where the process wasn't set up.
-fn first_wrong_of<R: Wait>(rt: &R, sender: Option<PortSender>, steps: &[Step]) -> Option<usize> {
+fn first_wrong_of<R: Wait>(
+    rt: &R,
+    sender: Option<PortSender>,
+    steps: &[ProcessStep],
+) -> Option<usize> {
     match sender {
         Some(mut sender) => first_wrong(rt, &mut sender, steps),
         None => Some(steps.len()),
@@ -99,6 +104,6 @@ fn first_wrong_of<R: Wait>(rt: &R, sender: Option<PortSender>, steps: &[Step]) -
 }
 
 /// Ends the test where a step goes otherwise.
-pub(crate) fn follow<R: Wait + Abort>(rt: &R, sender: Option<PortSender>, steps: &[Step]) {
+pub(crate) fn follow<R: Wait + Abort>(rt: &R, sender: Option<PortSender>, steps: &[ProcessStep]) {
     assert_eq!(rt; first_wrong_of(rt, sender, steps), None);
 }

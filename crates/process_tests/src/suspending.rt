@@ -1,21 +1,21 @@
 use crate::rig::{TakenTask, no_limits, small_limits};
 use crate::sender::{PERIOD, SendAnswer, Why, set_up, set_up_busy};
-use crate::steps::{Step, StopStep, follow};
+use crate::steps::{ProcessStep, StopStep, follow};
 use process_end::{How, Outcome, Receipt};
 use suspend_list::StopNote;
 
-const OWN_RESUME: [Step; 8] = [
-    Step::Send(3, 1, How::Plain, SendAnswer::Suspended),
-    Step::Stopped(StopStep::Note(StopNote {
+const OWN_RESUME: [ProcessStep; 8] = [
+    ProcessStep::Send(3, 1, How::Plain, SendAnswer::Suspended),
+    ProcessStep::Stopped(StopStep::Note(StopNote {
         port: 0,
         seq: 0,
         msgq: 1,
     })),
-    Step::Stopped(StopStep::Resume(1, 0)),
-    Step::Stopped(StopStep::Resume(0, 0)),
-    Step::Stopped(StopStep::Wait(Why::OtherResume(1))),
-    Step::Stopped(StopStep::GoOn),
-    Step::Begin(Receipt {
+    ProcessStep::Stopped(StopStep::Resume(1, 0)),
+    ProcessStep::Stopped(StopStep::Resume(0, 0)),
+    ProcessStep::Stopped(StopStep::Wait(Why::OtherResume(1))),
+    ProcessStep::Stopped(StopStep::GoOn),
+    ProcessStep::FirstReceipt(Receipt {
         line: 3,
         port: 0,
         seq: Some(0),
@@ -23,7 +23,7 @@ const OWN_RESUME: [Step; 8] = [
         msgq: Some(1),
         outcome: Outcome::Suspended,
     }),
-    Step::Take(Some(TakenTask {
+    ProcessStep::Take(Some(TakenTask {
         seq: 0,
         suspends: true,
         is_end: false,
@@ -37,20 +37,20 @@ fn a_busy_port_suspends_a_sender_until_its_own_resume(rt: HostRuntime) {
     follow(&rt, sender, &OWN_RESUME);
 }
 
-const END_OF_PERIOD: [Step; 8] = [
-    Step::Send(1, 8, How::Owner, SendAnswer::Suspended),
-    Step::Stopped(StopStep::Wait(Why::Empty)),
-    Step::Stopped(StopStep::Resume(0, PERIOD + 8)),
-    Step::Stopped(StopStep::Wait(Why::SamePeriod(PERIOD + 8))),
-    Step::Stopped(StopStep::Resume(0, PERIOD + 8)),
-    Step::Take(Some(TakenTask {
+const END_OF_PERIOD: [ProcessStep; 8] = [
+    ProcessStep::Send(1, 8, How::Owner, SendAnswer::Suspended),
+    ProcessStep::Stopped(StopStep::Wait(Why::Empty)),
+    ProcessStep::Stopped(StopStep::Resume(0, PERIOD + 8)),
+    ProcessStep::Stopped(StopStep::Wait(Why::SamePeriod(PERIOD + 8))),
+    ProcessStep::Stopped(StopStep::Resume(0, PERIOD + 8)),
+    ProcessStep::Take(Some(TakenTask {
         seq: 0,
         suspends: true,
         is_end: false,
         msgq: Some(2 * PERIOD),
     })),
-    Step::Stopped(StopStep::GoOn),
-    Step::Stopped(StopStep::TakeResume(0)),
+    ProcessStep::Stopped(StopStep::GoOn),
+    ProcessStep::Stopped(StopStep::TakeResume(0)),
 ];
 
 #[test]
