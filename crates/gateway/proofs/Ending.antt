@@ -160,7 +160,8 @@ module _ {D : Type 0} (kind : D → Kind) (stage : D → Life) (faults : D → �
   unmade-comes run plan i (ran.StartRefused line refusal) h n p w s = (
     record {
       plan = plan;
-      found = found-of run.words run.files run.files_after plan i h;
+      contents = h.contents;
+      loaded = h.loaded;
       refused = subst (λ (ports : List PortDecl). RefusedAt kind stage faults ports run.hosts run.hosts_after line refusal) h.run.ports n;
     },
     (w, s),
@@ -168,7 +169,8 @@ module _ {D : Type 0} (kind : D → Kind) (stage : D → Life) (faults : D → �
   unmade-comes run plan i ran.PollFault h n p w s = (
     record {
       plan = plan;
-      found = found-of run.words run.files run.files_after plan i h;
+      contents = h.contents;
+      loaded = h.loaded;
       served = subst (λ (ports : List PortDecl). HaveAllServed kind stage faults ports run.hosts run.hosts_after) h.run.ports n;
       rose = p refl;
     },

@@ -19,6 +19,7 @@ use Rattle.script_input.specs.Words.{AskedRun, Source, FromFile, FromLoad}
 use Rattle.script_input.proofs.Contents.{none-done}
 use Rattle.script_plan.specs.declared.decl.PortDecl.{PortDecl}
 use Rattle.script_plan.specs.Plan.{Plan, IsPlan}
+use Rattle.gateway.specs.Causes.{AllFound}
 use Rattle.gateway.specs.Run.{AskFor, SaysPlan, PlanRead, HasInput}
 use Rattle.gateway.specs.Stages.{DriversEnd, InputEnds, SourceEnds}
 use Rattle.gateway.proofs.Asked.{same-source}
@@ -120,22 +121,22 @@ module _ {D : Type 0} (kind : D → Kind) (stage : D → Life) (faults : D → �
 
   -- the files weren't read
   files-end-of : (source : Source) (words : Result AskedRun ℕ) (hosts : List (Hosted D)) (before mid after : FilesView) (plan : Plan) (fault : InputFault) → PlanRead words before mid plan
-      → AskFor words source → SaysPlan source before mid plan → FilesEnd plan.steps mid after fault → InputEnds kind stage faults words hosts before after (input_cause fault)
-  files-end-of source words hosts before mid after plan (input.Script fault) r asks says ends = absurd ends
-  files-end-of (FromFile name) words hosts before mid after plan (input.ReadFault line) r asks says ends =
-      inr (record { name = name; named = asks; plan = plan; mid = mid; script = r; file = ends })
-  files-end-of (FromFile name) words hosts before mid after plan (input.Limit line) r asks says ends =
-      inr (record { name = name; named = asks; plan = plan; mid = mid; script = r; files = ends })
-  files-end-of (FromLoad number) words hosts before mid after plan (input.ReadFault line) r asks says ends =
+      → AskFor words source → SaysPlan source before mid plan → FilesEnd plan.steps mid after fault → AllFound kind hosts plan.ports → InputEnds kind stage faults words hosts before after (input_cause fault)
+  files-end-of source words hosts before mid after plan (input.Script fault) r asks says ends drivers = absurd ends
+  files-end-of (FromFile name) words hosts before mid after plan (input.ReadFault line) r asks says ends drivers =
+      inr (record { name = name; named = asks; plan = plan; mid = mid; script = r; drivers = drivers; file = ends })
+  files-end-of (FromFile name) words hosts before mid after plan (input.Limit line) r asks says ends drivers =
+      inr (record { name = name; named = asks; plan = plan; mid = mid; script = r; drivers = drivers; files = ends })
+  files-end-of (FromLoad number) words hosts before mid after plan (input.ReadFault line) r asks says ends drivers =
       absurd (stops-nowhere plan.steps line ends.name ends.contents mid after (sends-none number plan says.1) ends.stops)
-  files-end-of (FromLoad number) words hosts before mid after plan (input.Limit line) r asks says ends =
+  files-end-of (FromLoad number) words hosts before mid after plan (input.Limit line) r asks says ends drivers =
       absurd (stops-nowhere plan.steps line ends.name ends.contents mid after (sends-none number plan says.1) ends.stops)
-  files-end-of source words hosts before mid after plan input.NoMemory r asks says ends = ends.read.reads ∙ says-reads source before mid plan says
+  files-end-of source words hosts before mid after plan input.NoMemory r asks says ends drivers = ends.read.reads ∙ says-reads source before mid plan says
 
   pub files-end : (words : Result AskedRun ℕ) (hosts : List (Hosted D)) (before mid after : FilesView) (plan : Plan) (fault : InputFault) → PlanRead words before mid plan
-      → FilesEnd plan.steps mid after fault → InputEnds kind stage faults words hosts before after (input_cause fault)
-  files-end words hosts before mid after plan fault r ends =
-      files-end-of r.asked.source words hosts before mid after plan fault r (record { asked = r.asked; named = r.named; source_is = refl }) r.read ends
+      → FilesEnd plan.steps mid after fault → AllFound kind hosts plan.ports → InputEnds kind stage faults words hosts before after (input_cause fault)
+  files-end words hosts before mid after plan fault r ends drivers =
+      files-end-of r.asked.source words hosts before mid after plan fault r (record { asked = r.asked; named = r.named; source_is = refl }) r.read ends drivers
 
 -- what holds of a fault holds of the answer that tells it
 pub err-so : {A E : Type 0} (r : Result A E) (e : E) (P : E → Type 0) → IsErrAnd r (λ f. f ≡ e) → P e → IfErr r P

@@ -26,12 +26,13 @@ use Rattle.run_report.specs.declared.cause.Cause.TheVariants.{Done, Usage, Scrip
 use Rattle.script_input.specs.Contents.{file_of, file_names, named, total, StopsAt}
 use Rattle.script_input.specs.Files.{FilesView, HasRead, IsUnread}
 use Rattle.script_input.specs.Script.{ScriptRead}
+use Rattle.script_input.proofs.Contents.{all-done}
 use Rattle.script_input.specs.Words.{AskedRun, Source, FromFile, FromLoad}
 use Rattle.script_plan.specs.declared.decl.PortDecl.{PortDecl}
 use Rattle.script_plan.specs.declared.fault.ScriptFault.{ScriptFault}
 use Rattle.script_plan.specs.declared.step.Step.{Step}
 use Rattle.script_plan.specs.Plan.{Plan}
-use Rattle.gateway.specs.Run.{Run, AskFor, SaysPlan, PlanRead, PlanFound}
+use Rattle.gateway.specs.Run.{Run, AskFor, SaysPlan, PlanRead, PlanFound, Loaded}
 use Rattle.gateway.specs.Causes.{IsNoScript, ScriptUnread, ScriptOver, StepUnread, StepOver, CauseComes, AreThere, AllStart, FilesThere, ScriptThere, NoStartFailed, IsValid}
 use Rattle.gateway.proofs.Asked.{ok≢err, ok-same, same-source}
 use Rattle.gateway.proofs.Loads.{names-split, load-starts}
@@ -242,6 +243,10 @@ module _ {D : Type 0} where
     found-same : (plan : Plan) (v : IsValid kind faults run) → PlanFound run.words run.files run.files_after plan → plan ≡ v.plan
     found-same plan v f = plan-same f.mid plan _ v f.script f.files.read.answer.answered
 
+    loaded-same : (plan : Plan) (contents : List (List ℕ)) (v : IsValid kind faults run) → Loaded run.words run.files run.files_after plan contents → plan ≡ v.plan
+    loaded-same plan contents v l =
+        found-same plan v (record { mid = l.mid; script = l.script; files = all-done plan.steps plan.steps l.mid run.files_after contents l.files refl })
+
     -- no driver refuses to start with the options of its ports
     starts : (source : Source) (plan : Plan) → ScriptThere source run.files run.files_after plan → AllStart plan
     starts (FromFile name) plan t = t.starts
@@ -279,7 +284,7 @@ module _ {D : Type 0} where
     step-script : (name : List ℕ) (mid : FilesView) (plan : Plan) → AskFor run.words (FromFile name) → PlanRead run.words run.files mid plan → ScriptRead run.files mid name (Ok plan)
     step-script name mid plan asks r = subst (λ (s : Source). SaysPlan s run.files mid plan) (same-source run.words r.asked (FromFile name) r.named asks) r.read
 
-    step-there : (line : ℕ) (v : IsValid kind faults run) → StepUnread run.words run.files run.files_after line → ⊥
+    step-there : (line : ℕ) (v : IsValid kind faults run) → StepUnread kind run.hosts run.words run.files run.files_after line → ⊥
     step-there line v u = unread u.file.unread t.there
       where
         t : FilesThere run.files run.files_after u.name v.plan
@@ -301,7 +306,7 @@ module _ {D : Type 0} where
         unread (inr missing) (inr all) =
             short run.files u.mid run.files_after u.name t.bytes v.plan.steps t.contents line u.file.name u.file.contents t.many all read.bytes read.read.answered stops
 
-    files-fit : (line : ℕ) (v : IsValid kind faults run) → StepOver run.words run.files run.files_after line → ⊥
+    files-fit : (line : ℕ) (v : IsValid kind faults run) → StepOver kind run.hosts run.words run.files run.files_after line → ⊥
     files-fit line v u = over t.there
       where
         t : FilesThere run.files run.files_after u.name v.plan
@@ -339,7 +344,7 @@ module _ {D : Type 0} where
         let same = found-same c.0.plan v c.0.found in
         absurd (no-lack kind stage faults run.hosts v.plan.ports line handed v.drivers (subst (λ (p : Plan). LacksAt kind stage faults p.ports run.hosts line handed) same c.0.lacks))
     completes (StartRefused line refusal) c v =
-        let same = found-same c.0.plan v c.0.found in
+        let same = loaded-same c.0.plan c.0.contents v c.0.loaded in
         absurd (no-refusal kind stage faults v.plan run.hosts run.hosts_after line refusal (starts v.asked.source v.plan v.there) v.starts
         (subst (λ (p : Plan). RefusedAt kind stage faults p.ports run.hosts run.hosts_after line refusal) same c.0.refused))
     completes PollFault c v = absurd (no-wait-failed run.waits_after c.0.rose v.waits)

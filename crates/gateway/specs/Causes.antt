@@ -10,7 +10,7 @@ use Rattle.port_driver.specs.declared.life.StartRefusal.{StartRefusal}
 use Rattle.port_driver.specs.Starting as driver
 use Rattle.driver_hosts.specs.declared.hosted.Hosted.{Hosted}
 use Rattle.driver_hosts.specs.Back.{AllCameBack}
-use Rattle.driver_hosts.specs.Finding.{HasDrivers}
+use Rattle.driver_hosts.specs.Finding.{Found, HasDrivers}
 use Rattle.gateway_script.specs.Script.{script}
 use Rattle.run_laws.specs.run_output.run_opening.Faults.{LacksAt, RefusedAt}
 use Rattle.run_laws.specs.run_output.declared.writing.OutputFault.TheVariants as output
@@ -26,7 +26,7 @@ use Rattle.script_load.specs.Load.{load_plan}
 use Rattle.script_plan.specs.declared.decl.PortDecl.{PortDecl}
 use Rattle.script_plan.specs.declared.fault.ScriptFault.{ScriptFault}
 use Rattle.script_plan.specs.Plan.{Plan}
-use Rattle.gateway.specs.Run.{Run, AskFor, PlanRead, PlanFound}
+use Rattle.gateway.specs.Run.{Run, AskFor, PlanRead, PlanFound, Loaded}
 use Rattle.gateway.specs.Ran.{Ran}
 
 -- The five below are of the script of a file alone: a load has none of them
@@ -52,23 +52,30 @@ pub record ScriptOver (words : Result AskedRun ℕ) (before after : FilesView) :
   pub nothing : NothingRead before after
   pub over : IsLonger 1048576 before name
 
--- the script was read, and the file that this line names wasn't
-pub record StepUnread (words : Result AskedRun ℕ) (before after : FilesView) (line : ℕ) : Type 0 where
-  pub name : List ℕ
-  pub named : AskFor words (FromFile name)
-  pub plan : Plan
-  pub mid : FilesView
-  pub script : PlanRead words before mid plan
-  pub file : FileUnread plan.steps mid after line
+-- each port has a driver
+abbrev pub AllFound : {D : Type 0} → (D → Kind) → List (Hosted D) → List PortDecl → Type 0
+AllFound kind hosts ports = (places : List ℕ) × Found kind hosts ports places
 
--- the script was read, and its files up to that of this line are larger than is allowed
-pub record StepOver (words : Result AskedRun ℕ) (before after : FilesView) (line : ℕ) : Type 0 where
-  pub name : List ℕ
-  pub named : AskFor words (FromFile name)
-  pub plan : Plan
-  pub mid : FilesView
-  pub script : PlanRead words before mid plan
-  pub files : FilesOver plan.steps mid after line
+module _ {D : Type 0} (kind : D → Kind) (hosts : List (Hosted D)) where
+  -- the script was read and a driver was found for each of its ports, and the file that this line names wasn't read
+  pub record StepUnread (words : Result AskedRun ℕ) (before after : FilesView) (line : ℕ) : Type 0 where
+    pub name : List ℕ
+    pub named : AskFor words (FromFile name)
+    pub plan : Plan
+    pub mid : FilesView
+    pub script : PlanRead words before mid plan
+    pub drivers : AllFound kind hosts plan.ports
+    pub file : FileUnread plan.steps mid after line
+
+  -- the script was read and a driver was found for each of its ports, and its files up to that of this line are larger than is allowed
+  pub record StepOver (words : Result AskedRun ℕ) (before after : FilesView) (line : ℕ) : Type 0 where
+    pub name : List ℕ
+    pub named : AskFor words (FromFile name)
+    pub plan : Plan
+    pub mid : FilesView
+    pub script : PlanRead words before mid plan
+    pub drivers : AllFound kind hosts plan.ports
+    pub files : FilesOver plan.steps mid after line
 
 module _ {D : Type 0} where
   -- each driver is as it was handed in
@@ -93,16 +100,18 @@ module _ {D : Type 0} where
       pub found : PlanFound run.words run.files run.files_after plan
       pub lacks : LacksAt kind stage faults plan.ports run.hosts line handed
 
-    -- the driver of a port of the script that was read refused
+    -- all was read, and the driver of a port of the script refused
     pub record PortRefused (run : Run D) (line : ℕ) (refusal : StartRefusal) : Type 0 where
       pub plan : Plan
-      pub found : PlanFound run.words run.files run.files_after plan
+      pub contents : List (List ℕ)
+      pub loaded : Loaded run.words run.files run.files_after plan contents
       pub refused : RefusedAt kind stage faults plan.ports run.hosts run.hosts_after line refusal
 
-    -- a wait failed in the run of the script that was read; the drivers of its ports are back with their ports, and the others are as they were handed in
+    -- all was read, and a wait failed in the run of the script; the drivers of its ports are back with their ports, and the others are as they were handed in
     pub record WaitFailed (run : Run D) : Type 0 where
       pub plan : Plan
-      pub found : PlanFound run.words run.files run.files_after plan
+      pub contents : List (List ℕ)
+      pub loaded : Loaded run.words run.files run.files_after plan contents
       pub served : HaveAllServed kind stage faults plan.ports run.hosts run.hosts_after
       pub rose : IsSomeAnd run.waits_after (λ waits. Rose run.waits waits)
 
@@ -112,7 +121,7 @@ module _ {D : Type 0} where
     CauseComes run (Usage at) = (run.words ≡ Err at) × NothingRead run.files run.files_after × NoneTouched run × Unwritten run
     CauseComes run (Script fault) = IsNoScript run.words run.files run.files_after fault × NoneTouched run × Unwritten run
     CauseComes run (ReadFault line) =
-        (((line ≡ 0) × ScriptUnread run.words run.files run.files_after) ⊎ StepUnread run.words run.files run.files_after line) × NoneTouched run × Unwritten run
+        (((line ≡ 0) × ScriptUnread run.words run.files run.files_after) ⊎ StepUnread kind run.hosts run.words run.files run.files_after line) × NoneTouched run × Unwritten run
     CauseComes run WriteFault = Rose run.files.writes run.files_after.writes ⊎ Rose run.sink.faults run.sink_after.faults
     CauseComes run (NoDriver line handed) = PortLacks run line handed × NoneTouched run × Unwritten run
     CauseComes run (StartRefused line refusal) = PortRefused run line refusal × Unwritten run
@@ -120,7 +129,7 @@ module _ {D : Type 0} where
     CauseComes run NoMemory = (run.files_after.reads ≡ run.files.reads) × (Unwritten run ⊎ ((report : Report) × Ran kind stage faults own program run (Err output.NoMemory) report))
     CauseComes run (Illegal port row law) = ⊥
     CauseComes run (Limit line) =
-        (((line ≡ 0) × ScriptOver run.words run.files run.files_after) ⊎ StepOver run.words run.files run.files_after line) × NoneTouched run × Unwritten run
+        (((line ≡ 0) × ScriptOver run.words run.files run.files_after) ⊎ StepOver kind run.hosts run.words run.files run.files_after line) × NoneTouched run × Unwritten run
     CauseComes run (JournalText at) = ⊥
 
     -- a report is there exactly where the run was made and memory was found to report it, also where it wasn't written

@@ -46,10 +46,10 @@ module _ {D : Type 0} (kind : D → Kind) (stage : D → Life) (faults : D → �
   abbrev pub InputEnds : Result AskedRun ℕ → List (Hosted D) → FilesView → FilesView → Cause → Type 0
   InputEnds words hosts before after (Usage at) = (words ≡ Err at) × NothingRead before after
   InputEnds words hosts before after (Script fault) = IsNoScript words before after fault
-  InputEnds words hosts before after (ReadFault line) = ((line ≡ 0) × ScriptUnread words before after) ⊎ StepUnread words before after line
+  InputEnds words hosts before after (ReadFault line) = ((line ≡ 0) × ScriptUnread words before after) ⊎ StepUnread kind hosts words before after line
   InputEnds words hosts before after (NoDriver line handed) = (plan : Plan) × PlanFound words before after plan × LacksAt kind stage faults plan.ports hosts line handed
   InputEnds words hosts before after NoMemory = after.reads ≡ before.reads
-  InputEnds words hosts before after (Limit line) = ((line ≡ 0) × ScriptOver words before after) ⊎ StepOver words before after line
+  InputEnds words hosts before after (Limit line) = ((line ≡ 0) × ScriptOver words before after) ⊎ StepOver kind hosts words before after line
   InputEnds words hosts before after cause = ⊥
 
 -- how what is put out of this report was written, and whether it is there

@@ -1,8 +1,9 @@
-ghost use Rattle.std.specs.Prelude.{ℕ, ◌≤◌, map, length, string_bytes, IfOk, IfErr};
+ghost use Rattle.std.specs.Prelude.{ℕ, ◌≤◌, map, length, string_bytes, IfOk, IfErr, OnOk};
 ghost use Rattle.script_input.specs.run_opening.Script.{IsRunnable};
 ghost use Rattle.script_input.specs.Files.{files_view, NothingRead, NothingWritten};
 ghost use Rattle.script_input.specs.Words.{asked, source_of, FromLoad};
 ghost use Rattle.script_plan.specs.Plan.{IsPlan, Plan};
+ghost use Rattle.gateway.specs.Causes.{AllFound};
 ghost use Rattle.gateway.specs.Run.{AskFor, HasInput, SaysPlan};
 ghost use Rattle.gateway.specs.Stages.{DriversEnd, InputEnds, SourceEnds};
 
@@ -30,7 +31,8 @@ fn look_for_drivers<D: Driver>(
     ports: &[PortDecl],
 ) -> Result<(), Cause>
     requires { length ports.now ≤ 32 }
-    ensures { IfErr result (DriversEnd D.kind D.stage D.faults ports.now hosts.now) }
+    ensures found { OnOk result (AllFound D.kind hosts.now ports.now) }
+    ensures lacking { IfErr result (DriversEnd D.kind D.stage D.faults ports.now hosts.now) }
 {
     match find_drivers(alloc, hosts, ports) {
         Ok(_) => Ok(()),

@@ -1,5 +1,6 @@
-use Rattle.std.proofs.Common.{refl, sym}
+use Rattle.std.proofs.Common.{refl, sym, subst}
 use Rattle.script_input.specs.Words.{asked_by}
+use Rattle.gateway.specs.Causes.{AllFound}
 use Rattle.gateway.proofs.Reading.{plan-read, all-read, drivers-end, source-ends, files-end, err-so, load-plan-quiet, load-quiet, load-ends-quiet, load-source-quiet}
 use Rattle.gateway.proofs.preparing.prepare.Goals as goal
 
@@ -19,7 +20,7 @@ returns-in_err-look_for_drivers-clause-cause g c =
     c.in-Ok-source_script.ensures.plan in
     err-so c.from_residual.result c.in_err-look_for_drivers.field-0.0 _ c.from_residual.ensures.1
     (drivers-end g.D.Driver.kind g.D.Driver.stage g.D.Driver.faults _ c.args.hosts.now _ _ c.in-Ok-source_script.script c.ports.result.now c.in_err-look_for_drivers.field-0.0 script c.ports.ensures.value
-    c.in_err-look_for_drivers.ensures)
+    c.in_err-look_for_drivers.ensures.lacking)
 
 pub returns-in_err-look_for_drivers-clause-load : goal.returns-in_err-look_for_drivers-clause-load
 returns-in_err-look_for_drivers-clause-load g c = λ number asks.
@@ -50,7 +51,8 @@ returns-in-Err-load_steps-clause-cause g c =
     rw c.input_cause-in-Err-load_steps.ensures
     (files-end g.D.Driver.kind g.D.Driver.stage g.D.Driver.faults _ c.args.hosts.now _ _ _ c.in-Ok-source_script.script c.in-Err-load_steps.fault
     (plan-read _ (asked_by c.in-Ok.asked) _ _ c.in-Ok-source_script.script (sym c.in-Ok.ensures.asked) c.in-Ok-source_script.ensures.says c.source_script.ensures.files.told
-    c.in-Ok-source_script.ensures.plan) c.in-Err-load_steps.ensures.fault)
+    c.in-Ok-source_script.ensures.plan) c.in-Err-load_steps.ensures.fault
+    (subst (λ ports. AllFound g.D.Driver.kind c.args.hosts.now ports) c.ports.ensures.value c.in_ok-look_for_drivers.ensures.found))
 
 pub returns-in-Err-load_steps-clause-load : goal.returns-in-Err-load_steps-clause-load
 returns-in-Err-load_steps-clause-load g c = λ number asks.
