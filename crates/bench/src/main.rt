@@ -13,7 +13,7 @@ mod vectors;
 mod work;
 
 use crate::rows::{print_all, print_rows};
-use crate::work::{WORKS, Work, time_of};
+use crate::work::{WORKS, Work, round_time};
 use anyhow::{Context, Result, bail};
 use std::env::{self, Env};
 use std::io;
@@ -47,7 +47,7 @@ fn try_all<R: Clock + AllocGlobal + Print>(rt: &R) -> Result<()> {
 }
 
 fn try_work<R: Clock + AllocGlobal + Print>(rt: &R, work: Work) -> Result<()> {
-    time_of(rt, work, FEW)?;
+    round_time(rt, work, FEW)?;
     println!(rt; "{}: {FEW} made", work.name())?;
     Ok(())
 }

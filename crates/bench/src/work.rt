@@ -70,7 +70,7 @@ impl Work {
         }
     }
 
-    /// How many parts it has where nothing is said: tuples, segments, bytes or commands.
+    /// How many parts it has where nothing is said: tuples, segments or bytes.
     pub(crate) fn parts(self) -> u32 {
         match self {
             Work::Encode | Work::Decode => 50_000,
@@ -93,7 +93,11 @@ pub(crate) fn time_of<R: Clock + AllocGlobal>(rt: &R, work: Work, parts: u32) ->
 }
 
 /// The time of one round.
-fn round_time<R: Clock + AllocGlobal>(rt: &R, work: Work, parts: u32) -> Result<Duration> {
+pub(crate) fn round_time<R: Clock + AllocGlobal>(
+    rt: &R,
+    work: Work,
+    parts: u32,
+) -> Result<Duration> {
     match work {
         Work::Encode => encode_time(rt, parts),
         Work::Decode => decode_time(rt, parts),

@@ -1,4 +1,4 @@
-//! The causes of what a command reads and of what it puts out.
+//! The line of a command is put out, and the cause answered.
 ghost use Rattle.program_io.specs.Sink.{sink_view};
 ghost use Rattle.plain_command.specs.Stages.{PrintEnds};
 
