@@ -241,11 +241,17 @@ const LINES_CHUNKS: [&[u8]; 1] = [b"abc\nabcd\n\nx"];
 /// What comes of them.
 const LINES: PortCase = PortCase {
     acts: &FOUR_ROUNDS,
-    wanted: &[Wanted::Rows(
-        "h e 0 input 0 ; got 6162630a616263640a0a78 ; data eol 616263, data noeol 616263, data eol 64, data eol -\n\
+    wanted: &[
+        Wanted::Rows(
+            "h e 0 input 0 ; got 6162630a616263640a0a78 ; data eol 616263, data noeol 616263, data eol 64, data eol -\n\
              h e 1 input 0 ; end ; data noeol 78, select 0 r 0, fail normal\n\
              m closed\n",
-    )],
+        ),
+        Wanted::Acts(
+            "idle\nfinished\nfinished\nfinished\np0 eol 616263\np0 noeol 616263\np0 eol 64\np0 eol \n\
+             p0 noeol 78\np0 exit normal\n",
+        ),
+    ],
 };
 
 #[test]

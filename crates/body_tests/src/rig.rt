@@ -34,7 +34,6 @@ const PLACE: PortPlace = PortPlace {
 /// The limits of the message queue.
 #[derive(Clone, Copy)]
 pub(crate) enum QueueChoice {
-    Off,
     Usual,
     /// 4 and 8 bytes.
     Small,
@@ -149,11 +148,6 @@ fn queue_limits(limits: QueueChoice) -> QueueLimits
     ensures { InRange result.on result.low result.high }
 {
     match limits {
-        QueueChoice::Off => QueueLimits {
-            on: false,
-            low: 0,
-            high: 0,
-        },
         QueueChoice::Usual => QueueLimits {
             on: true,
             low: 4_096,
