@@ -28,6 +28,7 @@ use Rattle.run_laws.specs.run_output.script_run.declared.running.RunFault.TheVar
 use Rattle.run_laws.specs.run_output.script_run.declared.running.ScriptRan.{ScriptRan}
 use Rattle.run_laws.specs.run_output.script_run.Ends.{HaveAllServed, IsNotRun}
 use Rattle.run_laws.specs.run_output.script_run.Ran.{HasRun}
+use Rattle.run_laws.specs.Journals.{IsReplayed}
 use Rattle.run_laws.specs.Served.{ProgramsServed}
 use Rattle.gateway.specs.Fixed.{AnswersAreFixed, IsSummaryOf}
 use Rattle.gateway.specs.Run.{Run, AskFor, PlanFound, HasInput}
@@ -74,13 +75,14 @@ put-all (FromLoad number) writes report files files' sink sink' o = (ap (λ (f :
 -- a write or the put failed
 put-fails : (source : Source) (writes : RunWrites) (report : Report) (files files' : FilesView) (sink sink' : SinkView) → PutOut source writes report files files' sink sink' (Err output.WriteFault)
     → Rose files.writes files'.writes ⊎ Rose sink.faults sink'.faults
-put-fails (FromFile name) writes report files files' sink sink' o = elim o [ inl file ↦ inl file.0.1 | inr put ↦ inr put.1.rose ]
+put-fails (FromFile name) writes report files files' sink sink' o =
+    elim o [ inl file ↦ inl (subst (λ n. Rose n files'.writes) file.0.wrote.faults file.0.fails.rose) | inr put ↦ inr put.1.rose ]
 put-fails (FromLoad number) writes report files files' sink sink' o = inr o.1.rose
 
 -- memory was wanting: no read failed
 put-short : (source : Source) (writes : RunWrites) (report : Report) (files files' : FilesView) (sink sink' : SinkView) → PutOut source writes report files files' sink sink' (Err output.NoMemory)
     → files'.reads ≡ files.reads
-put-short (FromFile name) writes report files files' sink sink' o = o.0.0.touches.reads
+put-short (FromFile name) writes report files files' sink sink' o = o.0.wrote.touches.reads
 put-short (FromLoad number) writes report files files' sink sink' o = ap (λ (f : FilesView). f.reads) o.0
 
 -- of a load no file is touched
@@ -201,6 +203,7 @@ module _ {D : Type 0} (kind : D → Kind) (stage : D → Life) (faults : D → �
     fixed : AnswersAreFixed i.script left
     programs : ProgramsServed kind program i.script has_run.places run.hosts_after left
     summary : IsSummaryOf input.loaded.script.asked.source (report_of i.names left)
+    journal : IsReplayed (report_of i.names left)
 
   -- where its script comes from
   abbrev source-of : {run : Run D} {plan : Plan} {i : RunInput} {read : FilesView} {left : ScriptRan} → Made run plan i read left → Source
@@ -221,6 +224,7 @@ module _ {D : Type 0} (kind : D → Kind) (stage : D → Life) (faults : D → �
     programs = m.programs;
     report_is = refl;
     summary = m.summary;
+    journal = m.journal;
     written = o;
   }
 
@@ -277,12 +281,13 @@ module _ {D : Type 0} (kind : D → Kind) (stage : D → Life) (faults : D → �
   pub ends_made : (run : Run D) (plan : Plan) (i : RunInput) (source : Source) (read : FilesView) (left : ScriptRan) (cause : Cause) (told : Option Report) → NothingWritten run.files read
       → (h : HasInput run.words run.files read plan i) → AskFor run.words source → ((number : ℕ) → AskFor run.words (FromLoad number) → NothingRead run.files read)
       → (r : HasRun kind stage faults own program i.script run.hosts run.hosts_after run.answered run.answered_after left) → AnswersAreFixed i.script left
-      → ProgramsServed kind program i.script r.places run.hosts_after left → IsSummaryOf h.loaded.script.asked.source (report_of i.names left) → run.waits_after ≡ Some run.waits
+      → ProgramsServed kind program i.script r.places run.hosts_after left → IsSummaryOf h.loaded.script.asked.source (report_of i.names left) → IsReplayed (report_of i.names left)
+      → run.waits_after ≡ Some run.waits
       → WriteEnds source i.writes (report_of i.names left) read run.files_after run.sink run.sink_after cause told → AllCameBack kind stage faults run.hosts run.hosts_after
       → Ends kind stage faults own program run cause told
   unfolding Untouched
-  ends_made run plan i source read left cause told n h asks quiet r fixed programs summary p w back =
-      let m : Made run plan i read left = record { unwritten = n; input = h; has_run = r; fixed = fixed; programs = programs; summary = summary } in
+  ends_made run plan i source read left cause told n h asks quiet r fixed programs summary journal p w back =
+      let m : Made run plan i read left = record { unwritten = n; input = h; has_run = r; fixed = fixed; programs = programs; summary = summary; journal = journal } in
       let asked = h.loaded.script.asked in
       let so = λ (s : Source). WriteEnds s i.writes (report_of i.names left) read run.files_after run.sink run.sink_after cause told in
       let w' : WriteEnds asked.source i.writes (report_of i.names left) read run.files_after run.sink run.sink_after cause told =

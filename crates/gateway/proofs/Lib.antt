@@ -8,5 +8,7 @@ pub mod Paired
 pub mod Reported
 pub mod Whole
 pub mod Fixed
+pub mod Options
+pub mod Journals
 pub mod Ending
 pub mod Polls

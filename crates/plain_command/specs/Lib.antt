@@ -3,3 +3,4 @@ pub mod Journals
 pub mod Command
 pub mod Ends
 pub mod Stages
+pub mod Laws

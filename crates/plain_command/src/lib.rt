@@ -7,9 +7,11 @@
 mod causes;
 mod checking;
 mod command;
+mod laws;
 mod replaying;
 mod words;
 
 pub use command::{PlainEnd, plain_command};
+pub use laws::legal_books_are_done;
 pub use run_report::{Cause, ScriptFault, cause_text};
 pub use words::is_plain;

@@ -2,5 +2,5 @@ mod Lists
 mod Asks
 mod Came
 mod Tasks
-mod Runs
+pub mod Runs
 mod Programs

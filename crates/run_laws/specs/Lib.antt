@@ -6,3 +6,5 @@ pub mod Saved
 pub mod Served
 pub mod Summary
 pub mod Law
+pub mod Ranges
+pub mod Journals

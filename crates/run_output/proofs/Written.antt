@@ -9,7 +9,7 @@ use Rattle.script_input.specs.Files.{FilesView}
 use Rattle.run_output.specs.declared.writing.OutputFault.{OutputFault}
 use Rattle.run_output.specs.declared.writing.OutputFault.TheVariants.{WriteFault, NoMemory}
 use Rattle.run_output.proofs.Held.{hold-none, hold-one, hold-then}
-use Rattle.run_output.specs.Ends.{OthersStay, TouchesOnly, WroteAll, WroteFront, FilesEnd, SinkView, TextEnds, OutputEnds}
+use Rattle.run_output.specs.Ends.{OthersStay, HoldWritten, TouchesOnly, WroteAll, WriteFailed, FailedAt, WroteFront, FilesEnd, SinkView, TextEnds, OutputEnds}
 
 all-left : {X : Type 0} (P : X → Type 0) (xs ys : List X) → All P (xs ++ ys) → All P xs
 all-left P xs ys h = λ k d l. rw (sym (get_or_append_left xs ys d k l)) (h k d (rw (length-append xs ys) (omega (arith, l))))
@@ -30,20 +30,10 @@ others-same : (told : Told) (all : List NamedBytes) → OthersStay told told all
 others-same None all = refl
 others-same (Some files) all = λ other apart. refl
 
-pub others-kept : (old new : Told) (name : List ℕ) → new ≡ old → OthersStayBut old new name
-others-kept old new name e = rw e (kept old)
-  where
-    kept : (told : Told) → OthersStayBut told told name
-    kept None = refl
-    kept (Some files) = λ other apart. refl
-
 others-one : (old new : Told) (write : NamedBytes) → OthersStayBut old new write.name → OthersStay old new (write ∷ [])
 others-one None new write h = h
 others-one (Some f) None write h = h
 others-one (Some f) (Some n) write h = λ other apart. h other (apart 0 write (omega arith))
-
-others-more : (old new : Told) (all more : List NamedBytes) → OthersStay old new all → OthersStay old new (all ++ more)
-others-more old new all more h = others-then old new new all more h (others-same new more)
 
 -- no write at all
 pub wrote-none : (files : FilesView) → WroteAll [] files files
@@ -69,38 +59,46 @@ wrote-then all more old mid new h k = record {
   faults = k.faults ∙ h.faults;
 }
 
-front-then : (all more : List NamedBytes) (old mid new : FilesView) → WroteAll all old mid → WroteFront more mid new → WroteFront (all ++ more) old new
-front-then all more old mid new h k = record {
-  touches = touches-then all more old mid new h.touches k.touches;
-  front = all ++ k.front;
-  rest = k.rest;
-  of_all = ap (λ w. all ++ w) k.of_all ∙ sym (append_assoc all k.front k.rest);
-  wrote = k.wrote ∙ ap (λ log. log ++ k.front) h.wrote ∙ append_assoc old.wrote all k.front;
-}
-
 -- the end of further writes behind writes that were made
 pub ends-then : (all more : List NamedBytes) (old mid new : FilesView) (r : Result (Unit {0}) OutputFault) → WroteAll all old mid → FilesEnd more mid new r → FilesEnd (all ++ more) old new r
 ends-then all more old mid new (Ok u) h k = wrote-then all more old mid new h k
-ends-then all more old mid new (Err WriteFault) h k = (front-then all more old mid new h k.0, rw (sym h.faults) k.1)
-ends-then all more old mid new (Err NoMemory) h k = (front-then all more old mid new h k.0, k.1 ∙ h.faults)
+ends-then all more old mid new (Err WriteFault) h k = record {
+  front = all ++ k.front;
+  failed = k.failed;
+  later = k.later;
+  of_all = ap (λ w. all ++ w) k.of_all ∙ sym (append_assoc all k.front (k.failed ∷ k.later));
+  mid = k.mid;
+  wrote = wrote-then all k.front old mid k.mid h k.wrote;
+  fails = k.fails;
+}
+ends-then all more old mid new (Err NoMemory) h k = record {
+  front = all ++ k.front;
+  rest = k.rest;
+  of_all = ap (λ w. all ++ w) k.of_all ∙ sym (append_assoc all k.front k.rest);
+  wrote = wrote-then all k.front old mid new h k.wrote;
+}
 
-front-more : (all more : List NamedBytes) (old new : FilesView) → WroteFront all old new → WroteFront (all ++ more) old new
-front-more all more old new h = record {
-  touches = record { answered = h.touches.answered; reads = h.touches.reads; others = others-more old.told new.told all more h.touches.others };
+-- a fault of the first writes is one of all
+pub fault-first : (all more : List NamedBytes) (old new : FilesView) (fault : OutputFault) → FilesEnd all old new (Err fault) → FilesEnd (all ++ more) old new (Err fault)
+fault-first all more old new WriteFault h = record {
+  front = h.front;
+  failed = h.failed;
+  later = h.later ++ more;
+  of_all = ap (λ w. w ++ more) h.of_all ∙ append_assoc h.front (h.failed ∷ h.later) more;
+  mid = h.mid;
+  wrote = h.wrote;
+  fails = h.fails;
+}
+fault-first all more old new NoMemory h = record {
   front = h.front;
   rest = h.rest ++ more;
   of_all = ap (λ w. w ++ more) h.of_all ∙ append_assoc h.front h.rest more;
   wrote = h.wrote;
 }
 
--- a fault of the first writes is one of all
-pub fault-first : (all more : List NamedBytes) (old new : FilesView) (fault : OutputFault) → FilesEnd all old new (Err fault) → FilesEnd (all ++ more) old new (Err fault)
-fault-first all more old new WriteFault h = (front-more all more old new h.0, h.1)
-fault-first all more old new NoMemory h = (front-more all more old new h.0, h.1)
-
 -- all writes were made, and none is left
 pub ends-nothing : (all : List NamedBytes) (old new : FilesView) → WroteAll all old new → WroteFront all old new
-ends-nothing all old new h = record { touches = h.touches; front = all; rest = []; of_all = sym (append-nil all); wrote = h.wrote }
+ends-nothing all old new h = record { front = all; rest = []; of_all = sym (append-nil all); wrote = h }
 
 -- one write answered
 pub wrote-one : (write : NamedBytes) (old new : FilesView) → new.answered ≡ old.answered → new.reads ≡ old.reads → OthersStayBut old.told new.told write.name
@@ -112,26 +110,28 @@ wrote-one write old new answered reads others holds wrote faults = record {
   faults = faults;
 }
 
--- it didn't answer
-pub front-nothing : (write : NamedBytes) (old new : FilesView) → new.answered ≡ old.answered → new.reads ≡ old.reads → OthersStayBut old.told new.told write.name
-    → new.wrote ≡ old.wrote → WroteFront (write ∷ []) old new
-front-nothing write old new answered reads others wrote = record {
-  touches = record { answered = answered; reads = reads; others = others-one old.told new.told write others };
+-- memory was wanting for it: the files are as they were
+pub front-nothing : (write : NamedBytes) (old new : FilesView) → new.answered ≡ old.answered → new.reads ≡ old.reads → new.told ≡ old.told
+    → new.wrote ≡ old.wrote → new.writes ≡ old.writes → WroteFront (write ∷ []) old new
+front-nothing write old new answered reads told wrote faults = record {
   front = [];
   rest = write ∷ [];
   of_all = refl;
-  wrote = wrote ∙ sym (append-nil old.wrote);
+  wrote = record {
+    touches = record { answered = answered; reads = reads; others = subst (λ t. OthersStay old.told t []) (sym told) (others-same old.told []) };
+    held = subst (λ t. HoldWritten old.told t []) (sym told) (hold-none old.told);
+    wrote = wrote ∙ sym (append-nil old.wrote);
+    faults = faults;
+  };
 }
+
+-- it failed
+pub fails-first : (write : NamedBytes) (old new : FilesView) → WriteFailed write old new → FailedAt (write ∷ []) old new
+fails-first write old new h = record { front = []; failed = write; later = []; of_all = refl; mid = old; wrote = wrote-none old; fails = h }
 
 -- nothing at all was written
 pub front-same : (all : List NamedBytes) (files : FilesView) → WroteFront all files files
-front-same all files = record {
-  touches = record { answered = refl; reads = refl; others = others-same files.told all };
-  front = [];
-  rest = all;
-  of_all = refl;
-  wrote = sym (append-nil files.wrote);
-}
+front-same all files = record { front = []; rest = all; of_all = refl; wrote = wrote-none files }
 
 -- one more of these writes
 pub saves-more : {X : Type 0} (f : X → NamedBytes) (xs : List X) (i : ℕ) (x : X) → i < length xs → x ≡ get_or xs i x → map f (take (i + 1) xs) ≡ map f (take i xs) ++ f x ∷ []
@@ -156,4 +156,4 @@ pub output-then : (all : List NamedBytes) (text : List ℕ) (old new : FilesView
     → OutputEnds all text old new sink sink' r
 output-then all text old new sink sink' (Ok u) h k = (h, k)
 output-then all text old new sink sink' (Err WriteFault) h k = inr (h, k)
-output-then all text old new sink sink' (Err NoMemory) h k = ((ends-nothing all old new h, h.faults), k)
+output-then all text old new sink sink' (Err NoMemory) h k = (ends-nothing all old new h, k)

@@ -2,6 +2,7 @@
 use Rattle.std.specs.Prelude.{◌≡◌, ◌≢◌, ℕ, ◌⊎◌, List, [], ◌∷◌, ◌++◌, All, Option, Some, None, Result, Ok, Err, IsSomeAnd, if◌then◌else◌}
 use Rattle.std.specs.Str.{bytes_eq}
 use Rattle.outside.specs.Causes.{Told, Rose}
+use Rattle.outside.specs.Causes.{OthersStay as OthersStayBut}
 use Rattle.outside.specs.Log.{NamedBytes}
 use Rattle.script_input.specs.Files.{FilesView}
 pub use Rattle.script_input.specs.program_io.Sink.{SinkView, sink_view, TookText, PutFailed}
@@ -36,19 +37,36 @@ pub record WroteAll (all : List NamedBytes) (old new : FilesView) : Type 0 where
   pub wrote : new.wrote ≡ old.wrote ++ all
   pub faults : new.writes ≡ old.writes
 
--- a front of these writes answered, perhaps all, and no other; what the files hold then for any of their names isn't told
+-- the write of this file failed; what is told of every other name stays, and the file itself is unknown
+pub record WriteFailed (write : NamedBytes) (old new : FilesView) : Type 0 where
+  pub answered : new.answered ≡ old.answered
+  pub reads : new.reads ≡ old.reads
+  pub others : OthersStayBut old.told new.told write.name
+  pub wrote : new.wrote ≡ old.wrote
+  pub rose : Rose old.writes new.writes
+
+-- the first of these writes answered, the one behind them failed, and none of the later ones was tried
+pub record FailedAt (all : List NamedBytes) (old new : FilesView) : Type 0 where
+  pub front : List NamedBytes
+  pub failed : NamedBytes
+  pub later : List NamedBytes
+  pub of_all : all ≡ front ++ failed ∷ later
+  pub mid : FilesView
+  pub wrote : WroteAll front old mid
+  pub fails : WriteFailed failed mid new
+
+-- the first of these writes answered, perhaps all, and no other did anything
 pub record WroteFront (all : List NamedBytes) (old new : FilesView) : Type 0 where
-  pub touches : TouchesOnly all old new
   pub front : List NamedBytes
   pub rest : List NamedBytes
   pub of_all : all ≡ front ++ rest
-  pub wrote : new.wrote ≡ old.wrote ++ front
+  pub wrote : WroteAll front old new
 
 -- how these writes end: all were made, one failed, or memory was wanting
 abbrev pub FilesEnd : List NamedBytes → FilesView → FilesView → Result (Unit {0}) OutputFault → Type 0
 FilesEnd all old new (Ok _) = WroteAll all old new
-FilesEnd all old new (Err WriteFault) = WroteFront all old new × Rose old.writes new.writes
-FilesEnd all old new (Err NoMemory) = WroteFront all old new × (new.writes ≡ old.writes)
+FilesEnd all old new (Err WriteFault) = FailedAt all old new
+FilesEnd all old new (Err NoMemory) = WroteFront all old new
 
 -- how the put of this text ends: the sink took it, failed, or memory was wanting before
 abbrev pub TextEnds : List ℕ → SinkView → SinkView → Result (Unit {0}) OutputFault → Type 0
@@ -59,6 +77,5 @@ TextEnds text old new (Err NoMemory) = new ≡ old
 -- how these writes and the put of this text behind them end: all was written; a write failed, and then the sink is as it was, or the put did; or memory was wanting
 abbrev pub OutputEnds : List NamedBytes → List ℕ → FilesView → FilesView → SinkView → SinkView → Result (Unit {0}) OutputFault → Type 0
 OutputEnds all text files files' sink sink' (Ok _) = WroteAll all files files' × TookText sink sink' text
-OutputEnds all text files files' sink sink' (Err WriteFault) =
-    (FilesEnd all files files' (Err WriteFault) × (sink' ≡ sink)) ⊎ (WroteAll all files files' × PutFailed sink sink' text)
-OutputEnds all text files files' sink sink' (Err NoMemory) = FilesEnd all files files' (Err NoMemory) × (sink' ≡ sink)
+OutputEnds all text files files' sink sink' (Err WriteFault) = (FailedAt all files files' × (sink' ≡ sink)) ⊎ (WroteAll all files files' × PutFailed sink sink' text)
+OutputEnds all text files files' sink sink' (Err NoMemory) = WroteFront all files files' × (sink' ≡ sink)

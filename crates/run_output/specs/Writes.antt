@@ -4,7 +4,7 @@ use Rattle.outside.specs.Log.{NamedBytes}
 use Rattle.port_model.specs.declared.mail.Mail.{Mail}
 use Rattle.port_history.specs.Counts.{saved_of}
 use Rattle.script_plan.specs.declared.decl.SaveDecl.{SaveDecl}
-use Rattle.journal_text.specs.Books.{journal_text}
+use Rattle.journal_text.specs.Books.{BookView, journal_text}
 use Rattle.run_report.specs.declared.report.ProcessRecord.{ProcessRecord}
 use Rattle.run_report.specs.declared.report.Report.{Report}
 use Rattle.script_input.specs.declared.input.RunWrites.{RunWrites}
@@ -18,9 +18,13 @@ mails_of (Some process) = process.mails
 abbrev pub save_write : Report → SaveDecl → NamedBytes
 save_write report save = record { name = save.file; bytes = saved_of save.port (mails_of (slice_get report.processes save.process)) }
 
--- what is written to the file for the journal: the names of the processes and the ports, each with its history
+-- the names of the processes and the ports, each with its history
+abbrev pub book_of : Report → BookView
+book_of report = record { names = map (λ p. p.name) report.processes; ports = report.ports }
+
+-- what is written to the file for the journal
 abbrev pub journal_write : Report → List ℕ → NamedBytes
-journal_write report name = record { name = name; bytes = journal_text 1 (record { names = map (λ p. p.name) report.processes; ports = report.ports }) }
+journal_write report name = record { name = name; bytes = journal_text 1 (book_of report) }
 
 -- the journal, where the script has a file for it
 abbrev pub journal_writes : Report → Option (List ℕ) → List NamedBytes

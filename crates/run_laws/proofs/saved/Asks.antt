@@ -1,7 +1,6 @@
 -- Which calls the steps of a process make that hand no port to another process.
 use Rattle.std.proofs.Common.{◌≡◌, ℕ, zero, suc, List, [], ◌∷◌, length, drop, reverse, Bool, true, false, ◌&&◌, eqb, cond, refl, sym, ◌∙◌}
 use Rattle.std.specs.List.{AllByRecursion}
-use Rattle.port_model.specs.declared.signal.Signal.TheVariants as signal
 use Rattle.port_model.specs.Tasks.{TaskView}
 use Rattle.process_receipts.specs.Asks.{Asked, task_of}
 use Rattle.process_receipts.specs.Receipts.{accepted, is_put}

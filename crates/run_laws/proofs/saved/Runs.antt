@@ -64,7 +64,7 @@ pub of-program : (number processes workers : ℕ) (kind : Kind) (decl : PortDecl
     → is_served decl.config.mode ≡ true → IsOfProgram (opening_of number processes kind decl port) (history_of port)
 of-program number processes workers kind decl port holds driver served = record { kind = named-spawn kind (holds.named ∙ driver); served = served; lawful = holds.lawful }
 
-senders-are : (number processes workers : ℕ) (kind : Kind) (decl : PortDecl) (port : PortLeft) → PortHolds number processes workers kind decl port
+pub senders-are : (number processes workers : ℕ) (kind : Kind) (decl : PortDecl) (port : PortLeft) → PortHolds number processes workers kind decl port
     → AllByRecursion (IsFrom processes workers) (history_of port)
 senders-are number processes workers kind decl port holds =
     all-reverse (IsFrom processes workers) port.journal.rows (recursion_from_All (IsFrom processes workers) port.journal.rows holds.senders)

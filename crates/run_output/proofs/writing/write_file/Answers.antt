@@ -1,4 +1,4 @@
-use Rattle.run_output.proofs.Written.{wrote-one, front-nothing, others-kept}
+use Rattle.run_output.proofs.Written.{wrote-one, front-nothing, fails-first}
 use Rattle.run_output.proofs.writing.write_file.Goals as goal
 
 pub returns-in-Ok : goal.returns-in-Ok
@@ -10,10 +10,10 @@ pub returns-in-Err-NoMemory : goal.returns-in-Err-NoMemory
 returns-in-Err-NoMemory g c =
     let called = c.in-Err-NoMemory.ensures in
     let write = rw c.in-Err-NoMemory.field-0-is at called.write in
-    (front-nothing _ _ _ called.answered called.reads (others-kept _ _ _ write.1) called.wrote, write.0)
+    front-nothing _ _ _ called.answered called.reads write.1 called.wrote write.0
 
 pub returns-in-Err-Failed : goal.returns-in-Err-Failed
 returns-in-Err-Failed g c =
     let called = c.in-Err-Failed.ensures in
     let write = rw c.in-Err-Failed.field-0-is at called.write in
-    (front-nothing _ _ _ called.answered called.reads write.1 called.wrote, write.0)
+    fails-first _ _ _ (record { answered = called.answered; reads = called.reads; others = write.1; wrote = called.wrote; rose = write.0 })

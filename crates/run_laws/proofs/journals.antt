@@ -1,0 +1,7 @@
+mod Lists
+mod Named
+mod Calls
+mod Effects
+mod Histories
+mod Ranged
+mod Whole
