@@ -22,7 +22,7 @@ use std::thread::Threads;
 const DRIVERS: u32 = 32;
 
 /// How many events the programs have: each has one for its output, and one for its input.
-const EVENTS: u32 = 64;
+const EVENTS: u32 = 2 * DRIVERS;
 
 /// The kinds of drivers that need nothing of the machine.
 #[derive(Clone, Copy)]

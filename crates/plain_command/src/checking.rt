@@ -4,7 +4,7 @@ ghost use Rattle.program_io.specs.Sink.{sink_view};
 ghost use Rattle.run_report.specs.Lines.{check_text_of};
 ghost use Rattle.plain_command.specs.Stages.{CheckEnds, PrintEnds};
 
-use crate::causes::put_line;
+use crate::printing::put_line;
 use outside::{Files, Sink};
 use program_io::{Script, input_cause, read_run_script};
 use run_report::{Cause, check_text};

@@ -4,10 +4,10 @@
 //! They start no thread, wait for nothing but the calls of the files and of the sink, and write no file.
 #![tactic(auto)]
 
-mod causes;
 mod checking;
 mod command;
 mod laws;
+mod printing;
 mod replaying;
 mod words;
 

@@ -7,7 +7,7 @@ ghost use Rattle.run_report.specs.Lines.{replay_text_of};
 ghost use Rattle.plain_command.specs.Journals.{JournalRead, JournalEnds};
 ghost use Rattle.plain_command.specs.Stages.{JudgeEnds, PrintEnds, ReplayEnds};
 
-use crate::causes::put_line;
+use crate::printing::put_line;
 use history_replay::{Book, PortReport, Verdict, replay};
 use journal_text::{JournalFault, read_journal};
 use outside::{Files, Sink};
