@@ -28,6 +28,7 @@ use Rattle.run_laws.specs.run_output.script_run.declared.running.RunFault.TheVar
 use Rattle.run_laws.specs.run_output.script_run.declared.running.ScriptRan.{ScriptRan}
 use Rattle.run_laws.specs.run_output.script_run.Ends.{HaveAllServed, IsNotRun}
 use Rattle.run_laws.specs.run_output.script_run.Ran.{HasRun}
+use Rattle.run_laws.specs.Counted.{CommandsAreCounted}
 use Rattle.run_laws.specs.Journals.{IsReplayed}
 use Rattle.run_laws.specs.Served.{ProgramsServed}
 use Rattle.gateway.specs.Fixed.{AnswersAreFixed, IsSummaryOf}
@@ -203,6 +204,7 @@ module _ {D : Type 0} (kind : D → Kind) (stage : D → Life) (faults : D → �
     fixed : AnswersAreFixed i.script left
     programs : ProgramsServed kind program i.script has_run.places run.hosts_after left
     summary : IsSummaryOf input.loaded.script.asked.source (report_of i.names left)
+    counted : CommandsAreCounted i.script left (report_of i.names left)
     journal : IsReplayed (report_of i.names left)
 
   -- where its script comes from
@@ -224,6 +226,7 @@ module _ {D : Type 0} (kind : D → Kind) (stage : D → Life) (faults : D → �
     programs = m.programs;
     report_is = refl;
     summary = m.summary;
+    counted = m.counted;
     journal = m.journal;
     written = o;
   }
@@ -281,13 +284,13 @@ module _ {D : Type 0} (kind : D → Kind) (stage : D → Life) (faults : D → �
   pub ends_made : (run : Run D) (plan : Plan) (i : RunInput) (source : Source) (read : FilesView) (left : ScriptRan) (cause : Cause) (told : Option Report) → NothingWritten run.files read
       → (h : HasInput run.words run.files read plan i) → AskFor run.words source → ((number : ℕ) → AskFor run.words (FromLoad number) → NothingRead run.files read)
       → (r : HasRun kind stage faults own program i.script run.hosts run.hosts_after run.answered run.answered_after left) → AnswersAreFixed i.script left
-      → ProgramsServed kind program i.script r.places run.hosts_after left → IsSummaryOf h.loaded.script.asked.source (report_of i.names left) → IsReplayed (report_of i.names left)
-      → run.waits_after ≡ Some run.waits
+      → ProgramsServed kind program i.script r.places run.hosts_after left → IsSummaryOf h.loaded.script.asked.source (report_of i.names left)
+      → CommandsAreCounted i.script left (report_of i.names left) → IsReplayed (report_of i.names left) → run.waits_after ≡ Some run.waits
       → WriteEnds source i.writes (report_of i.names left) read run.files_after run.sink run.sink_after cause told → AllCameBack kind stage faults run.hosts run.hosts_after
       → Ends kind stage faults own program run cause told
   unfolding Untouched
-  ends_made run plan i source read left cause told n h asks quiet r fixed programs summary journal p w back =
-      let m : Made run plan i read left = record { unwritten = n; input = h; has_run = r; fixed = fixed; programs = programs; summary = summary; journal = journal } in
+  ends_made run plan i source read left cause told n h asks quiet r fixed programs summary counted journal p w back =
+      let m : Made run plan i read left = record { unwritten = n; input = h; has_run = r; fixed = fixed; programs = programs; summary = summary; counted = counted; journal = journal } in
       let asked = h.loaded.script.asked in
       let so = λ (s : Source). WriteEnds s i.writes (report_of i.names left) read run.files_after run.sink run.sink_after cause told in
       let w' : WriteEnds asked.source i.writes (report_of i.names left) read run.files_after run.sink run.sink_after cause told =

@@ -9,6 +9,6 @@ pub mod Reported
 pub mod Whole
 pub mod Fixed
 pub mod Options
-pub mod Journals
+pub mod Named
 pub mod Ending
 pub mod Polls

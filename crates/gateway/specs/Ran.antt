@@ -16,6 +16,7 @@ use Rattle.script_input.specs.Words.{Source, FromFile, FromLoad}
 use Rattle.script_plan.specs.Plan.{Plan}
 use Rattle.run_laws.specs.run_output.script_run.declared.running.ScriptRan.{ScriptRan}
 use Rattle.run_laws.specs.run_output.script_run.Ran.{HasRun}
+use Rattle.run_laws.specs.Counted.{CommandsAreCounted}
 use Rattle.run_laws.specs.Journals.{IsReplayed}
 use Rattle.run_laws.specs.Served.{ProgramsServed}
 use Rattle.gateway.specs.Fixed.{AnswersAreFixed, IsSummaryOf}
@@ -28,7 +29,7 @@ PutOut (FromLoad number) writes report files files' sink sink' ended = (files' �
 
 module _ {D : Type 0} where
   -- What the words ask for was read and run; what of it is the same in each run was so, and programs took and gave what each run promises of them. This is the report of what the ports and the processes of that
-  -- run left; its histories are those that a replay finds legal; and what it says was put out, or how that ended
+  -- run left; it counts for each process the commands that the process's receipts show put; its histories are those that a replay finds legal; and what it says was put out, or how that ended
   pub record Ran (kind : D → Kind) (stage : D → Life) (faults : D → ℕ) (own : D → Own) (program : D → Option ToldProgram) (run : Run D) (ended : Result (Unit {0}) OutputFault) (report : Report) : Type 0 where
     pub plan : Plan
     pub input : RunInput
@@ -41,5 +42,6 @@ module _ {D : Type 0} where
     pub programs : ProgramsServed kind program input.script has_run.places run.hosts_after left
     pub report_is : report ≡ report_of input.names left
     pub summary : IsSummaryOf has_input.loaded.script.asked.source report
+    pub counted : CommandsAreCounted input.script left report
     pub journal : IsReplayed report
     pub written : PutOut has_input.loaded.script.asked.source input.writes report read run.files_after run.sink run.sink_after ended

@@ -13,9 +13,9 @@ use crate::writing::{Output, Written, write_left};
 use driver_hosts::{Driver, Hosted};
 use outside::{Files, Gate, PollSet, Sink};
 use run_laws::{
-    RunEnd, RunFault, commands_are_echoed, journals_are_replayed_in_every_run,
-    output_is_saved_in_every_run, programs_are_served_in_every_run, run_script,
-    summary_is_of_number,
+    RunEnd, RunFault, commands_are_counted_in_every_run, commands_are_echoed,
+    journals_are_replayed_in_every_run, output_is_saved_in_every_run,
+    programs_are_served_in_every_run, run_script, summary_is_of_number,
 };
 use run_report::{Cause, Report};
 use script_input::RunInput;
@@ -108,6 +108,7 @@ pub fn run_hosted<
         writes,
     } = input;
     // What holds of each run, by laws: these calls do nothing.
+    commands_are_counted_in_every_run::<D>();
     commands_are_echoed::<D>();
     journals_are_replayed_in_every_run::<D>();
     output_is_saved_in_every_run::<D>();

@@ -1,7 +1,6 @@
-mod Lists
 mod Named
 mod Calls
 mod Effects
 mod Histories
 mod Ranged
-mod Whole
+pub mod Whole

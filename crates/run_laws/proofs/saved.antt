@@ -1,4 +1,3 @@
-mod Lists
 mod Asks
 mod Came
 mod Tasks

@@ -8,3 +8,4 @@ pub mod Summary
 pub mod Law
 pub mod Ranges
 pub mod Journals
+pub mod Counted

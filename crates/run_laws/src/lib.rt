@@ -4,11 +4,13 @@
 //! These are laws of the definitions alone, as contracts of functions that do nothing.
 #![tactic(auto)]
 
+mod counted;
 mod echoed;
 mod journals;
 mod saved;
 mod summary;
 
+pub use counted::commands_are_counted_in_every_run;
 pub use echoed::commands_are_echoed;
 pub use journals::journals_are_replayed_in_every_run;
 pub use run_output::{

@@ -25,7 +25,7 @@ use Rattle.driver_model.specs.Valve.{valve_effects}
 use Rattle.port_history.specs.Opening.{Opening}
 use Rattle.port_history.specs.Service.{effects_after}
 use Rattle.run_laws.proofs.journals.Named.{EffectNames}
-use Rattle.run_laws.proofs.journals.Lists.{all-append, all-either, all-map}
+use Rattle.run_laws.proofs.Lists.{all-append, all-either, all-map}
 
 -- the process that a control's call comes from is one of so many
 abbrev pub CallbackNames : ℕ → ℕ → Callback → Type 0

@@ -31,7 +31,7 @@ use Rattle.run_output.specs.script_run.run_opening.port_body.Ends.{HaveRows}
 use Rattle.run_output.specs.script_run.run_opening.port_body.LanePort.{rows_from, task_from}
 use Rattle.run_laws.proofs.journals.Named.{EffectNames, SenderNames, RowNames, SignalNames}
 use Rattle.run_laws.proofs.journals.Effects.{CallNames, after-named, same-names}
-use Rattle.run_laws.proofs.journals.Lists.{all-append, all-back, all-either, all-filter, all-front, all-imply}
+use Rattle.run_laws.proofs.Lists.{all-append, all-back, all-either, all-filter, all-front, all-imply}
 
 -- a process of so many, the poller, or a worker
 abbrev pub IsSender : ℕ → Sender → Type 0

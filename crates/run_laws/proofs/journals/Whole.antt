@@ -45,12 +45,12 @@ use Rattle.run_laws.specs.Ranges.{has_own_options}
 use Rattle.run_laws.proofs.journals.Named.{PortNames, RowNames}
 use Rattle.run_laws.proofs.journals.Calls.{TaskNames, accepted-named}
 use Rattle.run_laws.proofs.journals.Histories.{HasSender, history-named}
-use Rattle.run_laws.proofs.journals.Lists.{all-imply, all-reverse}
+use Rattle.run_laws.proofs.Lists.{all-imply, all-reverse}
 use Rattle.run_laws.proofs.journals.Ranged.{within-is-book}
 use Rattle.run_laws.proofs.saved.Runs.{senders-are}
 
 -- an element of a list that has one
-element : {X : Type 0} (xs : List X) → 0 < length xs → X
+pub element : {X : Type 0} (xs : List X) → 0 < length xs → X
 element [] some = absurd (omega (arith, some))
 element (x ∷ xs) some = x
 
@@ -164,16 +164,40 @@ are-legal number processes (report ∷ reports) each =
     )
 
 -- counted from 0
-counted : (k : ℕ) → k ≡ 0 + k
+pub counted : (k : ℕ) → k ≡ 0 + k
 counted k = omega arith
 
-no-decl : PortDecl
+pub no-decl : PortDecl
 no-decl = record { line = 0; name = []; owner = 0; driver = []; config = plain }
 
-module _ {D : Type 0} (kind : D → Kind) (stage : D → Life) (faults : D → ℕ) (own : D → Own) (program : D → Option ToldProgram) where
-  no-host : Hosted D
-  no-host = record { port = None; driver = None }
+pub no-host : {D : Type 0} → Hosted D
+no-host = record { port = None; driver = None }
 
+-- the names of the ports are those of the script
+same-names : (plan : Plan) (script : RunScript) (names : RunNames) → IsNamedScript plan script names → names.ports.items ≡ map port_name script.ports.items
+same-names plan script names is = is.names_of.ports ∙ ap (map port_name) (sym is.run_of.ports)
+
+names-many : (plan : Plan) (script : RunScript) (names : RunNames) → IsNamedScript plan script names → length names.ports.items ≡ length script.ports.items
+names-many plan script names is = ap (λ (l : List PortName). length l) (same-names plan script names is) ∙ length-map script.ports.items port_name
+
+-- each port is reported
+pub ports-many : (plan : Plan) (script : RunScript) (names : RunNames) (ran : ScriptRan) → IsNamedScript plan script names → length ran.ports.items ≡ length script.ports.items
+    → length (report_of names ran).ports ≡ length script.ports.items
+ports-many plan script names ran is many =
+    let named = names-many plan script names is in
+    paired-many (λ p. port_report p.0 p.1) names.ports.items ran.ports.items (many ∙ sym named) ∙ named
+
+pub report-at : (plan : Plan) (script : RunScript) (names : RunNames) (ran : ScriptRan) → IsNamedScript plan script names → length ran.ports.items ≡ length script.ports.items
+    → (k : ℕ) (d : PortReport) (p : PortLeft) → k < length script.ports.items
+    → get_or (report_of names ran).ports k d ≡ port_report (port_name (slice_index_or script.ports.items k no-decl)) (slice_index_or ran.ports.items k p)
+report-at plan script names ran is many k d p within =
+    let many_names = names-many plan script names is in
+    let here : k < length names.ports.items = omega (arith, within, many_names) in
+    let named : get_or names.ports.items k (port_name no-decl) ≡ port_name (slice_index_or script.ports.items k no-decl) =
+    ap (λ (l : List PortName). get_or l k (port_name no-decl)) (same-names plan script names is) ∙ get_or-map port_name script.ports.items k no-decl (port_name no-decl) within in
+    paired-at (λ p. port_report p.0 p.1) names.ports.items ran.ports.items k (port_name no-decl) p d here (many ∙ sym many_names) ∙ ap (λ (n : PortName). port_report n (slice_index_or ran.ports.items k p)) named
+
+module _ {D : Type 0} (kind : D → Kind) (stage : D → Life) (faults : D → ℕ) (own : D → Own) (program : D → Option ToldProgram) where
   -- what holds of the reported port of this number
   pub record Reported (processes number : ℕ) (port : PortReport) : Type 0 where
     pub legal : IsLegal number processes port
@@ -212,19 +236,12 @@ module _ {D : Type 0} (kind : D → Kind) (stage : D → Life) (faults : D → �
       let steps_many : processes ≡ length plan.processes = is.run_of.process_steps.many in
       let processes_many : length report.processes ≡ processes =
       paired-many (λ p. process_report p.0 p.1) names.processes.items ran.processes.items (run.processes_many ∙ steps_many ∙ sym process_names) ∙ process_names ∙ sym steps_many in
-      let same_ports : names.ports.items ≡ map port_name script.ports.items = is.names_of.ports ∙ ap (map port_name) (sym is.run_of.ports) in
-      let port_names : length names.ports.items ≡ length script.ports.items = ap (λ (l : List PortName). length l) same_ports ∙ length-map script.ports.items port_name in
-      let lefts_many : length ran.ports.items ≡ length names.ports.items = run.ports_many ∙ sym port_names in
-      let ports_many : length report.ports ≡ length names.ports.items = paired-many (λ p. port_report p.0 p.1) names.ports.items ran.ports.items lefts_many in
+      let ports_many = ports-many plan script names ran is run.ports_many in
       let each : (k : ℕ) (d : PortReport) → k < length report.ports → Reported processes k (get_or report.ports k d) = λ k d below.
-      let here : k < length names.ports.items = omega (arith, below, ports_many) in
-      let within : k < length script.ports.items = omega (arith, here, port_names) in
-      let p = element ran.ports.items (omega (arith, here, lefts_many)) in
-      let named : get_or names.ports.items k (port_name no-decl) ≡ port_name (slice_index_or script.ports.items k no-decl) =
-      ap (λ (l : List PortName). get_or l k (port_name no-decl)) same_ports ∙ get_or-map port_name script.ports.items k no-decl (port_name no-decl) within in
-      let shown : get_or report.ports k d ≡ port_report (port_name (slice_index_or script.ports.items k no-decl)) (slice_index_or ran.ports.items k p) =
-      paired-at (λ p. port_report p.0 p.1) names.ports.items ran.ports.items k (port_name no-decl) p d here lefts_many ∙ ap (λ (n : PortName). port_report n (slice_index_or ran.ports.items k p)) named in
-      subst (Reported processes k) (sym shown) (reported-at plan script names old new before after ran is run k p within) in
+      let within : k < length script.ports.items = omega (arith, below, ports_many) in
+      let lefts = run.ports_many in
+      let p = element ran.ports.items (omega (arith, within, lefts)) in
+      subst (Reported processes k) (sym (report-at plan script names ran is run.ports_many k d p within)) (reported-at plan script names old new before after ran is run k p within) in
       let few_names = is.runnable.declared.few_processes in
       let few_ports = is.runnable.declared.few_ports in
       let listed : length (book_of report).names ≡ length report.processes = length-map report.processes (λ (p : ProcessRecord). p.name) in
@@ -233,7 +250,7 @@ module _ {D : Type 0} (kind : D → Kind) (stage : D → Life) (faults : D → �
             (λ k d below. subst (λ n. IsLegal n processes (get_or report.ports k d)) (counted k) (each k d below).legal));
         book = λ fit. within-is-book (book_of report) (record {
           few_names = omega (arith, few_names, listed, processes_many);
-          few_ports = omega (arith, few_ports, ports_many, port_names);
+          few_ports = omega (arith, few_ports, ports_many);
           fit = fit;
           ports = subst (λ n. All (PortNames n) report.ports) (sym (listed ∙ processes_many)) (λ k d below. (each k d below).names);
         });

@@ -12,7 +12,7 @@ use Rattle.run_output.specs.run_opening.run_end.process_job.Mails.{Came, is_clos
 use Rattle.port_history.specs.Counts.{saved_mail, saved_of}
 use Rattle.run_output.specs.run_opening.run_end.Merge.{IsFromPort}
 use Rattle.unframed_output.proofs.Events.{eqb-same}
-use Rattle.run_laws.proofs.saved.Lists.{all-append}
+use Rattle.run_laws.proofs.Lists.{all-append}
 
 -- a mail of which nothing is saved for this port
 abbrev pub IsUnsaved : ℕ → Mail → Type 0

@@ -30,7 +30,7 @@ use Rattle.unframed_output.proofs.Others.{mails-other}
 use Rattle.run_laws.specs.Saved.{OutputIsSavedIn, connects}
 use Rattle.run_laws.proofs.saved.Asks.{TaskKeeps, accepted-keep, asks-keep}
 use Rattle.run_laws.proofs.saved.Came.{IsUnsaved, others-unsaved, own-unsaved, readable-saved, readable-unsaved, saved-from}
-use Rattle.run_laws.proofs.saved.Lists.{all-reverse}
+use Rattle.run_laws.proofs.Lists.{all-reverse}
 use Rattle.run_laws.proofs.saved.Tasks.{keeps-owner}
 
 -- an element of a list that has one

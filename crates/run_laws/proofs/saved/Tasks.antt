@@ -18,7 +18,7 @@ use Rattle.run_output.specs.script_run.Ran.{IsAmong, IsFrom}
 use Rattle.unframed_output.specs.Laws.{is_connect, KeepsOwner}
 use Rattle.unframed_output.proofs.Events.{eqb-same}
 use Rattle.run_laws.proofs.saved.Asks.{TaskKeeps}
-use Rattle.run_laws.proofs.saved.Lists.{all-front, all-back}
+use Rattle.run_laws.proofs.Lists.{all-front, all-back}
 
 polled : (signal : Signal) → poller_sends signal ≡ true → is_connect signal ≡ false
 polled (Connect process) sends = absurd (cc)

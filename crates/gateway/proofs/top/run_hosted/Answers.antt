@@ -1,7 +1,7 @@
 use Rattle.std.proofs.Common.{refl}
 use Rattle.gateway.proofs.Ending.{ends_unread, ends_unmade, ends_made}
 use Rattle.gateway.proofs.Fixed.{FixedLaws, answers-fixed, summed}
-use Rattle.gateway.proofs.Journals.{replayed}
+use Rattle.gateway.proofs.Named.{named-script}
 use Rattle.gateway.proofs.Polls.{poll-rose, poll-kept}
 use Rattle.gateway.proofs.Reported.{saves-within, all-ended}
 use Rattle.gateway.proofs.top.run_hosted.Goals as goal
@@ -41,12 +41,12 @@ returns-clause-run g c =
       saved = c.output_is_saved_in_every_run.ensures;
       summed = c.summary_is_of_number.ensures;
     } in
+    let named = named-script _ _ _ c.in-Ok.ensures.input.0 c.in-Ok.prepared.input c.in-Ok.ensures.input.1 c.in-Ok.ensures.runnable in
     ends_made g.D.Driver.kind g.D.Driver.stage g.D.Driver.faults g.D.Driver.own g.D.Driver.program _ c.in-Ok.ensures.input.0 c.in-Ok.prepared.input _ _ c.in-Ok-ran.left _ _ c.prepare.ensures.files
     c.in-Ok.ensures.input.1 c.in-Ok.ensures.source c.prepare.ensures.load ran
     (answers-fixed g.D.Driver.kind g.D.Driver.stage g.D.Driver.faults g.D.Driver.own g.D.Driver.program laws _ _ _ _ _ _ ran c.in-Ok.ensures.runnable)
     (c.programs_are_served_in_every_run.ensures _ _ _ _ _ _ ran)
     (summed g.D.Driver.kind g.D.Driver.stage g.D.Driver.faults g.D.Driver.own g.D.Driver.program laws _ _ _ c.in-Ok.ensures.input.0 c.in-Ok.prepared.input c.in-Ok.ensures.input.1 _ _ _ _ c.in-Ok-ran.left ran)
-    (replayed g.D.Driver.kind g.D.Driver.stage g.D.Driver.faults g.D.Driver.own g.D.Driver.program c.journals_are_replayed_in_every_run.ensures _ _ _ c.in-Ok.ensures.input.0 c.in-Ok.prepared.input
-    c.in-Ok.ensures.input.1 _ _ _ _ c.in-Ok-ran.left c.in-Ok.ensures.runnable ran)
+    (c.commands_are_counted_in_every_run.ensures _ _ _ _ _ _ _ _ named ran) (c.journals_are_replayed_in_every_run.ensures _ _ _ _ _ _ _ _ named ran)
     (poll-kept g.P.PollSet.faults c.args.poll c.run_script-ran.result.poll c.in-Ok-ran.left poll)
     c.write_left-cause.ensures c.run_script-ran.ensures.back

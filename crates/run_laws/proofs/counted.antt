@@ -1,0 +1,3 @@
+mod Totals
+mod Tasks
+mod Whole
