@@ -1,5 +1,5 @@
-//! What is the same in each run of a script, whatever the schedule: what the owner of a port has to save of it, what its program took and gave, the summary of a load, and what a
-//! replay finds of the journal.
+//! What is the same in each run of a script, whatever the schedule: what the owner of a port has to save of it, what its program took and gave, the summary of a load, what the report counts of a process, and
+//! what a replay finds of the journal.
 //!
 //! These are laws of the definitions alone, as contracts of functions that do nothing.
 #![tactic(auto)]
