@@ -1,6 +1,9 @@
 use crate::checks::{is_right, none_is_wrong};
 use port_terms::{IoList, Term, encode, flatten, term_depth};
-use script_text::{PartFault, read_io_list, read_number, read_term, read_text, read_text_content};
+use script_text::{
+    PartFault, read_io_bytes, read_io_list, read_number, read_term, read_text, read_text_bytes,
+    read_text_content,
+};
 use std::alloc::{AllocError, Global};
 use std::borrow::CowSlice;
 
@@ -14,6 +17,14 @@ fn number_of(text: &str) -> Option<(u64, usize)> {
 fn is_text(alloc: Global, text: &[u8], wanted: &[u8], behind: usize) -> bool {
     matches!(
         read_text(alloc, text),
+        Ok((content, rest)) if content.as_slice() == wanted && rest.len() == behind
+    )
+}
+
+/// Whether it has them where it is read as a script's names of files are.
+fn is_text_of_bytes(alloc: Global, text: &[u8], wanted: &[u8], behind: usize) -> bool {
+    matches!(
+        read_text_bytes(alloc, text),
         Ok((content, rest)) if content.as_slice() == wanted && rest.len() == behind
     )
 }
@@ -46,6 +57,10 @@ fn text_fault(alloc: Global, text: &str) -> Option<PartFault> {
     read_text(alloc, text.as_bytes()).err()
 }
 
+fn text_bytes_fault(alloc: Global, text: &str) -> Option<PartFault> {
+    read_text_bytes(alloc, text.as_bytes()).err()
+}
+
 fn is_io_list(alloc: Global, text: &str) -> bool {
     read_io_list(alloc, text.as_bytes()).is_ok()
 }
@@ -72,6 +87,25 @@ fn shown_io_list(alloc: Global, text: &str) -> Result<String, AllocError> {
     match read_io_list(alloc, text.as_bytes()) {
         Ok((list, rest)) => shown_bytes(alloc, &list, rest),
         Err(fault) => shown_fault(alloc, &fault),
+    }
+}
+
+/// The same where it is read as the data of a script is.
+fn shown_io_bytes(alloc: Global, text: &str) -> Result<String, AllocError> {
+    match read_io_bytes(alloc, text.as_bytes()) {
+        Ok((content, rest)) => shown_lent(alloc, &content, rest),
+        Err(fault) => shown_fault(alloc, &fault),
+    }
+}
+
+fn shown_lent(
+    alloc: Global,
+    content: &CowSlice<'_, u8>,
+    rest: &[u8],
+) -> Result<String, AllocError> {
+    match content {
+        CowSlice::Borrowed(bytes) => shown(alloc, bytes, rest),
+        CowSlice::Owned(bytes) => shown(alloc, bytes.as_slice(), rest),
     }
 }
 
@@ -132,7 +166,7 @@ fn a_number_has_one_to_ten_digits(rt: HostRuntime) {
 fn first_other_text(alloc: Global, cases: &[(&[u8], &[u8], usize)]) -> Option<usize> {
     for (at, case) in cases.iter().enumerate() {
         let (text, wanted, behind) = *case;
-        if !is_text(alloc, text, wanted, behind) {
+        if !is_text(alloc, text, wanted, behind) || !is_text_of_bytes(alloc, text, wanted, behind) {
             return Some(at);
         }
     }
@@ -142,7 +176,9 @@ fn first_other_text(alloc: Global, cases: &[(&[u8], &[u8], usize)]) -> Option<us
 /// The place of the first text that isn't refused, if there is one.
 fn first_not_refused(alloc: Global, texts: &[&str]) -> Option<usize> {
     for (at, text) in texts.iter().enumerate() {
-        if text_fault(alloc, text) != Some(PartFault::Bad) {
+        if text_fault(alloc, text) != Some(PartFault::Bad)
+            || text_bytes_fault(alloc, text) != Some(PartFault::Bad)
+        {
             return Some(at);
         }
     }
@@ -209,6 +245,7 @@ fn a_text_has_at_most_262143_bytes(rt: HostRuntime) {
 #[derive(Clone, Copy)]
 enum ReadPart {
     IoList,
+    IoBytes,
     Content,
     Term,
 }
@@ -217,6 +254,7 @@ enum ReadPart {
 fn is_shown(alloc: Global, part: ReadPart, text: &str, wanted: &str) -> bool {
     let shown = match part {
         ReadPart::IoList => shown_io_list(alloc, text),
+        ReadPart::IoBytes => shown_io_bytes(alloc, text),
         ReadPart::Content => shown_content(alloc, text),
         ReadPart::Term => shown_term(alloc, text),
     };
@@ -259,6 +297,10 @@ fn an_io_list_is_read_from_left_to_right(rt: HostRuntime) {
     none_is_wrong(
         &rt,
         first_shown_otherwise(rt.alloc(), ReadPart::IoList, &IO_LISTS),
+    );
+    none_is_wrong(
+        &rt,
+        first_shown_otherwise(rt.alloc(), ReadPart::IoBytes, &IO_LISTS),
     );
 }
 
